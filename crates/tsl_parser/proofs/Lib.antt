@@ -1,0 +1,12 @@
+pub mod Again
+pub mod Exact
+pub mod Cut
+pub mod Found
+pub mod Grammar
+pub mod ItemsAgain
+pub mod ItemsFound
+pub mod ListsFound
+pub mod TermsAgain
+pub mod TermsFound
+pub mod TokensFound
+pub mod Turns

@@ -1,5 +1,5 @@
 -- The plain tree that the tree of the code spells.
-use Rattle.std.specs.Prelude.{List, map}
+use Rattle.std.specs.Prelude.{map}
 use Rattle.tsl_parser.specs.Tree as t
 use Rattle.tsl_parser.specs.declared.tree.Pat.{Pat, fold-Pat}
 use Rattle.tsl_parser.specs.declared.tree.Pat.TheOpen.{Pat-F}

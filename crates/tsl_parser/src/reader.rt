@@ -1,0 +1,258 @@
+//! A cursor over tokens.
+
+ghost use Rattle.std.specs.Prelude.{◌≡◌, ◌≤◌, ◌+◌, [], ◌∷◌, length};
+ghost use Rattle.std.specs.Option.{option_copied};
+ghost use Rattle.tsl_parser.specs.Parsing as spec;
+ghost use Rattle.tsl_parser.specs.Parsing.{Gives};
+
+use crate::tree::{Name, Num, Span};
+use std::alloc::{AllocError, AllocFailed, Global};
+use std::marker::Model;
+use tsl_lexer::{Keyword, Kind, Mark, Token};
+
+/// Why a rule refuses. The cursor then stands at the token that is refused.
+#[derive(Clone, Copy, Debug, PartialEq, Eq)]
+pub enum Fault {
+    Syntax,
+    TooDeep,
+    NoMemory,
+}
+
+impl From<AllocError> for Fault {
+    ghost use Rattle.std.specs.Prelude.{◌≡◌};
+    ghost use Rattle.tsl_parser.specs.declared.reader.Fault.TheVariants.{NoMemory};
+
+    ghost from_gives = { λ _ e. e ≡ NoMemory };
+
+    fn from(_error: AllocError) -> Fault {
+        Fault::NoMemory
+    }
+}
+
+impl<T: Drop> From<AllocFailed<T>> for Fault {
+    ghost use Rattle.std.specs.Prelude.{◌≡◌};
+    ghost use Rattle.tsl_parser.specs.declared.reader.Fault.TheVariants.{NoMemory};
+
+    ghost from_gives = { λ _ e. e ≡ NoMemory };
+
+    fn from(_error: AllocFailed<T>) -> Fault {
+        Fault::NoMemory
+    }
+}
+
+/// The greatest level at which a token may stand.
+pub const MAX_LEVEL: usize = 256;
+
+/// A cursor: the tokens that are left, and the level of the last one that was taken.
+#[derive(Drop)]
+pub struct Reader<'a> {
+    rest: &'a [Token],
+    level: usize,
+}
+
+impl<'a> Model for Reader<'a> {
+    ghost use Rattle.tsl_parser.specs.State.{At};
+
+    ghost Value = { At };
+
+    ghost use Rattle.tsl_parser.specs.Cursor.{at_of};
+
+    ghost view = { at_of };
+}
+
+impl<'a> Reader<'a> {
+    pub fn new(tokens: &'a [Token]) -> Reader<'a>
+        ensures { result ≡ record { level = 0; rest = tokens.now } }
+    {
+        Reader {
+            rest: tokens,
+            level: 0,
+        }
+    }
+
+    /// How many tokens are left.
+    pub fn left(&self) -> usize
+        ensures { result ≡ length self.now.rest }
+    {
+        self.rest.len()
+    }
+
+    /// What the next token is.
+    pub fn next(&self) -> Option<&'a Kind>
+        ensures { option_copied result ≡ spec.next self.now }
+    {
+        match self.rest {
+            [token, ..] => Some(&token.kind),
+            [] => None,
+        }
+    }
+
+    /// Whether the next token is this mark.
+    #[tactic(auto, unfolding(crate::specs::Parsing::sees))]
+    pub fn sees(&self, mark: Mark) -> bool
+        ensures { result ≡ spec.sees mark self.now }
+    {
+        match self.next() {
+            Some(Kind::Mark(found)) => *found == mark,
+            _ => false,
+        }
+    }
+
+    fn sees_word(&self, word: Keyword) -> bool
+        ensures { result ≡ spec.is_word word (spec.next self.now) }
+    {
+        is_word(word, self.next())
+    }
+
+    /// Takes the next token, and answers its span.
+    pub fn skip(&mut self) -> Span
+        ensures { spec.skip self.old ≡ (Ok result, self.new) }
+    {
+        match self.rest {
+            [token, rest @ ..] => {
+                self.rest = rest;
+                Span {
+                    from: token.from,
+                    to: token.to,
+                }
+            }
+            [] => Span { from: 0, to: 0 },
+        }
+    }
+
+    /// Takes this mark, which must come.
+    #[tactic(auto, unfolding(crate::specs::Parsing::expect, crate::specs::Parsing::sees))]
+    pub fn expect(&mut self, mark: Mark) -> Result<Span, Fault>
+        ensures { Gives (spec.expect mark self.old) result self.new }
+    {
+        if self.sees(mark) {
+            Ok(self.skip())
+        } else {
+            Err(Fault::Syntax)
+        }
+    }
+
+    /// Takes this keyword, which must come.
+    #[tactic(auto, unfolding(crate::specs::Parsing::expect_word))]
+    pub fn expect_word(&mut self, word: Keyword) -> Result<Span, Fault>
+        ensures { Gives (spec.expect_word word self.old) result self.new }
+    {
+        if self.sees_word(word) {
+            Ok(self.skip())
+        } else {
+            Err(Fault::Syntax)
+        }
+    }
+
+    /// Takes this mark, if it comes.
+    #[tactic(auto, unfolding(crate::specs::Parsing::eat, crate::specs::Parsing::sees))]
+    pub fn eat(&mut self, mark: Mark) -> bool
+        ensures { spec.eat mark self.old ≡ (Ok result, self.new) }
+    {
+        let found = self.sees(mark);
+        if found {
+            self.skip();
+        }
+        found
+    }
+
+    /// A number.
+    #[tactic(auto, unfolding(crate::specs::Parsing::number))]
+    pub fn number(&mut self) -> Result<Num, Fault>
+        ensures { Gives (spec.number self.old) result self.new }
+    {
+        match self.next() {
+            Some(Kind::Number(v)) => Ok(Num {
+                v: *v,
+                span: self.skip(),
+            }),
+            _ => Err(Fault::Syntax),
+        }
+    }
+
+    /// A name that does not begin with a capital letter.
+    #[tactic(auto, unfolding(crate::specs::Parsing::lower))]
+    pub fn lower(&mut self, alloc: Global) -> Result<Name, Fault>
+        ensures { Gives (spec.lower self.old) result self.new }
+    {
+        match self.next() {
+            Some(Kind::Lower(text)) => Ok(Name {
+                text: text.copy(alloc)?,
+                span: self.skip(),
+            }),
+            _ => Err(Fault::Syntax),
+        }
+    }
+
+    /// A name that begins with a capital letter.
+    #[tactic(auto, unfolding(crate::specs::Parsing::upper))]
+    pub fn upper(&mut self, alloc: Global) -> Result<Name, Fault>
+        ensures { Gives (spec.upper self.old) result self.new }
+    {
+        match self.next() {
+            Some(Kind::Upper(text)) => Ok(Name {
+                text: text.copy(alloc)?,
+                span: self.skip(),
+            }),
+            _ => Err(Fault::Syntax),
+        }
+    }
+
+    /// Goes one level deeper.
+    #[tactic(auto, unfolding(crate::specs::Parsing::rise))]
+    pub fn rise(&mut self) -> Result<(), Fault>
+        ensures { Gives (spec.rise self.old) result self.new }
+    {
+        if self.level < MAX_LEVEL {
+            self.level += 1;
+            Ok(())
+        } else {
+            Err(Fault::TooDeep)
+        }
+    }
+
+    /// Begins a term, and answers the level to go back to.
+    #[tactic(auto, unfolding(crate::specs::Parsing::enter))]
+    pub fn enter(&mut self) -> Result<usize, Fault>
+        ensures { Gives (spec.enter self.old) result self.new }
+    {
+        if !begins_term(self.next()) {
+            return Err(Fault::Syntax);
+        }
+        let outer = self.level;
+        self.rise()?;
+        Ok(outer)
+    }
+
+    /// Ends a term, back to the level round it.
+    pub fn leave(&mut self, outer: usize)
+        ensures { spec.leave outer self.old ≡ (Ok tt, self.new) }
+    {
+        self.level = outer;
+    }
+}
+
+fn begins_atom(next: Option<&Kind>) -> bool
+    ensures { result ≡ spec.begins_atom (option_copied next.entry) }
+{
+    match next {
+        Some(Kind::Lower(_) | Kind::Number(_)) => true,
+        Some(Kind::Mark(mark)) => *mark == Mark::LParen,
+        Some(Kind::Upper(_) | Kind::Word(_)) | None => false,
+    }
+}
+
+fn is_word(word: Keyword, next: Option<&Kind>) -> bool
+    ensures { result ≡ spec.is_word word (option_copied next.entry) }
+{
+    match next {
+        Some(Kind::Word(found)) => *found == word,
+        _ => false,
+    }
+}
+
+fn begins_term(next: Option<&Kind>) -> bool
+    ensures { result ≡ spec.begins_term (option_copied next.entry) }
+{
+    begins_atom(next) || is_word(Keyword::KwLet, next)
+}
