@@ -1,0 +1,10 @@
+pub mod Append
+pub mod FailingCalls
+pub mod Faults
+pub mod FileList
+pub mod MemInputs
+pub mod MemSink
+pub mod NamedFiles
+pub mod Sink
+pub mod SureSink
+pub mod WholeRead

@@ -1,0 +1,21 @@
+-- How a sink in memory stands.
+use Rattle.std.specs.Prelude.{ℕ, Vec}
+use Rattle.std.specs.declared.alloc.Global.{Global}
+use Rattle.tsl_io.specs.declared.failing_calls.FailingCalls.{FailingCalls}
+use Rattle.tsl_io.specs.declared.mem_sink.MemSink.{MemSink}
+
+-- the buffer of what was written
+abbrev pub buffer_of : MemSink → Vec ℕ Global
+buffer_of sink = sink.bytes
+
+-- the calls that are to fail, and the number of the next call
+abbrev pub calls_of : MemSink → FailingCalls
+calls_of sink = sink.calls
+
+-- how many bytes a call takes at most
+abbrev pub most_of : MemSink → ℕ
+most_of sink = sink.most
+
+-- how many faults were counted
+abbrev pub faults_of : MemSink → ℕ
+faults_of sink = sink.faults
