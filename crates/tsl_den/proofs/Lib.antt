@@ -1,0 +1,4 @@
+pub mod Lists
+pub mod Scopes
+pub mod Declared
+pub mod Sound
