@@ -1,0 +1,12 @@
+pub mod Gaps
+pub mod Lexemes
+pub mod Names
+pub mod Numerals
+pub mod Options
+pub mod Places
+pub mod Runs
+pub mod Spelled
+pub mod Steps
+pub mod Tables
+pub mod Total
+pub mod Unique

@@ -1,0 +1,5 @@
+pub mod Bytes
+pub mod Laws
+pub mod Lexeme
+pub mod Scanning
+pub mod Source
