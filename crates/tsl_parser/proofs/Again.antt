@@ -2,16 +2,16 @@
 use Rattle.std.proofs.Common.{◌≡◌, ℕ, zero, suc, ◌≤◌, ◌<◌, true, false, List, [], ◌∷◌, ◌++◌, length, append-nil, append_assoc, length-append, refl, ap, sym, subst, ◌∙◌, arith}
 use Rattle.std.specs.Prelude.{Ok, Some, if◌then◌else◌}
 use Rattle.tsl_lexer.specs.declared.token.Token.{Token}
-use Rattle.tsl_lexer.specs.declared.token.Kind.{Kind}
 use Rattle.tsl_lexer.specs.declared.token.Kind.TheVariants as k
 use Rattle.tsl_lexer.specs.declared.token.Mark.{Mark}
 use Rattle.tsl_lexer.specs.declared.token.Mark.TheVariants as m
 use Rattle.tsl_lexer.specs.declared.token.Keyword.{Keyword}
 use Rattle.tsl_parser.specs.declared.tree.Span.{Span}
-use Rattle.tsl_parser.specs.Parsing.{Parser, ◌>>=◌, and_then, pure, max_level, expect, expect_word, number, eat, lower, upper, is_mark, is_word, first_kind}
-use Rattle.tsl_parser.specs.Rules.{separated_from}
-use Rattle.tsl_parser.specs.Grammar.{Leveled, tokens_of, token}
-use Rattle.tsl_parser.proofs.Grammar.{Begins}
+use Rattle.tsl_parser.specs.Parsing.{Parser, ◌>>=◌, and_then, pure, max_level, expect, expect_word, number, literal, eat, lower, upper, is_mark, is_word, first_kind}
+use Rattle.tsl_parser.specs.Lists.{separated_from, until_from}
+use Rattle.tsl_parser.specs.Grammar.{Leveled, tokens_of, token, IsLiteral, Separated, Several}
+use Rattle.tsl_parser.specs.Grammar as g
+use Rattle.tsl_parser.specs.declared.reader.Literal.{Literal}
 use Rattle.tsl_parser.proofs.Cut.{at, cut, Fits, tokens-append-rest, and_then-cut, cut-append, cut_under, by_fits}
 
 -- p reads these tokens as a, from a level to a level, where what follows allows it
@@ -83,32 +83,80 @@ pub again_upper : (text : List ℕ) (s : Span) (ℓ : ℕ) → ℓ ≤ max_level
 unfolding upper
 again_upper text s ℓ low = record { again = λ rest ok. rw (by_fits ℓ low) refl }
 
--- ---- lists with commas
+pub again_weaker : {A : Type 0} {p : Parser A} {ℓ top : ℕ} {us : List Leveled} {a : A} {F : List Token → Type 0} → Again p ℓ us a top anything → Again p ℓ us a top F
+again_weaker h = record { again = λ rest ok. h.again rest tt }
 
-pub begins_some : (P : Kind → Type 0) (ℓ : ℕ) (us : List Leveled) → Begins P ℓ us → 0 < length us
-begins_some P ℓ [] h = absurd h
-begins_some P ℓ (u ∷ us) h = omega arith
+pub again_literal : {ℓ : ℕ} {us : List Leveled} {l : Literal} → ℓ ≤ max_level → IsLiteral ℓ us l → Again literal ℓ us l ℓ anything
+unfolding literal
+again_literal {ℓ = ℓ} low (g.literal v w s₁ s₂ s₃) =
+    again_next _ (again_number v s₁ ℓ low) (again_next _ (again_expect m.Colon s₂ ℓ low refl) (again_next _ (again_number w s₃ ℓ low) again_pure))
 
--- steps of a list with commas, whatever its item is
-pub items_last : {A : Type 0} (item : Parser A) {ℓ : ℕ} {us : List Leveled} {x : A} {F : List Token → Type 0} → ℓ ≤ max_level → 0 < length us → Again item ℓ us x ℓ F
-    → (n : ℕ) (found : List A) → length us ≤ n → Again (separated_from item n found) ℓ us (found ++ x ∷ []) ℓ (λ rest. (is_mark m.Comma (first_kind rest) ≡ false) × F rest)
+-- ---- lists with marks between
+
+abbrev pub not_mark : Mark → List Token → Type 0
+not_mark mark rest = is_mark mark (first_kind rest) ≡ false
+
+-- steps of a list with marks between, whatever its item is
+pub items_last : {A : Type 0} (item : Parser A) (mark : Mark) {ℓ : ℕ} {us : List Leveled} {x : A} {F : List Token → Type 0} → ℓ ≤ max_level → 0 < length us → Again item ℓ us x ℓ F
+    → (n : ℕ) (found : List A) → length us ≤ n → Again (separated_from item mark n found) ℓ us (found ++ x ∷ []) ℓ (λ rest. not_mark mark rest × F rest)
 unfolding separated_from
-items_last item {ℓ = ℓ} {us = us} low some one zero found turns = absurd (omega arith)
-items_last item {ℓ = ℓ} {us = us} {x = x} {F = F} low some one (suc n) found turns =
-    let both : Again (item >>= (λ x. eat m.Comma >>= (λ more. if more then separated_from item n (found ++ x ∷ []) else pure (found ++ x ∷ [])))) ℓ (us ++ []) (found ++ x ∷ []) ℓ (λ rest. (is_mark m.Comma (first_kind rest) ≡ false) × F rest)
-    = again_then _ one (λ rest ok. ok.1) (λ _. again_then _ (again_no m.Comma ℓ) (λ rest ok. ok.0) (λ _. again_pure)) in
-    subst (λ (ws : List Leveled). Again (item >>= (λ x. eat m.Comma >>= (λ more. if more then separated_from item n (found ++ x ∷ []) else pure (found ++ x ∷ [])))) ℓ ws (found ++ x ∷ []) ℓ (λ rest. (is_mark m.Comma (first_kind rest) ≡ false) × F rest)) (append-nil us) both
+items_last item mark {ℓ = ℓ} {us = us} low some one zero found turns = absurd (omega arith)
+items_last item mark {ℓ = ℓ} {us = us} {x = x} {F = F} low some one (suc n) found turns =
+    let both : Again (item >>= (λ x. eat mark >>= (λ more. if more then separated_from item mark n (found ++ x ∷ []) else pure (found ++ x ∷ [])))) ℓ (us ++ []) (found ++ x ∷ []) ℓ (λ rest. not_mark mark rest × F rest)
+    = again_then _ one (λ rest ok. ok.1) (λ _. again_then _ (again_no mark ℓ) (λ rest ok. ok.0) (λ _. again_pure)) in
+    subst (λ (ws : List Leveled). Again (item >>= (λ x. eat mark >>= (λ more. if more then separated_from item mark n (found ++ x ∷ []) else pure (found ++ x ∷ [])))) ℓ ws (found ++ x ∷ []) ℓ (λ rest. not_mark mark rest × F rest)) (append-nil us) both
 
-pub items_next : {A : Type 0} (item : Parser A) {ℓ : ℕ} {us vs : List Leveled} {x : A} {xs : List A} {F G : List Token → Type 0} (s : Span) → ℓ ≤ max_level → 0 < length us → Again item ℓ us x ℓ F
-    → ((rest : List Token) → F (token (k.Mark m.Comma) s ∷ rest))
-    → ((n : ℕ) (found : List A) → length vs ≤ n → Again (separated_from item n found) ℓ vs (found ++ xs) ℓ G)
-    → (n : ℕ) (found : List A) → length (us ++ (token (k.Mark m.Comma) s, ℓ) ∷ vs) ≤ n → Again (separated_from item n found) ℓ (us ++ (token (k.Mark m.Comma) s, ℓ) ∷ vs) (found ++ x ∷ xs) ℓ G
+pub items_next : {A : Type 0} (item : Parser A) (mark : Mark) {ℓ : ℕ} {us vs : List Leveled} {x : A} {xs : List A} {F G : List Token → Type 0} (s : Span) → ℓ ≤ max_level → 0 < length us → Again item ℓ us x ℓ F
+    → ((rest : List Token) → F (token (k.Mark mark) s ∷ rest)) → is_mark mark (Some (k.Mark mark)) ≡ true
+    → ((n : ℕ) (found : List A) → length vs ≤ n → Again (separated_from item mark n found) ℓ vs (found ++ xs) ℓ G)
+    → (n : ℕ) (found : List A) → length (us ++ g.mark mark s ℓ ∷ vs) ≤ n → Again (separated_from item mark n found) ℓ (us ++ g.mark mark s ℓ ∷ vs) (found ++ x ∷ xs) ℓ G
 unfolding separated_from
-items_next item {ℓ = ℓ} {us = us} {vs = vs} s low some one comma rest zero found turns = absurd (omega (arith, length-append us ((token (k.Mark m.Comma) s, ℓ) ∷ vs)))
-items_next item {ℓ = ℓ} {us = us} {vs = vs} {x = x} {xs = xs} s low some one comma rest (suc n) found turns =
-    let fewer : length vs ≤ n = omega (arith, length-append us ((token (k.Mark m.Comma) s, ℓ) ∷ vs)) in
-    again_then _ one (λ ts ok. comma _) (λ _. again_next _ (again_eat m.Comma s ℓ low refl) (rw (← append_assoc found (x ∷ []) xs) (rest n (found ++ x ∷ []) fewer)))
+items_next item mark {ℓ = ℓ} {us = us} {vs = vs} s low some one comma same rest zero found turns = absurd (omega (arith, length-append us (g.mark mark s ℓ ∷ vs)))
+items_next item mark {ℓ = ℓ} {us = us} {vs = vs} {x = x} {xs = xs} s low some one comma same rest (suc n) found turns =
+    let fewer : length vs ≤ n = omega (arith, length-append us (g.mark mark s ℓ ∷ vs)) in
+    again_then _ one (λ ts ok. comma _) (λ _. again_next _ (again_eat mark s ℓ low same) (rw (← append_assoc found (x ∷ []) xs) (rest n (found ++ x ∷ []) fewer)))
 
 pub tokens_fewer : (us : List Leveled) (rest : List Token) → length us ≤ length (tokens_of us ++ rest)
 tokens_fewer [] rest = omega arith
 tokens_fewer (u ∷ us) rest = let more = tokens_fewer us rest in omega arith
+
+pub low : 0 ≤ max_level
+low = omega arith
+
+-- lists of what stands outside of terms
+module _ {A : Type 0} (item : Parser A) (P : List Leveled → A → Type 0) (F : List Token → Type 0)
+    (item_again : (us : List Leveled) (x : A) → P us x → Again item 0 us x 0 F) (item_some : (us : List Leveled) (x : A) → P us x → 0 < length us) where
+  pub separated_again : (mark : Mark) → ((s : Span) (rest : List Token) → F (token (k.Mark mark) s ∷ rest)) → is_mark mark (Some (k.Mark mark)) ≡ true
+      → {us : List Leveled} {xs : List A} → Separated P mark us xs
+      → (n : ℕ) (found : List A) → length us ≤ n → Again (separated_from item mark n found) 0 us (found ++ xs) 0 (λ rest. not_mark mark rest × F rest)
+  separated_again mark comma same (g.Separated.last {us = us} {x = x} h) = items_last item mark low (item_some us x h) (item_again us x h)
+  separated_again mark comma same (g.Separated.next s {us = us} {x = x} h more) = items_next item mark s low (item_some us x h) (item_again us x h) (comma s) same (separated_again mark comma same more)
+
+-- ---- lists up to a closing mark
+
+abbrev pub closes : Mark → List Token → Type 0
+closes mark rest = is_mark mark (first_kind rest) ≡ true
+
+pub until_end : {A : Type 0} (item : Parser A) (mark : Mark) {ℓ : ℕ} (n : ℕ) (found : List A) → 0 < n → Again (until_from item mark n found) ℓ [] found ℓ (closes mark)
+unfolding until_from
+until_end item mark zero found some = absurd (omega arith)
+until_end item mark (suc n) found some = record { again = λ rest ok. rw ok refl }
+
+pub until_next : {A : Type 0} (item : Parser A) (mark : Mark) {ℓ : ℕ} {us vs : List Leveled} {x : A} (xs : List A) {G : List Token → Type 0} → ((rest : List Token) → not_mark mark (tokens_of us ++ rest)) → Again item ℓ us x ℓ anything
+    → (n : ℕ) (found : List A) → Again (until_from item mark n (found ++ x ∷ [])) ℓ vs ((found ++ x ∷ []) ++ xs) ℓ G
+    → Again (until_from item mark (suc n) found) ℓ (us ++ vs) (found ++ x ∷ xs) ℓ G
+unfolding until_from
+until_next item mark {ℓ = ℓ} {us = us} {vs = vs} {x = x} xs {G = G} begins one n found rest =
+    let both : Again (item >>= (λ x. until_from item mark n (found ++ x ∷ []))) ℓ (us ++ vs) (found ++ x ∷ xs) ℓ G = again_next _ one (rw (← append_assoc found (x ∷ []) xs) rest) in
+    record { again = λ ts ok. (let other : is_mark mark (first_kind (tokens_of (us ++ vs) ++ ts)) ≡ false = rw (tokens-append-rest us vs ts) (begins (tokens_of vs ++ ts)) in rw other (both.again ts ok)) }
+
+module _ {A : Type 0} (item : Parser A) (P : List Leveled → A → Type 0)
+    (item_again : (us : List Leveled) (x : A) → P us x → Again item 0 us x 0 anything) (item_some : (us : List Leveled) (x : A) → P us x → 0 < length us) where
+  pub several_again : (mark : Mark) → ((us : List Leveled) (x : A) → P us x → (rest : List Token) → not_mark mark (tokens_of us ++ rest))
+      → {us : List Leveled} {xs : List A} → Several P us xs
+      → (n : ℕ) (found : List A) → length us < n → Again (until_from item mark n found) 0 us (found ++ xs) 0 (closes mark)
+  several_again mark begins g.Several.none n found turns = rw (append-nil found) (until_end item mark n found (omega arith))
+  several_again mark begins (g.Several.next {us = us} {vs = vs} {x = x} h more) zero found turns = absurd (omega arith)
+  several_again mark begins (g.Several.next {us = us} {vs = vs} {x = x} {xs = xs} h more) (suc n) found turns =
+      let fewer : length vs < n = (let some = item_some us x h in omega (arith, length-append us vs)) in
+      until_next item mark xs (begins us x h) (item_again us x h) n found (several_again mark begins more n (found ++ x ∷ []) fewer)

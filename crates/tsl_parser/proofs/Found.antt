@@ -7,7 +7,7 @@ use Rattle.tsl_parser.specs.State.{At}
 use Rattle.tsl_parser.specs.Parsing.{Outcome, Parser, and_then, max_level}
 use Rattle.tsl_parser.specs.Grammar.{Leveled, tokens_of}
 use Rattle.tsl_parser.proofs.Cut.{at, Fits, tokens-append-rest}
-use Rattle.tsl_parser.proofs.Grammar.{fits-append}
+use Rattle.tsl_parser.proofs.Derivations.{fits-append}
 
 -- a level that tokens can stand at, if any come
 abbrev pub Low : ℕ → List Token → Type 0

@@ -13,10 +13,12 @@ use Rattle.tsl_parser.specs.declared.tree.Span.{Span}
 use Rattle.tsl_parser.specs.declared.tree.Name.{Name}
 use Rattle.tsl_parser.specs.declared.tree.Num.{Num}
 use Rattle.tsl_parser.specs.declared.reader.Fault.TheVariants.{Syntax}
-use Rattle.tsl_parser.specs.Parsing.{Parser, and_then, skip, expect, expect_word, number, lower, upper, is_mark, is_word}
-use Rattle.tsl_parser.specs.Grammar.{Leveled, token}
+use Rattle.tsl_parser.specs.Parsing.{Parser, and_then, skip, expect, expect_word, number, literal, lower, upper, is_mark, is_word}
+use Rattle.tsl_parser.specs.Grammar.{Leveled, token, IsLiteral}
+use Rattle.tsl_parser.specs.Grammar as g
+use Rattle.tsl_lexer.specs.declared.token.Mark.TheVariants as m
 use Rattle.tsl_parser.proofs.Cut.{at}
-use Rattle.tsl_parser.proofs.Found.{Low, Read, Takes, read_token_then}
+use Rattle.tsl_parser.proofs.Found.{Low, Read, Takes, read_token_then, read_pure}
 
 -- ---- one token
 
@@ -121,3 +123,15 @@ module _ {B : Type 0} (L : ℕ → List Leveled → B → Type 0) (ℓ : ℕ) (s
   pub upper_then : (f : Name → Parser B) → Low ℓ s → ((a : Name) (rest : List Token) → Low ℓ rest → Read (λ top vs b. L top ((of_upper a, ℓ) ∷ vs) b) rest (f a (at ℓ rest)))
       → Read L s (and_then (upper (at ℓ s)) f)
   upper_then f low go = read_token_then of_upper upper (record { text = []; span = nowhere }) L ℓ s f (takes_upper ℓ s) low go
+
+-- at one level
+abbrev pub FlatAt : {A : Type 0} → ℕ → (List Leveled → A → Type 0) → ℕ → List Leveled → A → Type 0
+FlatAt ℓ P top us a = (top ≡ ℓ) × P us a
+
+pub literal_found : (ℓ : ℕ) (s : List Token) → Low ℓ s → Read (FlatAt ℓ (λ us l. IsLiteral ℓ us l)) s (literal (at ℓ s))
+unfolding literal
+literal_found ℓ s low =
+    number_then (FlatAt ℓ (λ us l. IsLiteral ℓ us l)) ℓ s _ low (λ v s low.
+    mark_then _ ℓ s m.Colon _ low (λ colon s low.
+    number_then _ ℓ s _ low (λ w s low.
+    read_pure _ ℓ s _ low (refl, g.literal v.v w.v v.span colon w.span))))

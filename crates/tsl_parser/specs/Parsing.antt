@@ -13,8 +13,9 @@ use Rattle.tsl_parser.specs.declared.tree.Name.{Name}
 use Rattle.tsl_parser.specs.declared.tree.Num.{Num}
 use Rattle.tsl_parser.specs.declared.reader.Fault.{Fault}
 use Rattle.tsl_parser.specs.declared.reader.Fault.TheVariants.{Syntax, TooDeep, NoMemory}
-use Rattle.tsl_lexer.specs.declared.token.Keyword.TheVariants.{KwLet}
-use Rattle.tsl_lexer.specs.declared.token.Mark.TheVariants.{LParen}
+use Rattle.tsl_lexer.specs.declared.token.Keyword.TheVariants as w
+use Rattle.tsl_lexer.specs.declared.token.Mark.TheVariants as m
+use Rattle.tsl_parser.specs.declared.reader.Literal.{Literal}
 use Rattle.tsl_parser.specs.State.{At}
 
 abbrev pub first_kind : List Token → Option Kind
@@ -111,6 +112,21 @@ upper_by _ = stop Syntax
 unfoldable pub upper : Parser Name
 upper = by_next upper_by
 
+-- from the beginning of one to the end of another
+abbrev pub hull : Span → Span → Span
+hull a b = record { from = a.from; to = b.to }
+
+abbrev pub literal_of : Num → Num → Literal
+literal_of v w = record { v = v; w = w; span = hull v.span w.span }
+
+-- `v:w`
+unfoldable pub literal : Parser Literal
+literal = do
+  v ← number
+  expect m.Colon
+  w ← number
+  pure (literal_of v w)
+
 -- ---- levels
 
 abbrev pub max_level : ℕ
@@ -120,20 +136,75 @@ max_level = 256
 unfoldable pub rise : Parser (Unit {0})
 rise = λ at. if nat_lt at.level max_level then (Ok tt, record at { level = at.level + 1 }) else stop TooDeep at
 
+-- the operations that are named by a keyword
+abbrev pub is_operation : Keyword → Bool
+is_operation w.KwShl = true
+is_operation w.KwShru = true
+is_operation w.KwShrs = true
+is_operation w.KwRotl = true
+is_operation w.KwDivu = true
+is_operation w.KwDivs = true
+is_operation w.KwRemu = true
+is_operation w.KwRems = true
+is_operation w.KwMulhu = true
+is_operation w.KwMulhs = true
+is_operation w.KwLtu = true
+is_operation w.KwLeu = true
+is_operation w.KwLts = true
+is_operation w.KwLes = true
+is_operation _ = false
+
+abbrev pub is_cast : Keyword → Bool
+is_cast w.KwZext = true
+is_cast w.KwSext = true
+is_cast w.KwTrunc = true
+is_cast _ = false
+
+abbrev pub is_prefix : Option Kind → Bool
+is_prefix (Some (k.Mark m.Bang)) = true
+is_prefix (Some (k.Mark m.Tilde)) = true
+is_prefix (Some (k.Mark m.Minus)) = true
+is_prefix _ = false
+
+abbrev pub word_begins_atom : Keyword → Bool
+word_begins_atom w.KwTrue = true
+word_begins_atom w.KwFalse = true
+word_begins_atom w.KwMatch = true
+word_begins_atom word = is_operation word || is_cast word
+
 abbrev pub begins_atom : Option Kind → Bool
-begins_atom (Some (k.Upper text)) = false
+begins_atom (Some (k.Upper text)) = true
 begins_atom (Some (k.Lower text)) = true
 begins_atom (Some (k.Number v)) = true
-begins_atom (Some (k.Word w)) = false
-begins_atom (Some (k.Mark m)) = sameb mark.the_type m LParen
+begins_atom (Some (k.Word w)) = word_begins_atom w
+begins_atom (Some (k.Mark m.LParen)) = true
+begins_atom (Some (k.Mark _)) = false
 begins_atom None = false
 
-abbrev pub begins_term : Option Kind → Bool
-begins_term next = begins_atom next || is_word KwLet next
+abbrev pub begins_unary : Option Kind → Bool
+begins_unary next = begins_atom next || is_prefix next
 
--- begins a term, and answers the level to go back to
-unfoldable pub enter : Parser ℕ
-enter = λ at. if begins_term (next at) then (rise >> (pure at.level)) at else stop Syntax at
+abbrev pub begins_term : Option Kind → Bool
+begins_term next = begins_unary next || is_word w.KwLet next || is_word w.KwIf next
+
+abbrev pub begins_pattern : Option Kind → Bool
+begins_pattern (Some (k.Upper text)) = true
+begins_pattern (Some (k.Lower text)) = true
+begins_pattern (Some (k.Number v)) = true
+begins_pattern (Some (k.Word w.KwTrue)) = true
+begins_pattern (Some (k.Word w.KwFalse)) = true
+begins_pattern (Some (k.Word _)) = false
+begins_pattern (Some (k.Mark m.Underscore)) = true
+begins_pattern (Some (k.Mark _)) = false
+begins_pattern None = false
+
+-- one level deeper where there is a first token, and answers the level to go back to
+abbrev pub enter_if : Bool → Parser ℕ
+enter_if begins = λ at. if begins then (rise >> (pure at.level)) at else stop Syntax at
+
+-- begins a term or a pattern where its first token may
+unfoldable pub enter : (Option Kind → Bool) → Parser ℕ
+enter begins = by_next (λ next. enter_if (begins next))
 
 abbrev pub leave : ℕ → Parser (Unit {0})
 leave outer = λ at. (Ok tt, record at { level = outer })

@@ -5,7 +5,7 @@ use Rattle.tsl_parser.specs.declared.tree.Pat.{Pat, fold-Pat}
 use Rattle.tsl_parser.specs.declared.tree.Pat.TheOpen.{Pat-F}
 use Rattle.tsl_parser.specs.declared.tree.Expr.{Expr, fold-Expr}
 use Rattle.tsl_parser.specs.declared.tree.Expr.TheOpen.{Expr-F, Arm-F}
-use Rattle.tsl_parser.specs.declared.tree.Arm.{Arm}
+use Rattle.tsl_parser.specs.declared.tree.Arm.{Arm, fold-Arm}
 use Rattle.tsl_parser.specs.declared.tree.CaseDecl.{CaseDecl}
 use Rattle.tsl_parser.specs.declared.tree.DataDecl.{DataDecl}
 use Rattle.tsl_parser.specs.declared.tree.FunDecl.{FunDecl}
@@ -50,7 +50,7 @@ term = fold-Expr t.Term t.Arm term_step arm_step
 
 -- an arm of a match
 abbrev pub arm : Arm → t.Arm
-arm a = record { pat = pattern a.pat; body = term a.body; span = a.span }
+arm = fold-Arm t.Term t.Arm term_step arm_step
 
 abbrev pub constructor : CaseDecl → t.Constructor
 constructor c = record { name = c.name; fields = c.fields.items; span = c.span }

@@ -1,132 +1,103 @@
 //! Terms, by recursive descent.
 
-ghost use Rattle.std.specs.Prelude.{◌≡◌, IfOk};
+ghost use Rattle.std.specs.Prelude.{◌≡◌, map};
 ghost use Rattle.std.specs.Option.{option_copied};
 ghost use Rattle.tsl_parser.specs.Parsing.{GivesBy};
-ghost use Rattle.tsl_parser.specs.Rules as spec;
-ghost use Rattle.tsl_parser.specs.View.{term as term_view};
+ghost use Rattle.tsl_parser.specs.Lists as lists;
+ghost use Rattle.tsl_parser.specs.PatternRules as patterns;
+ghost use Rattle.tsl_parser.specs.TermRules as spec;
+ghost use Rattle.tsl_parser.specs.View.{term as term_view, arm as arm_view};
+ghost use Rattle.tsl_lexer.specs.declared.token.Mark.TheVariants as marks;
 
-use crate::reader::{Fault, Reader};
-use crate::tree::{BinOp, Expr, Name, Span};
-use std::alloc::{AllocError, Global};
+use crate::make::{
+    arm_of, binary_of, cast_of, get_of, if_of, let_of, match_of, operation_of, paren_of, prefix_of,
+    put_of,
+};
+use crate::pattern::pattern;
+use crate::reader::{Fault, Reader, hull, is_cast, is_operation, is_prefix};
+use crate::tree::{Arm, BinOp, Expr, Name, PreOp};
+use std::alloc::Global;
 use tsl_lexer::{Keyword, Kind, Mark};
 
 /// A turn for each level, and one more.
 const MAX_TURNS: usize = 257;
 
 /// The precedence of the operators that bind least.
-const LOOSEST: u8 = 1;
-
-/// From the beginning of one span to the end of another.
-pub fn hull(a: Span, b: Span) -> Span
-    ensures { result ≡ spec.hull a b }
-{
-    Span {
-        from: a.from,
-        to: b.to,
-    }
-}
-
-#[tactic(auto, unfolding(crate::specs::Rules::span_of))]
-fn span_of(e: &Expr) -> Span
-    ensures { result ≡ spec.span_of (term_view e.now) }
-{
-    match e {
-        Expr::Let { span, .. }
-        | Expr::If { span, .. }
-        | Expr::Binary { span, .. }
-        | Expr::Prefix { span, .. }
-        | Expr::Get { span, .. }
-        | Expr::Put { span, .. }
-        | Expr::Word { span, .. }
-        | Expr::Flag { span, .. }
-        | Expr::Call { span, .. }
-        | Expr::Make { span, .. }
-        | Expr::Op { span, .. }
-        | Expr::Cast { span, .. }
-        | Expr::Match { span, .. }
-        | Expr::Paren { span, .. } => *span,
-        Expr::Var(name) => name.span,
-    }
-}
-
-#[tactic(auto, unfolding(crate::specs::Rules::let_of))]
-fn let_of(alloc: Global, start: Span, name: Name, x: Expr, then: Expr) -> Result<Expr, AllocError>
-    ensures { IfOk result (λ e. term_view e ≡ spec.let_of start name (term_view x) (term_view then)) }
-{
-    let span = hull(start, span_of(&then));
-    Ok(Expr::Let {
-        name,
-        x: Box::new(alloc, x)?,
-        then: Box::new(alloc, then)?,
-        span,
-    })
-}
-
-#[tactic(auto, unfolding(crate::specs::Rules::binary_of))]
-fn binary_of(alloc: Global, op: BinOp, x: Expr, y: Expr) -> Result<Expr, AllocError>
-    ensures { IfOk result (λ e. term_view e ≡ spec.binary_of op (term_view x) (term_view y)) }
-{
-    let span = hull(span_of(&x), span_of(&y));
-    Ok(Expr::Binary {
-        op,
-        x: Box::new(alloc, x)?,
-        y: Box::new(alloc, y)?,
-        span,
-    })
-}
-
-fn paren_of(alloc: Global, start: Span, x: Expr, end: Span) -> Result<Expr, AllocError>
-    ensures { IfOk result (λ e. term_view e ≡ spec.paren_of start (term_view x) end) }
-{
-    Ok(Expr::Paren {
-        x: Box::new(alloc, x)?,
-        span: hull(start, end),
-    })
-}
+const LOOSEST: u8 = 8;
 
 /// How tightly a binary operator binds, from 1, the tightest. 0 is none.
 fn binds(next: Option<&Kind>) -> u8
     ensures { result ≡ spec.binds (option_copied next.entry) }
 {
     match next {
-        Some(Kind::Mark(Mark::Plus | Mark::Minus)) => 1,
+        Some(Kind::Mark(Mark::Star)) => 1,
+        Some(Kind::Mark(Mark::Plus | Mark::Minus)) => 2,
+        Some(Kind::Mark(Mark::And)) => 3,
+        Some(Kind::Mark(Mark::Caret)) => 4,
+        Some(Kind::Mark(Mark::Bar)) => 5,
+        Some(Kind::Mark(Mark::EqEq | Mark::NotEq)) => 6,
+        Some(Kind::Mark(Mark::AndAnd)) => 7,
+        Some(Kind::Mark(Mark::BarBar)) => 8,
         _ => 0,
     }
+}
+
+/// Whether operators of a precedence may stand in a row, grouped to the left.
+fn groups(precedence: u8) -> bool
+    ensures { result ≡ spec.groups precedence }
+{
+    precedence != 6
 }
 
 fn operator(next: Option<&Kind>) -> BinOp
     ensures { result ≡ spec.operator (option_copied next.entry) }
 {
     match next {
+        Some(Kind::Mark(Mark::Star)) => BinOp::Mul,
         Some(Kind::Mark(Mark::Minus)) => BinOp::Sub,
+        Some(Kind::Mark(Mark::And)) => BinOp::BitAnd,
+        Some(Kind::Mark(Mark::Caret)) => BinOp::BitXor,
+        Some(Kind::Mark(Mark::Bar)) => BinOp::BitOr,
+        Some(Kind::Mark(Mark::EqEq)) => BinOp::Eq,
+        Some(Kind::Mark(Mark::NotEq)) => BinOp::Ne,
+        Some(Kind::Mark(Mark::AndAnd)) => BinOp::AndAlso,
+        Some(Kind::Mark(Mark::BarBar)) => BinOp::OrElse,
         _ => BinOp::Add,
     }
 }
 
-#[tactic(auto, unfolding(crate::specs::Rules::word))]
+fn prefix_operator(next: Option<&Kind>) -> PreOp
+    ensures { result ≡ spec.prefix_operator (option_copied next.entry) }
+{
+    match next {
+        Some(Kind::Mark(Mark::Tilde)) => PreOp::Tilde,
+        Some(Kind::Mark(Mark::Minus)) => PreOp::Minus,
+        _ => PreOp::Bang,
+    }
+}
+
+#[tactic(auto, unfolding(crate::specs::TermRules::word))]
 fn word(tokens: &mut Reader<'_>) -> Result<Expr, Fault>
     ensures { GivesBy term_view (spec.word tokens.old) result tokens.new }
 {
-    let v = tokens.number()?;
-    tokens.expect(Mark::Colon)?;
-    let w = tokens.number()?;
+    let found = tokens.literal()?;
     Ok(Expr::Word {
-        v,
-        w,
-        span: hull(v.span, w.span),
+        v: found.v,
+        w: found.w,
+        span: found.span,
     })
 }
 
-#[tactic(auto, unfolding(crate::specs::Rules::variable))]
-fn variable(alloc: Global, tokens: &mut Reader<'_>) -> Result<Expr, Fault>
-    ensures { GivesBy term_view (spec.variable tokens.old) result tokens.new }
+#[tactic(auto, unfolding(crate::specs::TermRules::flag))]
+fn flag(tokens: &mut Reader<'_>, word: Keyword, v: bool) -> Result<Expr, Fault>
+    ensures { GivesBy term_view (spec.flag word v tokens.old) result tokens.new }
 {
-    Ok(Expr::Var(tokens.lower(alloc)?))
+    let span = tokens.expect_word(word)?;
+    Ok(Expr::Flag { v, span })
 }
 
 #[cycle(term)]
-#[tactic(auto, unfolding(crate::specs::Rules::paren))]
+#[tactic(auto, unfolding(crate::specs::TermRules::paren))]
 fn paren(alloc: Global, tokens: &mut Reader<'_>, depth: usize) -> Result<Expr, Fault>
     ensures { GivesBy term_view (spec.paren (spec.term depth) tokens.old) result tokens.new }
 {
@@ -137,31 +108,257 @@ fn paren(alloc: Global, tokens: &mut Reader<'_>, depth: usize) -> Result<Expr, F
 }
 
 #[cycle(term)]
-#[tactic(auto, unfolding(crate::specs::Rules::atom))]
-fn atom(alloc: Global, tokens: &mut Reader<'_>, depth: usize) -> Result<Expr, Fault>
-    ensures { GivesBy term_view (spec.atom (spec.term depth) tokens.old) result tokens.new }
+#[tactic(auto, using(crate::proofs::Turns::turn, crate::proofs::Turns::over, crate::proofs::Turns::map_more), unfolding(crate::specs::Lists::separated, crate::specs::Lists::separated_from))]
+fn terms(alloc: Global, tokens: &mut Reader<'_>, depth: usize) -> Result<Vec<Expr>, Fault>
+    ensures { GivesBy (λ v. map term_view v.items) (lists.separated (spec.term depth) marks.Comma tokens.old) result tokens.new }
 {
-    match tokens.next() {
-        Some(Kind::Number(_)) => word(tokens),
-        Some(Kind::Lower(_)) => variable(alloc, tokens),
-        Some(Kind::Mark(Mark::LParen)) => paren(alloc, tokens, depth),
+    let mut found = Vec::new(alloc);
+    for _turn in 0..tokens.left() {
+        found.push(term(alloc, tokens, depth)?)?;
+        if !tokens.eat(Mark::Comma) {
+            return Ok(found);
+        }
+    }
+    Err(Fault::Syntax)
+}
+
+#[cycle(term)]
+#[tactic(auto, unfolding(crate::specs::TermRules::arguments, crate::specs::Parsing::sees))]
+fn arguments(alloc: Global, tokens: &mut Reader<'_>, depth: usize) -> Result<Vec<Expr>, Fault>
+    ensures { GivesBy (λ v. map term_view v.items) (spec.arguments (spec.term depth) tokens.old) result tokens.new }
+{
+    if tokens.sees(Mark::RParen) {
+        return Ok(Vec::new(alloc));
+    }
+    terms(alloc, tokens, depth)
+}
+
+#[cycle(term)]
+#[tactic(auto, unfolding(crate::specs::TermRules::call))]
+fn call(alloc: Global, tokens: &mut Reader<'_>, depth: usize, name: Name) -> Result<Expr, Fault>
+    ensures { GivesBy term_view (spec.call (spec.term depth) name tokens.old) result tokens.new }
+{
+    let args = arguments(alloc, tokens, depth)?;
+    let end = tokens.expect(Mark::RParen)?;
+    let span = hull(name.span, end);
+    Ok(Expr::Call { name, args, span })
+}
+
+#[cycle(term)]
+#[tactic(auto, unfolding(crate::specs::TermRules::named))]
+fn named(alloc: Global, tokens: &mut Reader<'_>, depth: usize) -> Result<Expr, Fault>
+    ensures { GivesBy term_view (spec.named (spec.term depth) tokens.old) result tokens.new }
+{
+    let name = tokens.lower(alloc)?;
+    if tokens.eat(Mark::LParen) {
+        return call(alloc, tokens, depth, name);
+    }
+    Ok(Expr::Var(name))
+}
+
+#[cycle(term)]
+#[tactic(auto, unfolding(crate::specs::TermRules::parts))]
+fn parts(alloc: Global, tokens: &mut Reader<'_>, depth: usize, name: Name) -> Result<Expr, Fault>
+    ensures { GivesBy term_view (spec.parts (spec.term depth) name tokens.old) result tokens.new }
+{
+    let args = terms(alloc, tokens, depth)?;
+    let end = tokens.expect(Mark::RParen)?;
+    let span = hull(name.span, end);
+    Ok(Expr::Make { name, args, span })
+}
+
+#[cycle(term)]
+#[tactic(auto, unfolding(crate::specs::TermRules::made))]
+fn made(alloc: Global, tokens: &mut Reader<'_>, depth: usize) -> Result<Expr, Fault>
+    ensures { GivesBy term_view (spec.made (spec.term depth) tokens.old) result tokens.new }
+{
+    let name = tokens.upper(alloc)?;
+    if tokens.eat(Mark::LParen) {
+        return parts(alloc, tokens, depth, name);
+    }
+    let span = name.span;
+    Ok(Expr::Make {
+        name,
+        args: Vec::new(alloc),
+        span,
+    })
+}
+
+#[cycle(term)]
+#[tactic(auto, unfolding(crate::specs::TermRules::operation))]
+fn operation(
+    alloc: Global,
+    tokens: &mut Reader<'_>,
+    depth: usize,
+    op: Keyword,
+) -> Result<Expr, Fault>
+    ensures { GivesBy term_view (spec.operation (spec.term depth) op tokens.old) result tokens.new }
+{
+    let start = tokens.expect_word(op)?;
+    tokens.expect(Mark::LParen)?;
+    let x = term(alloc, tokens, depth)?;
+    tokens.expect(Mark::Comma)?;
+    let y = term(alloc, tokens, depth)?;
+    let end = tokens.expect(Mark::RParen)?;
+    Ok(operation_of(alloc, op, start, x, y, end)?)
+}
+
+#[cycle(term)]
+#[tactic(auto, unfolding(crate::specs::TermRules::cast))]
+fn cast(alloc: Global, tokens: &mut Reader<'_>, depth: usize, op: Keyword) -> Result<Expr, Fault>
+    ensures { GivesBy term_view (spec.cast (spec.term depth) op tokens.old) result tokens.new }
+{
+    let start = tokens.expect_word(op)?;
+    tokens.expect(Mark::LParen)?;
+    let x = term(alloc, tokens, depth)?;
+    tokens.expect(Mark::Comma)?;
+    let to = tokens.number()?;
+    let end = tokens.expect(Mark::RParen)?;
+    Ok(cast_of(alloc, op, start, x, to, end)?)
+}
+
+#[cycle(term)]
+#[tactic(auto, unfolding(crate::specs::TermRules::arm))]
+fn arm(alloc: Global, tokens: &mut Reader<'_>, depth: usize) -> Result<Arm, Fault>
+    ensures { GivesBy arm_view (spec.arm (patterns.pattern depth) (spec.term depth) tokens.old) result tokens.new }
+{
+    let pat = pattern(alloc, tokens, depth)?;
+    tokens.expect(Mark::FatArrow)?;
+    let body = term(alloc, tokens, depth)?;
+    let end = tokens.expect(Mark::Semi)?;
+    Ok(arm_of(pat, body, end))
+}
+
+#[cycle(term)]
+#[tactic(auto, using(crate::proofs::Turns::turn, crate::proofs::Turns::over, crate::proofs::Turns::map_more), unfolding(crate::specs::Lists::many, crate::specs::Lists::until_from, crate::specs::Parsing::sees))]
+fn arms(alloc: Global, tokens: &mut Reader<'_>, depth: usize) -> Result<Vec<Arm>, Fault>
+    ensures { GivesBy (λ v. map arm_view v.items) (lists.many (spec.arm (patterns.pattern depth) (spec.term depth)) marks.RBrace tokens.old) result tokens.new }
+{
+    let mut found = Vec::new(alloc);
+    found.push(arm(alloc, tokens, depth)?)?;
+    for _turn in 0..tokens.left() {
+        if tokens.sees(Mark::RBrace) {
+            return Ok(found);
+        }
+        found.push(arm(alloc, tokens, depth)?)?;
+    }
+    Err(Fault::Syntax)
+}
+
+#[cycle(term)]
+#[tactic(auto, unfolding(crate::specs::TermRules::match_on))]
+fn match_on(alloc: Global, tokens: &mut Reader<'_>, depth: usize) -> Result<Expr, Fault>
+    ensures { GivesBy term_view (spec.match_on (patterns.pattern depth) (spec.term depth) tokens.old) result tokens.new }
+{
+    let start = tokens.expect_word(Keyword::KwMatch)?;
+    let x = term(alloc, tokens, depth)?;
+    tokens.expect_word(Keyword::KwWith)?;
+    tokens.expect(Mark::LBrace)?;
+    let arms = arms(alloc, tokens, depth)?;
+    let end = tokens.expect(Mark::RBrace)?;
+    Ok(match_of(alloc, start, x, arms, end)?)
+}
+
+#[cycle(term)]
+fn atom_by_word(
+    alloc: Global,
+    tokens: &mut Reader<'_>,
+    depth: usize,
+    word: Keyword,
+) -> Result<Expr, Fault>
+    ensures { GivesBy term_view (spec.atom_by_word (patterns.pattern depth) (spec.term depth) word tokens.old) result tokens.new }
+{
+    match word {
+        Keyword::KwTrue => flag(tokens, Keyword::KwTrue, true),
+        Keyword::KwFalse => flag(tokens, Keyword::KwFalse, false),
+        Keyword::KwMatch => match_on(alloc, tokens, depth),
+        _ if is_operation(word) => operation(alloc, tokens, depth, word),
+        _ if is_cast(word) => cast(alloc, tokens, depth, word),
         _ => Err(Fault::Syntax),
     }
 }
 
+#[cycle(term)]
+#[tactic(auto, unfolding(crate::specs::TermRules::atom))]
+fn atom(alloc: Global, tokens: &mut Reader<'_>, depth: usize) -> Result<Expr, Fault>
+    ensures { GivesBy term_view (spec.atom (patterns.pattern depth) (spec.term depth) tokens.old) result tokens.new }
+{
+    match tokens.next() {
+        Some(Kind::Number(_)) => word(tokens),
+        Some(Kind::Lower(_)) => named(alloc, tokens, depth),
+        Some(Kind::Upper(_)) => made(alloc, tokens, depth),
+        Some(Kind::Mark(Mark::LParen)) => paren(alloc, tokens, depth),
+        Some(Kind::Word(word)) => atom_by_word(alloc, tokens, depth, *word),
+        _ => Err(Fault::Syntax),
+    }
+}
+
+/// A key and what may be put there, after the mark `[`.
+#[cycle(term)]
+#[tactic(auto, unfolding(crate::specs::TermRules::index))]
+fn index(alloc: Global, tokens: &mut Reader<'_>, depth: usize, x: Expr) -> Result<Expr, Fault>
+    ensures { GivesBy term_view (spec.index (spec.term depth) (term_view x) tokens.old) result tokens.new }
+{
+    let key = term(alloc, tokens, depth)?;
+    if tokens.eat(Mark::Assign) {
+        let v = term(alloc, tokens, depth)?;
+        let end = tokens.expect(Mark::RBracket)?;
+        return Ok(put_of(alloc, x, key, v, end)?);
+    }
+    let end = tokens.expect(Mark::RBracket)?;
+    Ok(get_of(alloc, x, key, end)?)
+}
+
+#[cycle(term)]
+#[tactic(auto, using(crate::proofs::Turns::turn, crate::proofs::Turns::over), unfolding(crate::specs::TermRules::post, crate::specs::TermRules::indexes_from, crate::specs::Parsing::sees))]
+fn post(alloc: Global, tokens: &mut Reader<'_>, depth: usize) -> Result<Expr, Fault>
+    ensures { GivesBy term_view (spec.post (patterns.pattern depth) (spec.term depth) tokens.old) result tokens.new }
+{
+    let mut x = atom(alloc, tokens, depth)?;
+    for _turn in 0..MAX_TURNS {
+        if !tokens.sees(Mark::LBracket) {
+            return Ok(x);
+        }
+        tokens.rise()?;
+        tokens.skip();
+        x = index(alloc, tokens, depth, x)?;
+    }
+    Err(Fault::TooDeep)
+}
+
+/// Prefix operators and their operand, in as many turns.
+#[cycle(term)]
+#[tactic(auto, using(crate::proofs::Unary::unary_turn, crate::proofs::Unary::unary_end))]
+fn unary(alloc: Global, tokens: &mut Reader<'_>, depth: usize, turns: usize) -> Result<Expr, Fault>
+    ensures { GivesBy term_view (spec.unary_from (patterns.pattern depth) (spec.term depth) turns tokens.old) result tokens.new }
+{
+    if turns == 0 {
+        return Err(Fault::TooDeep);
+    }
+    let next = tokens.next();
+    if !is_prefix(next) {
+        return post(alloc, tokens, depth);
+    }
+    let op = prefix_operator(next);
+    tokens.rise()?;
+    let start = tokens.skip();
+    let x = unary(alloc, tokens, depth, turns - 1)?;
+    Ok(prefix_of(alloc, op, start, x)?)
+}
+
 /// A term whose operators bind at least as tightly as `precedence`.
 #[cycle(term)]
-#[tactic(auto, using(crate::proofs::Turns::turn, crate::proofs::Turns::over), unfolding(crate::specs::Rules::level, crate::specs::Rules::chain_from))]
+#[tactic(auto, using(crate::proofs::Turns::turn, crate::proofs::Turns::over), unfolding(crate::specs::TermRules::level, crate::specs::TermRules::chain_from))]
 fn level(
     alloc: Global,
     tokens: &mut Reader<'_>,
     depth: usize,
     precedence: u8,
 ) -> Result<Expr, Fault>
-    ensures { GivesBy term_view (spec.level (spec.term depth) precedence tokens.old) result tokens.new }
+    ensures { GivesBy term_view (spec.level (patterns.pattern depth) (spec.term depth) precedence tokens.old) result tokens.new }
 {
     if precedence == 0 {
-        return atom(alloc, tokens, depth);
+        return unary(alloc, tokens, depth, MAX_TURNS);
     }
     let mut left = level(alloc, tokens, depth, precedence - 1)?;
     for _turn in 0..MAX_TURNS {
@@ -174,12 +371,15 @@ fn level(
         tokens.skip();
         let right = level(alloc, tokens, depth, precedence - 1)?;
         left = binary_of(alloc, op, left, right)?;
+        if !groups(precedence) {
+            return Ok(left);
+        }
     }
     Err(Fault::TooDeep)
 }
 
 #[cycle(term)]
-#[tactic(auto, unfolding(crate::specs::Rules::let_in))]
+#[tactic(auto, unfolding(crate::specs::TermRules::let_in))]
 fn let_in(alloc: Global, tokens: &mut Reader<'_>, depth: usize) -> Result<Expr, Fault>
     ensures { GivesBy term_view (spec.let_in (spec.term depth) tokens.old) result tokens.new }
 {
@@ -193,23 +393,38 @@ fn let_in(alloc: Global, tokens: &mut Reader<'_>, depth: usize) -> Result<Expr, 
 }
 
 #[cycle(term)]
-#[tactic(auto, unfolding(crate::specs::Rules::body))]
+#[tactic(auto, unfolding(crate::specs::TermRules::if_else))]
+fn if_else(alloc: Global, tokens: &mut Reader<'_>, depth: usize) -> Result<Expr, Fault>
+    ensures { GivesBy term_view (spec.if_else (spec.term depth) tokens.old) result tokens.new }
+{
+    let start = tokens.expect_word(Keyword::KwIf)?;
+    let c = term(alloc, tokens, depth)?;
+    tokens.expect_word(Keyword::KwThen)?;
+    let yes = term(alloc, tokens, depth)?;
+    tokens.expect_word(Keyword::KwElse)?;
+    let no = term(alloc, tokens, depth)?;
+    Ok(if_of(alloc, start, c, yes, no)?)
+}
+
+#[cycle(term)]
+#[tactic(auto, unfolding(crate::specs::TermRules::body))]
 fn body(alloc: Global, tokens: &mut Reader<'_>, depth: usize) -> Result<Expr, Fault>
-    ensures { GivesBy term_view (spec.body (spec.term depth) tokens.old) result tokens.new }
+    ensures { GivesBy term_view (spec.body (patterns.pattern depth) (spec.term depth) tokens.old) result tokens.new }
 {
     match tokens.next() {
         Some(Kind::Word(Keyword::KwLet)) => let_in(alloc, tokens, depth),
+        Some(Kind::Word(Keyword::KwIf)) => if_else(alloc, tokens, depth),
         _ => level(alloc, tokens, depth, LOOSEST),
     }
 }
 
 /// A term, with terms nested no deeper than `depth`.
 #[cycle(term)]
-#[tactic(auto, unfolding(crate::specs::Rules::term))]
+#[tactic(auto, unfolding(crate::specs::TermRules::term))]
 pub fn term(alloc: Global, tokens: &mut Reader<'_>, depth: usize) -> Result<Expr, Fault>
     ensures { GivesBy term_view (spec.term depth tokens.old) result tokens.new }
 {
-    let outer = tokens.enter()?;
+    let outer = tokens.enter_term()?;
     if depth == 0 {
         return Err(Fault::TooDeep);
     }

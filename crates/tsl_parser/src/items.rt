@@ -1,17 +1,20 @@
-//! Declarations.
+//! Declarations of types, maps and functions, and whole specifications.
 
 ghost use Rattle.std.specs.Prelude.{◌≡◌, map};
 ghost use Rattle.tsl_parser.specs.Parsing.{Gives, GivesBy};
-ghost use Rattle.tsl_parser.specs.Rules as spec;
-ghost use Rattle.tsl_parser.specs.View.{function as function_view, item as item_view};
+ghost use Rattle.tsl_parser.specs.Lists as lists;
+ghost use Rattle.tsl_parser.specs.ItemRules as spec;
+ghost use Rattle.tsl_parser.specs.View.{constructor as constructor_view, datatype as datatype_view, function as function_view, item as item_view};
+ghost use Rattle.tsl_lexer.specs.declared.token.Mark.TheVariants as marks;
 
-use crate::expr::{hull, term};
-use crate::reader::{Fault, MAX_LEVEL, Reader};
-use crate::tree::{FieldDecl, FunDecl, Item};
+use crate::decode::decode;
+use crate::expr::term;
+use crate::reader::{Fault, MAX_LEVEL, Reader, hull};
+use crate::tree::{CaseDecl, DataDecl, FieldDecl, FunDecl, Item, MapDecl, Name};
 use std::alloc::Global;
 use tsl_lexer::{Keyword, Kind, Mark};
 
-#[tactic(auto, unfolding(crate::specs::Rules::field))]
+#[tactic(auto, unfolding(crate::specs::ItemRules::field))]
 fn field(alloc: Global, tokens: &mut Reader<'_>) -> Result<FieldDecl, Fault>
     ensures { Gives (spec.field tokens.old) result tokens.new }
 {
@@ -22,9 +25,9 @@ fn field(alloc: Global, tokens: &mut Reader<'_>) -> Result<FieldDecl, Fault>
     Ok(FieldDecl { name, ty, span })
 }
 
-#[tactic(auto, using(crate::proofs::Turns::turn, crate::proofs::Turns::over), unfolding(crate::specs::Rules::separated, crate::specs::Rules::separated_from))]
+#[tactic(auto, using(crate::proofs::Turns::turn, crate::proofs::Turns::over), unfolding(crate::specs::Lists::separated, crate::specs::Lists::separated_from))]
 fn fields(alloc: Global, tokens: &mut Reader<'_>) -> Result<Vec<FieldDecl>, Fault>
-    ensures { GivesBy (λ v. v.items) (spec.fields tokens.old) result tokens.new }
+    ensures { GivesBy (λ v. v.items) (lists.separated spec.field marks.Comma tokens.old) result tokens.new }
 {
     let mut found = Vec::new(alloc);
     for _turn in 0..tokens.left() {
@@ -36,7 +39,86 @@ fn fields(alloc: Global, tokens: &mut Reader<'_>) -> Result<Vec<FieldDecl>, Faul
     Err(Fault::Syntax)
 }
 
-#[tactic(auto, unfolding(crate::specs::Rules::params, crate::specs::Parsing::sees))]
+#[tactic(auto, unfolding(crate::specs::ItemRules::case_fields))]
+fn case_fields(alloc: Global, tokens: &mut Reader<'_>, name: Name) -> Result<CaseDecl, Fault>
+    ensures { GivesBy constructor_view (spec.case_fields name tokens.old) result tokens.new }
+{
+    let fields = fields(alloc, tokens)?;
+    let end = tokens.expect(Mark::RParen)?;
+    let span = hull(name.span, end);
+    Ok(CaseDecl { name, fields, span })
+}
+
+#[tactic(auto, unfolding(crate::specs::ItemRules::constructor))]
+fn constructor(alloc: Global, tokens: &mut Reader<'_>) -> Result<CaseDecl, Fault>
+    ensures { GivesBy constructor_view (spec.constructor tokens.old) result tokens.new }
+{
+    let name = tokens.upper(alloc)?;
+    if tokens.eat(Mark::LParen) {
+        return case_fields(alloc, tokens, name);
+    }
+    let span = hull(name.span, name.span);
+    Ok(CaseDecl {
+        name,
+        fields: Vec::new(alloc),
+        span,
+    })
+}
+
+#[tactic(auto, using(crate::proofs::Turns::turn, crate::proofs::Turns::over, crate::proofs::Turns::map_more), unfolding(crate::specs::Lists::separated, crate::specs::Lists::separated_from))]
+fn constructors(alloc: Global, tokens: &mut Reader<'_>) -> Result<Vec<CaseDecl>, Fault>
+    ensures { GivesBy (λ v. map constructor_view v.items) (lists.separated spec.constructor marks.Bar tokens.old) result tokens.new }
+{
+    let mut found = Vec::new(alloc);
+    for _turn in 0..tokens.left() {
+        found.push(constructor(alloc, tokens)?)?;
+        if !tokens.eat(Mark::Bar) {
+            return Ok(found);
+        }
+    }
+    Err(Fault::Syntax)
+}
+
+#[tactic(auto, unfolding(crate::specs::ItemRules::datatype))]
+fn datatype(alloc: Global, tokens: &mut Reader<'_>) -> Result<DataDecl, Fault>
+    ensures { GivesBy datatype_view (spec.datatype tokens.old) result tokens.new }
+{
+    let start = tokens.expect_word(Keyword::KwType)?;
+    let name = tokens.upper(alloc)?;
+    tokens.expect(Mark::Equals)?;
+    let cases = constructors(alloc, tokens)?;
+    let end = tokens.expect(Mark::Semi)?;
+    Ok(DataDecl {
+        name,
+        cases,
+        span: hull(start, end),
+    })
+}
+
+#[tactic(auto, unfolding(crate::specs::ItemRules::map_type))]
+fn map_type(alloc: Global, tokens: &mut Reader<'_>) -> Result<MapDecl, Fault>
+    ensures { Gives (spec.map_type tokens.old) result tokens.new }
+{
+    let start = tokens.expect_word(Keyword::KwMap)?;
+    let name = tokens.upper(alloc)?;
+    tokens.expect(Mark::LBracket)?;
+    let key = tokens.upper(alloc)?;
+    tokens.expect(Mark::Arrow)?;
+    let value = tokens.upper(alloc)?;
+    tokens.expect(Mark::RBracket)?;
+    tokens.expect_word(Keyword::KwDefault)?;
+    let default = tokens.number()?;
+    let end = tokens.expect(Mark::Semi)?;
+    Ok(MapDecl {
+        name,
+        key,
+        value,
+        default,
+        span: hull(start, end),
+    })
+}
+
+#[tactic(auto, unfolding(crate::specs::ItemRules::params, crate::specs::Parsing::sees))]
 fn params(alloc: Global, tokens: &mut Reader<'_>) -> Result<Vec<FieldDecl>, Fault>
     ensures { GivesBy (λ v. v.items) (spec.params tokens.old) result tokens.new }
 {
@@ -46,7 +128,7 @@ fn params(alloc: Global, tokens: &mut Reader<'_>) -> Result<Vec<FieldDecl>, Faul
     fields(alloc, tokens)
 }
 
-#[tactic(auto, unfolding(crate::specs::Rules::function))]
+#[tactic(auto, unfolding(crate::specs::ItemRules::function))]
 fn function(alloc: Global, tokens: &mut Reader<'_>) -> Result<FunDecl, Fault>
     ensures { GivesBy function_view (spec.function tokens.old) result tokens.new }
 {
@@ -69,18 +151,21 @@ fn function(alloc: Global, tokens: &mut Reader<'_>) -> Result<FunDecl, Fault>
     })
 }
 
-#[tactic(auto, unfolding(crate::specs::Rules::item))]
+#[tactic(auto, unfolding(crate::specs::ItemRules::item))]
 fn item(alloc: Global, tokens: &mut Reader<'_>) -> Result<Item, Fault>
     ensures { GivesBy item_view (spec.item tokens.old) result tokens.new }
 {
     match tokens.next() {
+        Some(Kind::Word(Keyword::KwType)) => Ok(Item::Data(datatype(alloc, tokens)?)),
+        Some(Kind::Word(Keyword::KwMap)) => Ok(Item::Map(map_type(alloc, tokens)?)),
         Some(Kind::Word(Keyword::KwFun)) => Ok(Item::Fun(function(alloc, tokens)?)),
+        Some(Kind::Word(Keyword::KwDecode)) => Ok(Item::Decode(decode(alloc, tokens)?)),
         _ => Err(Fault::Syntax),
     }
 }
 
 /// All declarations, to the last token.
-#[tactic(auto, using(crate::proofs::Turns::turn, crate::proofs::Turns::over, crate::proofs::Turns::map_more), unfolding(crate::specs::Rules::items, crate::specs::Rules::items_from))]
+#[tactic(auto, using(crate::proofs::Turns::turn, crate::proofs::Turns::over, crate::proofs::Turns::map_more), unfolding(crate::specs::ItemRules::items, crate::specs::ItemRules::items_from))]
 pub fn declarations(alloc: Global, tokens: &mut Reader<'_>) -> Result<Vec<Item>, Fault>
     ensures { GivesBy (λ v. map item_view v.items) (spec.items tokens.old) result tokens.new }
 {

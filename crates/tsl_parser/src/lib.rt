@@ -2,11 +2,15 @@
 #![tactic(auto)]
 
 ghost use Rattle.std.specs.Prelude.{length};
-ghost use Rattle.tsl_parser.specs.Exact.{Answers, HasTree, IsOnly};
+ghost use Rattle.std.specs.Prelude.{ℕ};
+ghost use Rattle.tsl_parser.specs.Exact.{Answers, HasTree, IsDeepAt, IsOnly, IsRefusal, IsSyntaxAt};
 ghost use Rattle.tsl_parser.specs.Tree as plain;
 
+mod decode;
 mod expr;
 mod items;
+mod make;
+mod pattern;
 mod reader;
 pub mod tree;
 
@@ -16,24 +20,35 @@ use crate::tree::Tree;
 use std::alloc::Global;
 use tsl_lexer::Token;
 
-/// Why tokens are not read.
+/// Why tokens have no tree. `at` is a byte offset into the source.
 #[derive(Clone, Copy, Debug, PartialEq, Eq)]
 pub enum ParseError {
-    /// The tokens have no tree of the productions that are built, or one that is too deep.
-    NotBuilt,
+    /// No specification goes on with the token that begins here, or the tokens end too early.
+    Syntax { at: u32 },
+    /// The token that begins here stands in more than 256 levels.
+    TooDeep { at: u32 },
     NoMemory,
 }
 
 /// The tree of the tokens of a source of `end` bytes.
 pub fn parse(alloc: Global, tokens: &[Token], end: u32) -> Result<Tree, ParseError>
     ensures answer { Answers tokens.now end result }
+    ensures syntax { (at : ℕ) → IsSyntaxAt tokens.now end at → IsRefusal result (ParseError.Syntax at) }
+    ensures deep { (at : ℕ) → IsDeepAt tokens.now at → IsRefusal result (ParseError.TooDeep at) }
     ensures only { (found : plain.Tree) → HasTree tokens.now end found → IsOnly result found }
 {
     let mut reader = Reader::new(tokens);
     match declarations(alloc, &mut reader) {
         Ok(items) => Ok(Tree { items, end }),
-        Err(Fault::Syntax) => Err(ParseError::NotBuilt),
-        Err(Fault::TooDeep) => Err(ParseError::NotBuilt),
+        Err(Fault::Syntax) => Err(ParseError::Syntax {
+            at: reader.place(end),
+        }),
+        Err(Fault::TooDeep) => Err(ParseError::TooDeep {
+            at: reader.place(end),
+        }),
         Err(Fault::NoMemory) => Err(ParseError::NoMemory),
     }
 }
+
+#[cfg(test)]
+mod tests;

@@ -40,6 +40,24 @@ impl<T: Drop> From<AllocFailed<T>> for Fault {
     }
 }
 
+/// The literal `v:w`, with its span.
+#[derive(Clone, Copy, Debug, PartialEq, Eq)]
+pub struct Literal {
+    pub v: Num,
+    pub w: Num,
+    pub span: Span,
+}
+
+/// From the beginning of one span to the end of another.
+pub fn hull(a: Span, b: Span) -> Span
+    ensures { result ≡ spec.hull a b }
+{
+    Span {
+        from: a.from,
+        to: b.to,
+    }
+}
+
 /// The greatest level at which a token may stand.
 pub const MAX_LEVEL: usize = 256;
 
@@ -77,6 +95,16 @@ impl<'a> Reader<'a> {
         self.rest.len()
     }
 
+    /// Where the next token begins, or the end.
+    pub fn place(&self, end: u32) -> u32
+        ensures { result ≡ spec.place end self.now.rest }
+    {
+        match self.rest {
+            [token, ..] => token.from,
+            [] => end,
+        }
+    }
+
     /// What the next token is.
     pub fn next(&self) -> Option<&'a Kind>
         ensures { option_copied result ≡ spec.next self.now }
@@ -98,7 +126,8 @@ impl<'a> Reader<'a> {
         }
     }
 
-    fn sees_word(&self, word: Keyword) -> bool
+    /// Whether the next token is this keyword.
+    pub fn sees_word(&self, word: Keyword) -> bool
         ensures { result ≡ spec.is_word word (spec.next self.now) }
     {
         is_word(word, self.next())
@@ -170,6 +199,21 @@ impl<'a> Reader<'a> {
         }
     }
 
+    /// The literal `v:w`.
+    #[tactic(auto, unfolding(crate::specs::Parsing::literal))]
+    pub fn literal(&mut self) -> Result<Literal, Fault>
+        ensures { Gives (spec.literal self.old) result self.new }
+    {
+        let v = self.number()?;
+        self.expect(Mark::Colon)?;
+        let w = self.number()?;
+        Ok(Literal {
+            v,
+            w,
+            span: hull(v.span, w.span),
+        })
+    }
+
     /// A name that does not begin with a capital letter.
     #[tactic(auto, unfolding(crate::specs::Parsing::lower))]
     pub fn lower(&mut self, alloc: Global) -> Result<Name, Fault>
@@ -211,12 +255,10 @@ impl<'a> Reader<'a> {
         }
     }
 
-    /// Begins a term, and answers the level to go back to.
-    #[tactic(auto, unfolding(crate::specs::Parsing::enter))]
-    pub fn enter(&mut self) -> Result<usize, Fault>
-        ensures { Gives (spec.enter self.old) result self.new }
+    fn enter_if(&mut self, begins: bool) -> Result<usize, Fault>
+        ensures { Gives (spec.enter_if begins self.old) result self.new }
     {
-        if !begins_term(self.next()) {
+        if !begins {
             return Err(Fault::Syntax);
         }
         let outer = self.level;
@@ -224,7 +266,23 @@ impl<'a> Reader<'a> {
         Ok(outer)
     }
 
-    /// Ends a term, back to the level round it.
+    /// Begins a term, and answers the level to go back to.
+    #[tactic(auto, unfolding(crate::specs::Parsing::enter))]
+    pub fn enter_term(&mut self) -> Result<usize, Fault>
+        ensures { Gives (spec.enter spec.begins_term self.old) result self.new }
+    {
+        self.enter_if(begins_term(self.next()))
+    }
+
+    /// Begins a pattern, and answers the level to go back to.
+    #[tactic(auto, unfolding(crate::specs::Parsing::enter))]
+    pub fn enter_pattern(&mut self) -> Result<usize, Fault>
+        ensures { Gives (spec.enter spec.begins_pattern self.old) result self.new }
+    {
+        self.enter_if(begins_pattern(self.next()))
+    }
+
+    /// Ends a term or a pattern, back to the level round it.
     pub fn leave(&mut self, outer: usize)
         ensures { spec.leave outer self.old ≡ (Ok tt, self.new) }
     {
@@ -232,13 +290,63 @@ impl<'a> Reader<'a> {
     }
 }
 
+/// Whether a keyword names an operation of two operands.
+pub fn is_operation(word: Keyword) -> bool
+    ensures { result ≡ spec.is_operation word }
+{
+    matches!(
+        word,
+        Keyword::KwShl
+            | Keyword::KwShru
+            | Keyword::KwShrs
+            | Keyword::KwRotl
+            | Keyword::KwDivu
+            | Keyword::KwDivs
+            | Keyword::KwRemu
+            | Keyword::KwRems
+            | Keyword::KwMulhu
+            | Keyword::KwMulhs
+            | Keyword::KwLtu
+            | Keyword::KwLeu
+            | Keyword::KwLts
+            | Keyword::KwLes
+    )
+}
+
+/// Whether a keyword names a cast.
+pub fn is_cast(word: Keyword) -> bool
+    ensures { result ≡ spec.is_cast word }
+{
+    matches!(word, Keyword::KwZext | Keyword::KwSext | Keyword::KwTrunc)
+}
+
+/// Whether the next token is a prefix operator.
+pub fn is_prefix(next: Option<&Kind>) -> bool
+    ensures { result ≡ spec.is_prefix (option_copied next.entry) }
+{
+    matches!(
+        next,
+        Some(Kind::Mark(Mark::Bang | Mark::Tilde | Mark::Minus))
+    )
+}
+
+fn word_begins_atom(word: Keyword) -> bool
+    ensures { result ≡ spec.word_begins_atom word }
+{
+    match word {
+        Keyword::KwTrue | Keyword::KwFalse | Keyword::KwMatch => true,
+        _ => is_operation(word) || is_cast(word),
+    }
+}
+
 fn begins_atom(next: Option<&Kind>) -> bool
     ensures { result ≡ spec.begins_atom (option_copied next.entry) }
 {
     match next {
-        Some(Kind::Lower(_) | Kind::Number(_)) => true,
-        Some(Kind::Mark(mark)) => *mark == Mark::LParen,
-        Some(Kind::Upper(_) | Kind::Word(_)) | None => false,
+        Some(Kind::Upper(_) | Kind::Lower(_) | Kind::Number(_)) => true,
+        Some(Kind::Word(word)) => word_begins_atom(*word),
+        Some(Kind::Mark(mark)) => matches!(*mark, Mark::LParen),
+        None => false,
     }
 }
 
@@ -254,5 +362,19 @@ fn is_word(word: Keyword, next: Option<&Kind>) -> bool
 fn begins_term(next: Option<&Kind>) -> bool
     ensures { result ≡ spec.begins_term (option_copied next.entry) }
 {
-    begins_atom(next) || is_word(Keyword::KwLet, next)
+    begins_atom(next)
+        || is_prefix(next)
+        || is_word(Keyword::KwLet, next)
+        || is_word(Keyword::KwIf, next)
+}
+
+fn begins_pattern(next: Option<&Kind>) -> bool
+    ensures { result ≡ spec.begins_pattern (option_copied next.entry) }
+{
+    match next {
+        Some(Kind::Upper(_) | Kind::Lower(_) | Kind::Number(_)) => true,
+        Some(Kind::Word(word)) => matches!(*word, Keyword::KwTrue | Keyword::KwFalse),
+        Some(Kind::Mark(mark)) => matches!(*mark, Mark::Underscore),
+        None => false,
+    }
 }

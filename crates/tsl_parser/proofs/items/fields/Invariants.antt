@@ -1,6 +1,8 @@
 use Rattle.std.proofs.Common.{◌≡◌, ◌-◌}
-use Rattle.tsl_parser.specs.Rules.{field, fields, separated_from}
+use Rattle.tsl_lexer.specs.declared.token.Mark.TheVariants as m
+use Rattle.tsl_parser.specs.ItemRules.{field}
+use Rattle.tsl_parser.specs.Lists.{separated, separated_from}
 use Rattle.tsl_parser.proofs.items.fields.Given as goal
 
 abbrev pub invariant-loop-turn : goal.invariant-loop-turn
-invariant-loop-turn l = fields l.fn.tokens ≡ separated_from field (l._turn-end - l._turn) l.found.items l.tokens
+invariant-loop-turn l = separated field m.Comma l.fn.tokens ≡ separated_from field m.Comma (l._turn-end - l._turn) l.found.items l.tokens

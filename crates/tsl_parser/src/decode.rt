@@ -1,0 +1,236 @@
+//! Decode sections: rows of bit patterns, guards and arguments.
+
+ghost use Rattle.std.specs.Prelude.{◌≡◌, map};
+ghost use Rattle.tsl_parser.specs.Parsing.{Gives, GivesBy};
+ghost use Rattle.tsl_parser.specs.Lists as lists;
+ghost use Rattle.tsl_parser.specs.ItemRules as spec;
+ghost use Rattle.tsl_parser.specs.View.{row as row_view, section_ as section_view};
+ghost use Rattle.tsl_lexer.specs.declared.token.Mark.TheVariants as marks;
+
+use crate::reader::{Fault, Reader, hull};
+use crate::tree::{ArgDecl, DecodeDecl, GuardArg, GuardDecl, GuardOp, PartDecl, RowDecl, Span};
+use std::alloc::Global;
+use tsl_lexer::{Keyword, Kind, Mark};
+
+#[tactic(auto, unfolding(crate::specs::ItemRules::part_fixed))]
+fn part_fixed(tokens: &mut Reader<'_>) -> Result<PartDecl, Fault>
+    ensures { Gives (spec.part_fixed tokens.old) result tokens.new }
+{
+    let found = tokens.literal()?;
+    Ok(PartDecl::Fixed {
+        v: found.v,
+        w: found.w,
+        span: found.span,
+    })
+}
+
+#[tactic(auto, unfolding(crate::specs::ItemRules::part_named))]
+fn part_named(alloc: Global, tokens: &mut Reader<'_>) -> Result<PartDecl, Fault>
+    ensures { Gives (spec.part_named tokens.old) result tokens.new }
+{
+    let name = tokens.lower(alloc)?;
+    tokens.expect(Mark::Colon)?;
+    let w = tokens.number()?;
+    let span = hull(name.span, w.span);
+    Ok(PartDecl::Named { name, w, span })
+}
+
+#[tactic(auto, unfolding(crate::specs::ItemRules::part))]
+fn part(alloc: Global, tokens: &mut Reader<'_>) -> Result<PartDecl, Fault>
+    ensures { Gives (spec.part tokens.old) result tokens.new }
+{
+    match tokens.next() {
+        Some(Kind::Number(_)) => part_fixed(tokens),
+        Some(Kind::Lower(_)) => part_named(alloc, tokens),
+        _ => Err(Fault::Syntax),
+    }
+}
+
+#[tactic(auto, using(crate::proofs::Turns::turn, crate::proofs::Turns::over), unfolding(crate::specs::Lists::many, crate::specs::Lists::until_from, crate::specs::Parsing::sees))]
+fn parts(alloc: Global, tokens: &mut Reader<'_>) -> Result<Vec<PartDecl>, Fault>
+    ensures { GivesBy (λ v. v.items) (lists.many spec.part marks.RBracket tokens.old) result tokens.new }
+{
+    let mut found = Vec::new(alloc);
+    found.push(part(alloc, tokens)?)?;
+    for _turn in 0..tokens.left() {
+        if tokens.sees(Mark::RBracket) {
+            return Ok(found);
+        }
+        found.push(part(alloc, tokens)?)?;
+    }
+    Err(Fault::Syntax)
+}
+
+#[tactic(auto, unfolding(crate::specs::ItemRules::guard_op))]
+fn guard_op(tokens: &mut Reader<'_>) -> Result<GuardOp, Fault>
+    ensures { Gives (spec.guard_op tokens.old) result tokens.new }
+{
+    let op = match tokens.next() {
+        Some(Kind::Mark(Mark::EqEq)) => GuardOp::Eq,
+        Some(Kind::Mark(Mark::NotEq)) => GuardOp::Ne,
+        Some(Kind::Mark(Mark::Less)) => GuardOp::Less,
+        _ => return Err(Fault::Syntax),
+    };
+    tokens.skip();
+    Ok(op)
+}
+
+#[tactic(auto, unfolding(crate::specs::ItemRules::other))]
+fn other(alloc: Global, tokens: &mut Reader<'_>) -> Result<GuardArg, Fault>
+    ensures { Gives (spec.other tokens.old) result tokens.new }
+{
+    match tokens.next() {
+        Some(Kind::Lower(_)) => Ok(GuardArg::Named(tokens.lower(alloc)?)),
+        Some(Kind::Number(_)) => Ok(GuardArg::Number(tokens.number()?)),
+        _ => Err(Fault::Syntax),
+    }
+}
+
+fn other_span(other: &GuardArg) -> Span
+    ensures { result ≡ spec.other_span other.now }
+{
+    match other {
+        GuardArg::Named(name) => name.span,
+        GuardArg::Number(number) => number.span,
+    }
+}
+
+#[tactic(auto, unfolding(crate::specs::ItemRules::guard))]
+fn guard(alloc: Global, tokens: &mut Reader<'_>) -> Result<GuardDecl, Fault>
+    ensures { Gives (spec.guard tokens.old) result tokens.new }
+{
+    let field = tokens.lower(alloc)?;
+    let op = guard_op(tokens)?;
+    let other = other(alloc, tokens)?;
+    let span = hull(field.span, other_span(&other));
+    Ok(GuardDecl {
+        field,
+        op,
+        other,
+        span,
+    })
+}
+
+#[tactic(auto, using(crate::proofs::Turns::turn, crate::proofs::Turns::over), unfolding(crate::specs::Lists::separated, crate::specs::Lists::separated_from))]
+fn guard_list(alloc: Global, tokens: &mut Reader<'_>) -> Result<Vec<GuardDecl>, Fault>
+    ensures { GivesBy (λ v. v.items) (lists.separated spec.guard marks.Comma tokens.old) result tokens.new }
+{
+    let mut found = Vec::new(alloc);
+    for _turn in 0..tokens.left() {
+        found.push(guard(alloc, tokens)?)?;
+        if !tokens.eat(Mark::Comma) {
+            return Ok(found);
+        }
+    }
+    Err(Fault::Syntax)
+}
+
+#[tactic(auto, unfolding(crate::specs::ItemRules::guards))]
+fn guards(alloc: Global, tokens: &mut Reader<'_>) -> Result<Vec<GuardDecl>, Fault>
+    ensures { GivesBy (λ v. v.items) (spec.guards tokens.old) result tokens.new }
+{
+    if !tokens.sees_word(Keyword::KwWhen) {
+        return Ok(Vec::new(alloc));
+    }
+    tokens.expect_word(Keyword::KwWhen)?;
+    guard_list(alloc, tokens)
+}
+
+#[tactic(auto, unfolding(crate::specs::ItemRules::arg_word))]
+fn arg_word(tokens: &mut Reader<'_>) -> Result<ArgDecl, Fault>
+    ensures { Gives (spec.arg_word tokens.old) result tokens.new }
+{
+    let found = tokens.literal()?;
+    Ok(ArgDecl::Word {
+        v: found.v,
+        w: found.w,
+        span: found.span,
+    })
+}
+
+#[tactic(auto, unfolding(crate::specs::ItemRules::arg))]
+fn arg(alloc: Global, tokens: &mut Reader<'_>) -> Result<ArgDecl, Fault>
+    ensures { Gives (spec.arg tokens.old) result tokens.new }
+{
+    match tokens.next() {
+        Some(Kind::Lower(_)) => Ok(ArgDecl::Named(tokens.lower(alloc)?)),
+        Some(Kind::Number(_)) => arg_word(tokens),
+        _ => Err(Fault::Syntax),
+    }
+}
+
+#[tactic(auto, using(crate::proofs::Turns::turn, crate::proofs::Turns::over), unfolding(crate::specs::Lists::separated, crate::specs::Lists::separated_from))]
+fn arg_items(alloc: Global, tokens: &mut Reader<'_>) -> Result<Vec<ArgDecl>, Fault>
+    ensures { GivesBy (λ v. v.items) (lists.separated spec.arg marks.Comma tokens.old) result tokens.new }
+{
+    let mut found = Vec::new(alloc);
+    for _turn in 0..tokens.left() {
+        found.push(arg(alloc, tokens)?)?;
+        if !tokens.eat(Mark::Comma) {
+            return Ok(found);
+        }
+    }
+    Err(Fault::Syntax)
+}
+
+#[tactic(auto, unfolding(crate::specs::ItemRules::args, crate::specs::ItemRules::arg_list))]
+fn args(alloc: Global, tokens: &mut Reader<'_>) -> Result<Vec<ArgDecl>, Fault>
+    ensures { GivesBy (λ v. v.items) (spec.args tokens.old) result tokens.new }
+{
+    if !tokens.eat(Mark::LParen) {
+        return Ok(Vec::new(alloc));
+    }
+    let found = arg_items(alloc, tokens)?;
+    tokens.expect(Mark::RParen)?;
+    Ok(found)
+}
+
+#[tactic(auto, unfolding(crate::specs::ItemRules::row))]
+fn row(alloc: Global, tokens: &mut Reader<'_>) -> Result<RowDecl, Fault>
+    ensures { GivesBy row_view (spec.row tokens.old) result tokens.new }
+{
+    let start = tokens.expect(Mark::LBracket)?;
+    let parts = parts(alloc, tokens)?;
+    tokens.expect(Mark::RBracket)?;
+    let guards = guards(alloc, tokens)?;
+    tokens.expect(Mark::FatArrow)?;
+    let case = tokens.upper(alloc)?;
+    let args = args(alloc, tokens)?;
+    let end = tokens.expect(Mark::Semi)?;
+    Ok(RowDecl {
+        parts,
+        guards,
+        case,
+        args,
+        span: hull(start, end),
+    })
+}
+
+#[tactic(auto, using(crate::proofs::Turns::turn, crate::proofs::Turns::over, crate::proofs::Turns::map_more), unfolding(crate::specs::Lists::until, crate::specs::Lists::until_from, crate::specs::Parsing::sees))]
+fn rows(alloc: Global, tokens: &mut Reader<'_>) -> Result<Vec<RowDecl>, Fault>
+    ensures { GivesBy (λ v. map row_view v.items) (lists.until spec.row marks.RBrace tokens.old) result tokens.new }
+{
+    let mut found = Vec::new(alloc);
+    for _turn in 0..tokens.left() {
+        if tokens.sees(Mark::RBrace) {
+            return Ok(found);
+        }
+        found.push(row(alloc, tokens)?)?;
+    }
+    Err(Fault::Syntax)
+}
+
+/// A decode section.
+#[tactic(auto, unfolding(crate::specs::ItemRules::decode))]
+pub fn decode(alloc: Global, tokens: &mut Reader<'_>) -> Result<DecodeDecl, Fault>
+    ensures { GivesBy section_view (spec.decode tokens.old) result tokens.new }
+{
+    let start = tokens.expect_word(Keyword::KwDecode)?;
+    tokens.expect(Mark::LBrace)?;
+    let rows = rows(alloc, tokens)?;
+    let end = tokens.expect(Mark::RBrace)?;
+    Ok(DecodeDecl {
+        rows,
+        span: hull(start, end),
+    })
+}

@@ -1,0 +1,184 @@
+//! Terms made from their parts, each with its span.
+
+ghost use Rattle.std.specs.Prelude.{◌≡◌, IfOk, map};
+ghost use Rattle.tsl_parser.specs.TermRules as spec;
+ghost use Rattle.tsl_parser.specs.View.{term as term_view, arm as arm_view, pattern as pattern_view};
+
+use crate::pattern::pattern_span;
+use crate::reader::hull;
+use crate::tree::{Arm, BinOp, Expr, Name, Num, Pat, PreOp, Span};
+use std::alloc::{AllocError, Global};
+use tsl_lexer::Keyword;
+
+#[tactic(auto, unfolding(crate::specs::TermRules::span_of))]
+fn span_of(e: &Expr) -> Span
+    ensures { result ≡ spec.span_of (term_view e.now) }
+{
+    match e {
+        Expr::Let { span, .. }
+        | Expr::If { span, .. }
+        | Expr::Binary { span, .. }
+        | Expr::Prefix { span, .. }
+        | Expr::Get { span, .. }
+        | Expr::Put { span, .. }
+        | Expr::Word { span, .. }
+        | Expr::Flag { span, .. }
+        | Expr::Call { span, .. }
+        | Expr::Make { span, .. }
+        | Expr::Op { span, .. }
+        | Expr::Cast { span, .. }
+        | Expr::Match { span, .. }
+        | Expr::Paren { span, .. } => *span,
+        Expr::Var(name) => name.span,
+    }
+}
+
+#[tactic(auto, unfolding(crate::specs::TermRules::let_of))]
+pub fn let_of(
+    alloc: Global,
+    start: Span,
+    name: Name,
+    x: Expr,
+    then: Expr,
+) -> Result<Expr, AllocError>
+    ensures { IfOk result (λ e. term_view e ≡ spec.let_of start name (term_view x) (term_view then)) }
+{
+    let span = hull(start, span_of(&then));
+    Ok(Expr::Let {
+        name,
+        x: Box::new(alloc, x)?,
+        then: Box::new(alloc, then)?,
+        span,
+    })
+}
+
+#[tactic(auto, unfolding(crate::specs::TermRules::if_of))]
+pub fn if_of(alloc: Global, start: Span, c: Expr, yes: Expr, no: Expr) -> Result<Expr, AllocError>
+    ensures { IfOk result (λ e. term_view e ≡ spec.if_of start (term_view c) (term_view yes) (term_view no)) }
+{
+    let span = hull(start, span_of(&no));
+    Ok(Expr::If {
+        c: Box::new(alloc, c)?,
+        yes: Box::new(alloc, yes)?,
+        no: Box::new(alloc, no)?,
+        span,
+    })
+}
+
+#[tactic(auto, unfolding(crate::specs::TermRules::binary_of))]
+pub fn binary_of(alloc: Global, op: BinOp, x: Expr, y: Expr) -> Result<Expr, AllocError>
+    ensures { IfOk result (λ e. term_view e ≡ spec.binary_of op (term_view x) (term_view y)) }
+{
+    let span = hull(span_of(&x), span_of(&y));
+    Ok(Expr::Binary {
+        op,
+        x: Box::new(alloc, x)?,
+        y: Box::new(alloc, y)?,
+        span,
+    })
+}
+
+#[tactic(auto, unfolding(crate::specs::TermRules::prefix_of))]
+pub fn prefix_of(alloc: Global, op: PreOp, start: Span, x: Expr) -> Result<Expr, AllocError>
+    ensures { IfOk result (λ e. term_view e ≡ spec.prefix_of op start (term_view x)) }
+{
+    let span = hull(start, span_of(&x));
+    Ok(Expr::Prefix {
+        op,
+        x: Box::new(alloc, x)?,
+        span,
+    })
+}
+
+#[tactic(auto, unfolding(crate::specs::TermRules::get_of))]
+pub fn get_of(alloc: Global, x: Expr, key: Expr, end: Span) -> Result<Expr, AllocError>
+    ensures { IfOk result (λ e. term_view e ≡ spec.get_of (term_view x) (term_view key) end) }
+{
+    let span = hull(span_of(&x), end);
+    Ok(Expr::Get {
+        x: Box::new(alloc, x)?,
+        key: Box::new(alloc, key)?,
+        span,
+    })
+}
+
+#[tactic(auto, unfolding(crate::specs::TermRules::put_of))]
+pub fn put_of(alloc: Global, x: Expr, key: Expr, v: Expr, end: Span) -> Result<Expr, AllocError>
+    ensures { IfOk result (λ e. term_view e ≡ spec.put_of (term_view x) (term_view key) (term_view v) end) }
+{
+    let span = hull(span_of(&x), end);
+    Ok(Expr::Put {
+        x: Box::new(alloc, x)?,
+        key: Box::new(alloc, key)?,
+        v: Box::new(alloc, v)?,
+        span,
+    })
+}
+
+pub fn operation_of(
+    alloc: Global,
+    op: Keyword,
+    start: Span,
+    x: Expr,
+    y: Expr,
+    end: Span,
+) -> Result<Expr, AllocError>
+    ensures { IfOk result (λ e. term_view e ≡ spec.operation_of op start (term_view x) (term_view y) end) }
+{
+    Ok(Expr::Op {
+        op,
+        x: Box::new(alloc, x)?,
+        y: Box::new(alloc, y)?,
+        span: hull(start, end),
+    })
+}
+
+pub fn cast_of(
+    alloc: Global,
+    op: Keyword,
+    start: Span,
+    x: Expr,
+    to: Num,
+    end: Span,
+) -> Result<Expr, AllocError>
+    ensures { IfOk result (λ e. term_view e ≡ spec.cast_of op start (term_view x) to end) }
+{
+    Ok(Expr::Cast {
+        op,
+        x: Box::new(alloc, x)?,
+        to,
+        span: hull(start, end),
+    })
+}
+
+pub fn arm_of(pat: Pat, body: Expr, end: Span) -> Arm
+    ensures { arm_view result ≡ spec.arm_of (pattern_view pat) (term_view body) end }
+{
+    let span = hull(pattern_span(&pat), end);
+    Arm { pat, body, span }
+}
+
+pub fn match_of(
+    alloc: Global,
+    start: Span,
+    x: Expr,
+    arms: Vec<Arm>,
+    end: Span,
+) -> Result<Expr, AllocError>
+    ensures { IfOk result (λ e. term_view e ≡ spec.match_of start (term_view x) (map arm_view arms.items) end) }
+{
+    Ok(Expr::Match {
+        x: Box::new(alloc, x)?,
+        arms,
+        span: hull(start, end),
+    })
+}
+
+pub fn paren_of(alloc: Global, start: Span, x: Expr, end: Span) -> Result<Expr, AllocError>
+    ensures { IfOk result (λ e. term_view e ≡ spec.paren_of start (term_view x) end) }
+{
+    Ok(Expr::Paren {
+        x: Box::new(alloc, x)?,
+        span: hull(start, end),
+    })
+}
