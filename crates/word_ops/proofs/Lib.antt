@@ -1,0 +1,14 @@
+pub mod ArithmeticLaws
+pub mod BitLaws
+pub mod Bounds
+pub mod CastLaws
+pub mod DivisionLaws
+pub mod Fits
+pub mod Modular
+pub mod OrderLaws
+pub mod Powers
+pub mod ReadingLaws
+pub mod Readings
+pub mod ShiftLaws
+pub mod Wide
+pub mod Widths
