@@ -1,0 +1,6 @@
+pub mod Activation
+pub mod Laws
+pub mod Leaves
+pub mod Meaning
+pub mod Measure
+pub mod Rule
