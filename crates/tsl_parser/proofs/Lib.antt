@@ -17,5 +17,7 @@ pub mod Syntax
 pub mod TermsAgain
 pub mod TermsFound
 pub mod TokensFound
+pub mod Total
 pub mod Turns
 pub mod Unary
+pub mod Unique
