@@ -1,9 +1,8 @@
 -- Each list of tokens has a tree, a fault of syntax, or a token that is too deep.
 use Rattle.std.proofs.Common.{◌≡◌, ℕ, ◌⊎◌, inl, inr, List, refl, subst}
-use Rattle.std.specs.Prelude.{Result, Ok, Err}
+use Rattle.std.specs.Prelude.{Ok, Err}
 use Rattle.tsl_lexer.specs.declared.token.Token.{Token}
 use Rattle.tsl_parser.specs.Tree.{Tree, Item}
-use Rattle.tsl_parser.specs.State.{At}
 use Rattle.tsl_parser.specs.Parsing.{Outcome, place}
 use Rattle.tsl_parser.specs.ItemRules.{items}
 use Rattle.tsl_parser.specs.Grammar.{Items}

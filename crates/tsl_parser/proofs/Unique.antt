@@ -1,10 +1,9 @@
 -- A list of tokens has one tree, one place of a fault of syntax or one place that is too deep, and no two of these.
 use Rattle.std.proofs.Common.{◌≡◌, ℕ, List, [], refl, sym, ◌∙◌, ap}
-use Rattle.std.specs.Prelude.{Result, Ok, Err}
+use Rattle.std.specs.Prelude.{Ok, Err}
 use Rattle.tsl_lexer.specs.declared.token.Token.{Token}
 use Rattle.tsl_parser.specs.Tree.{Tree, Item}
-use Rattle.tsl_parser.specs.State.{At}
-use Rattle.tsl_parser.specs.Parsing.{Outcome, place}
+use Rattle.tsl_parser.specs.Parsing.{Outcome}
 use Rattle.tsl_parser.specs.ItemRules.{items}
 use Rattle.tsl_parser.specs.declared.reader.Fault.TheVariants.{TooDeep}
 use Rattle.tsl_parser.specs.Exact.{HasTree, IsDeepAt, IsSyntaxAt}

@@ -1,0 +1,9 @@
+mod Calls
+mod Decided
+mod Digits
+mod Exists
+mod Numbers
+mod Owing
+mod Sources
+mod Unique
+mod WordLists
