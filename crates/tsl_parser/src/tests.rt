@@ -117,7 +117,7 @@ fn levels(rt: HostRuntime) -> Result<(), Fail> {
         ("x", "", 1, "[x]", 255, "P2 at 791"),
         ("x", "", 1, "[x]", 254, "1 items"),
         ("let x = x in ", "x", 255, "", 0, "1 items"),
-        ("let x = x in ", "x", 256, "", 0, "P2 at 3355"),
+        ("let x = x in ", "x", 256, "", 0, "P2 at 3350"),
         ("match x with { A", "(A", 1, ") => x; }", 1, "1 items"),
     ] {
         let opened = repeated(rt.alloc(), head, piece, n, last)?;
