@@ -1,0 +1,15 @@
+pub mod Closure
+pub mod Dots
+pub mod Entries
+pub mod Forgets
+pub mod Growth
+pub mod Images
+pub mod Kept
+pub mod Leads
+pub mod Members
+pub mod Places
+pub mod Powers
+pub mod Ranks
+pub mod Spans
+pub mod Steps
+pub mod Store

@@ -1,0 +1,6 @@
+pub mod Forms
+pub mod Laws
+pub mod Rank
+pub mod Reduction
+pub mod Submodule
+pub mod Values
