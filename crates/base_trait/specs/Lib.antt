@@ -1,0 +1,7 @@
+pub mod Algebra
+pub mod Identity
+pub mod Laws
+pub mod Lists
+pub mod NoNotes
+pub mod Stamps
+pub mod Uses

@@ -1,0 +1,28 @@
+-- Stamps, and lists of them. The entry comes first, then addresses, ascending.
+use Rattle.std.specs.Prelude.{Bool, true, false, List, [], ◌∷◌, ◌==◌, nat_lt, IsTrue, ⊤}
+use Rattle.std.specs.List.{list_any}
+use Rattle.base_trait.specs.Lists.{Each}
+use Rattle.base_trait.specs.declared.uses.Stamped.{Stamped}
+use Rattle.base_trait.specs.declared.uses.Stamped.TheVariants.{Entry, At}
+
+-- whether both are one stamp
+abbrev pub same_stamp : Stamped → Stamped → Bool
+same_stamp Entry Entry = true
+same_stamp (At x) (At y) = x == y
+same_stamp _ _ = false
+
+-- whether the first comes before the second
+abbrev pub is_before : Stamped → Stamped → Bool
+is_before Entry Entry = false
+is_before Entry (At y) = true
+is_before (At x) Entry = false
+is_before (At x) (At y) = nat_lt x y
+
+-- whether the list has the stamp
+abbrev pub is_listed : List Stamped → Stamped → Bool
+is_listed xs s = list_any (λ x. same_stamp x s) xs
+
+-- each stamp comes before those after it
+abbrev pub AreAscending : List Stamped → Type 0
+AreAscending [] = ⊤
+AreAscending (s ∷ ss) = Each (λ t. IsTrue (is_before s t)) ss × AreAscending ss

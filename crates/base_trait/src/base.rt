@@ -1,0 +1,257 @@
+//! The trait of bases.
+
+ghost use Rattle.std.specs.Prelude.{◌≡◌, ◌++◌, ◌^◌, ◌<◌, ◌≤◌, ◌-◌, ℕ, min, IfOk, OnOk, if◌then◌else◌};
+ghost use Rattle.word_ops.specs.Width.{IsWidth};
+ghost use Rattle.base_trait.specs.Algebra.{Algebra};
+ghost use Rattle.base_trait.specs.Identity.{IsIdentity};
+ghost use Rattle.base_trait.specs.Laws.{IsExtension, Laws};
+ghost use Rattle.base_trait.specs.Lists.{IsGrown, items_of};
+ghost use Rattle.base_trait.specs.Uses.{uses_of};
+
+use super::tri::Tri;
+use super::uses::Log;
+use std::alloc::{AllocError as NoMemory, Global};
+use std::fmt::Debug;
+use std::hash::Hash;
+use word_ops::{Cmp, Op1, Op2};
+
+/// Abstract words of 1 to 64 bits, and notes of where a cell's value came from.
+///
+/// `algebra` has the value of each call as a function, and what words and notes stand for; `laws` are
+/// what every user may rest on. Widths are in bits. A word that is lent with a width fits it.
+pub trait Base {
+    type Word: Eq + Hash + Debug + Drop;
+
+    type Note: Eq + Hash + Debug + Drop;
+
+    /// What the words of one analysis share.
+    type Ctx: Drop;
+
+    ghost CAP: { ℕ };
+
+    /// How many cells a map may list.
+    const CAP: u64;
+
+    ghost algebra: { Algebra Self.Word Self.Note Self.Ctx };
+
+    /// The word of one number.
+    fn constant(alloc: Global, ctx: &Self::Ctx, w: u32, v: u64) -> Result<Self::Word, NoMemory>
+        requires width { IsWidth w }
+        requires number { v < 2 ^ w }
+        ensures value { IfOk result (λ r. r ≡ algebra.words.constant ctx.now w v) }
+        ensures fits { IfOk result (λ r. algebra.words.fits ctx.now w r) };
+
+    /// The word of every number; of a base that does not join, 0.
+    fn any(alloc: Global, ctx: &Self::Ctx, w: u32) -> Result<Self::Word, NoMemory>
+        requires width { IsWidth w }
+        ensures value { IfOk result (λ r. r ≡ algebra.words.any ctx.now w) }
+        ensures fits { IfOk result (λ r. algebra.words.fits ctx.now w r) };
+
+    /// A word of the numbers from `low` to `high`; of a base that does not join, `low`.
+    fn range(
+        alloc: Global,
+        ctx: &Self::Ctx,
+        w: u32,
+        low: u64,
+        high: u64,
+    ) -> Result<Self::Word, NoMemory>
+        requires width { IsWidth w }
+        requires order { low ≤ high }
+        requires number { high < 2 ^ w }
+        ensures value { IfOk result (λ r. r ≡ algebra.words.range ctx.now w low high) }
+        ensures fits { IfOk result (λ r. algebra.words.fits ctx.now w r) };
+
+    /// An operation on one word.
+    fn op1(
+        alloc: Global,
+        ctx: &Self::Ctx,
+        op: Op1,
+        w: u32,
+        x: &Self::Word,
+    ) -> Result<Self::Word, NoMemory>
+        requires width { IsWidth w }
+        requires word { algebra.words.fits ctx.now w x.now }
+        ensures value { IfOk result (λ r. r ≡ algebra.words.op1 ctx.now op w x.now) }
+        ensures fits { IfOk result (λ r. algebra.words.fits ctx.now w r) };
+
+    /// An operation on two words.
+    fn op2(
+        alloc: Global,
+        ctx: &Self::Ctx,
+        op: Op2,
+        w: u32,
+        x: &Self::Word,
+        y: &Self::Word,
+    ) -> Result<Self::Word, NoMemory>
+        requires width { IsWidth w }
+        requires left { algebra.words.fits ctx.now w x.now }
+        requires right { algebra.words.fits ctx.now w y.now }
+        ensures value { IfOk result (λ r. r ≡ algebra.words.op2 ctx.now op w x.now y.now) }
+        ensures fits { IfOk result (λ r. algebra.words.fits ctx.now w r) };
+
+    /// A comparison of two words: which truth values it may have.
+    fn cmp(ctx: &Self::Ctx, c: Cmp, w: u32, x: &Self::Word, y: &Self::Word) -> Tri
+        requires width { IsWidth w }
+        requires left { algebra.words.fits ctx.now w x.now }
+        requires right { algebra.words.fits ctx.now w y.now }
+        ensures value { result ≡ algebra.words.cmp ctx.now c w x.now y.now };
+
+    /// Zero extension.
+    fn zext(
+        alloc: Global,
+        ctx: &Self::Ctx,
+        from: u32,
+        to: u32,
+        x: &Self::Word,
+    ) -> Result<Self::Word, NoMemory>
+        requires widths { IsExtension from to }
+        requires word { algebra.words.fits ctx.now from x.now }
+        ensures value { IfOk result (λ r. r ≡ algebra.words.zext ctx.now from to x.now) }
+        ensures fits { IfOk result (λ r. algebra.words.fits ctx.now to r) };
+
+    /// Sign extension.
+    fn sext(
+        alloc: Global,
+        ctx: &Self::Ctx,
+        from: u32,
+        to: u32,
+        x: &Self::Word,
+    ) -> Result<Self::Word, NoMemory>
+        requires widths { IsExtension from to }
+        requires word { algebra.words.fits ctx.now from x.now }
+        ensures value { IfOk result (λ r. r ≡ algebra.words.sext ctx.now from to x.now) }
+        ensures fits { IfOk result (λ r. algebra.words.fits ctx.now to r) };
+
+    /// Truncation to the lowest bits.
+    fn trunc(
+        alloc: Global,
+        ctx: &Self::Ctx,
+        from: u32,
+        to: u32,
+        x: &Self::Word,
+    ) -> Result<Self::Word, NoMemory>
+        requires widths { IsExtension to from }
+        requires word { algebra.words.fits ctx.now from x.now }
+        ensures value { IfOk result (λ r. r ≡ algebra.words.trunc ctx.now from to x.now) }
+        ensures fits { IfOk result (λ r. algebra.words.fits ctx.now to r) };
+
+    /// A word of the numbers of both.
+    fn join(
+        alloc: Global,
+        ctx: &Self::Ctx,
+        w: u32,
+        x: &Self::Word,
+        y: &Self::Word,
+    ) -> Result<Self::Word, NoMemory>
+        requires width { IsWidth w }
+        requires left { algebra.words.fits ctx.now w x.now }
+        requires right { algebra.words.fits ctx.now w y.now }
+        ensures value { IfOk result (λ r. r ≡ algebra.words.join ctx.now w x.now y.now) }
+        ensures fits { IfOk result (λ r. algebra.words.fits ctx.now w r) };
+
+    /// A word of the numbers of both, such that no chain of widenings grows for ever.
+    fn widen(
+        alloc: Global,
+        ctx: &Self::Ctx,
+        w: u32,
+        old: &Self::Word,
+        new: &Self::Word,
+    ) -> Result<Self::Word, NoMemory>
+        requires width { IsWidth w }
+        requires left { algebra.words.fits ctx.now w old.now }
+        requires right { algebra.words.fits ctx.now w new.now }
+        ensures value { IfOk result (λ r. r ≡ algebra.words.widen ctx.now w old.now new.now) }
+        ensures fits { IfOk result (λ r. algebra.words.fits ctx.now w r) };
+
+    /// Whether `old` takes in all that `new` stands for, as far as the base can tell.
+    fn absorbs(ctx: &Self::Ctx, w: u32, old: &Self::Word, new: &Self::Word) -> bool
+        requires width { IsWidth w }
+        requires left { algebra.words.fits ctx.now w old.now }
+        requires right { algebra.words.fits ctx.now w new.now }
+        ensures value { result ≡ algebra.words.absorbs ctx.now w old.now new.now };
+
+    /// What falls where a word is widened and changes; 2^64 - 1 where it is more than that.
+    fn rank(ctx: &Self::Ctx, w: u32, x: &Self::Word) -> u64
+        requires width { IsWidth w }
+        requires word { algebra.words.fits ctx.now w x.now }
+        ensures value { result ≡ min (algebra.words.rank ctx.now w x.now) (2 ^ 64 - 1) };
+
+    /// The number of a word that can have no other.
+    fn exact(ctx: &Self::Ctx, w: u32, x: &Self::Word) -> Option<u64>
+        requires width { IsWidth w }
+        requires word { algebra.words.fits ctx.now w x.now }
+        ensures value { result ≡ algebra.words.exact ctx.now w x.now };
+
+    /// Whether the word may be `k`.
+    fn may(ctx: &Self::Ctx, w: u32, x: &Self::Word, k: u64) -> bool
+        requires width { IsWidth w }
+        requires word { algebra.words.fits ctx.now w x.now }
+        ensures value { result ≡ algebra.words.may ctx.now w x.now k };
+
+    /// The numbers that the word may be, ascending, or none where it has more than `limit` members.
+    fn members(
+        alloc: Global,
+        ctx: &Self::Ctx,
+        w: u32,
+        x: &Self::Word,
+        limit: u32,
+    ) -> Result<Option<Vec<u64>>, NoMemory>
+        requires width { IsWidth w }
+        requires word { algebra.words.fits ctx.now w x.now }
+        ensures value { IfOk result (λ r. items_of r ≡ algebra.words.members ctx.now w x.now limit) };
+
+    /// The same word once more.
+    fn copy(alloc: Global, ctx: &Self::Ctx, x: &Self::Word) -> Result<Self::Word, NoMemory>
+        ensures value { IfOk result (λ r. r ≡ x.now) };
+
+    /// The note of a cell that no instruction has written.
+    fn entry_note(alloc: Global) -> Result<Self::Note, NoMemory>
+        ensures value { IfOk result (λ r. r ≡ algebra.notes.entry) };
+
+    /// The note of a cell that the instruction at `at` has written.
+    fn stamp_note(alloc: Global, at: u32) -> Result<Self::Note, NoMemory>
+        ensures value { IfOk result (λ r. r ≡ algebra.notes.at at) };
+
+    /// A note of the stamps of both.
+    fn join_note(alloc: Global, x: &Self::Note, y: &Self::Note) -> Result<Self::Note, NoMemory>
+        ensures value { IfOk result (λ r. r ≡ algebra.notes.join x.now y.now) };
+
+    /// A note of the stamps of both, such that no chain of widenings grows for ever.
+    fn widen_note(alloc: Global, old: &Self::Note, new: &Self::Note) -> Result<Self::Note, NoMemory>
+        ensures value { IfOk result (λ r. r ≡ algebra.notes.widen old.now new.now) };
+
+    /// Whether `old` takes in all stamps of `new`.
+    fn absorbs_note(old: &Self::Note, new: &Self::Note) -> bool
+        ensures value { result ≡ algebra.notes.absorbs old.now new.now };
+
+    /// The same note once more.
+    fn copy_note(alloc: Global, x: &Self::Note) -> Result<Self::Note, NoMemory>
+        ensures value { IfOk result (λ r. r ≡ x.now) };
+
+    /// The same context once more.
+    fn copy_ctx(alloc: Global, ctx: &Self::Ctx) -> Result<Self::Ctx, NoMemory>
+        ensures value { IfOk result (λ r. r ≡ ctx.now) };
+
+    /// Adds a read of a map at a key, or at any key, to the log. Where memory runs out a front of it
+    /// may have been added.
+    fn on_read(
+        alloc: Global,
+        log: &mut Log,
+        map: u32,
+        key: Option<u64>,
+        note: &Self::Note,
+    ) -> Result<(), NoMemory>
+        ensures value { OnOk result (uses_of log.new ≡ uses_of log.old ++ algebra.notes.reads map key note.now) }
+        ensures kept { IsGrown (uses_of log.old) (uses_of log.new) };
+
+    /// A base that joins lists at most 256 cells of a map. One that does not has a key for each.
+    ghost capacity: { CAP ≡ (if algebra.joins then 256 else 2 ^ 32) };
+
+    ghost laws: { Laws Self.Word Self.Note Self.Ctx algebra };
+
+    /// Equal words are the same word.
+    ghost same_words: { IsIdentity Self.Word.eq };
+
+    /// Equal notes are the same note.
+    ghost same_notes: { IsIdentity Self.Note.eq };
+}

@@ -1,0 +1,31 @@
+//! What stands for machine words in an analysis: the trait `Base`, its laws, and the log of reads.
+//!
+//! An instruction set is described by a program over words. An analysis runs the same program over
+//! abstract words, each of which stands for a set of numbers (abstract interpretation: Cousot and
+//! Cousot, POPL 1977; Lim and Reps, "TSL", TOPLAS 35(1), 2013). A base is a kind of such words: one
+//! number, a small set, an interval, a form over the values that registers began with. Beside its
+//! word a cell of a map has a note, which may tell the places that wrote it.
+//!
+//! *What a base is.* Its operations are functions, kept in one record (specs/Algebra): `words` for
+//! words over the contexts of the analysis, `notes` for notes. `describes` says which numbers a word stands
+//! for in a world, the list of the numbers that the tracked cells had before the instruction; only words
+//! that are forms look at it. `fits` says that a word is one of a width.
+//!
+//! *What every user may rest on* (specs/Laws). Operations describe the results on each numbers that their
+//! operands describe: `{1, 2} + {3}` has to describe 4 and 5. `join` and `widen` describe what either side does;
+//! `absorbs` is reflexive and transitive, and what absorbs describes all that the other describes.
+//! Widening keeps the old word where it absorbs the new one, and else the word's rank falls, so that
+//! each chain of widenings ends: an interval [3, 5] that meets [3, 6] becomes [3, 2^w - 1], whose rank is
+//! 1 in place of 2. A note's rank is counted by any list of stamps that has all stamps at hand.
+//!
+//! *What no law says*: how precise an operation is. Each instance says in its own contracts which value
+//! its calls give.
+#![tactic(auto)]
+
+mod base;
+mod tri;
+mod uses;
+
+pub use base::Base;
+pub use tri::Tri;
+pub use uses::{Log, Stamped, Use};

@@ -1,0 +1,74 @@
+//! Definitions and uses of cells (reaching definitions, as in Aho, Lam, Sethi and Ullman,
+//! "Compilers", section 9.2).
+
+ghost use Rattle.std.specs.Prelude.{◌≡◌, ◌++◌, [], ◌∷◌, OnOk, OnErr};
+ghost use Rattle.base_trait.specs.Stamps.{is_before, same_stamp};
+ghost use Rattle.base_trait.specs.Uses.{uses_of};
+
+use std::alloc::{AllocError as NoMemory, Global};
+
+/// Where the value of a cell came from: the state at the entry, or the instruction at an address.
+#[derive(Clone, Copy, Debug, PartialEq, Eq, PartialOrd, Ord, Hash)]
+pub enum Stamped {
+    Entry,
+    At(u32),
+}
+
+impl Stamped {
+    /// Whether both are one stamp.
+    pub fn is_same(self, other: Stamped) -> bool
+        ensures { result ≡ same_stamp self other }
+    {
+        match (self, other) {
+            (Stamped::Entry, Stamped::Entry) => true,
+            (Stamped::At(x), Stamped::At(y)) => x == y,
+            _ => false,
+        }
+    }
+
+    /// Whether this stamp is listed before the other: the entry first, then addresses ascending.
+    pub fn is_before(self, other: Stamped) -> bool
+        ensures { result ≡ is_before self other }
+    {
+        match (self, other) {
+            (Stamped::Entry, Stamped::At(_y)) => true,
+            (Stamped::At(x), Stamped::At(y)) => x < y,
+            _ => false,
+        }
+    }
+}
+
+/// An instruction's read of a map: the map's number, the key, or none where it may be any of several,
+/// and the stamps that the cell may have.
+#[derive(Debug, Drop)]
+pub struct Use {
+    pub map: u32,
+    pub key: Option<u64>,
+    pub from: Vec<Stamped>,
+}
+
+/// The reads so far, in their order.
+#[derive(Debug, Drop)]
+pub struct Log {
+    pub uses: Vec<Use>,
+}
+
+impl Log {
+    /// A log of no reads.
+    pub fn new(alloc: Global) -> Log
+        ensures { uses_of result ≡ [] }
+    {
+        Log {
+            uses: Vec::new(alloc),
+        }
+    }
+
+    /// Adds a use at the end. Where memory runs out the log stays as it was.
+    pub fn record(&mut self, map: u32, key: Option<u64>, from: Vec<Stamped>) -> Result<(), NoMemory>
+        ensures value { OnOk result (uses_of self.new ≡ uses_of self.old ++ (record { of_map = map; key = key; stamps = from.items }) ∷ []) }
+        ensures error { OnErr result (uses_of self.new ≡ uses_of self.old) }
+    {
+        self.uses.push(Use { map, key, from })?;
+        Ok(())
+    }
+}
