@@ -1,0 +1,270 @@
+//! The base of small sets.
+
+use super::changes::Change;
+use super::operations::{both, image, product};
+use super::reading::{all, are_among, compare, copy_of, is_among};
+use super::set::Set;
+use base_trait::{Base, Log, Tri};
+use std::alloc::{AllocError as NoMemory, Global};
+use word_ops::{Cmp, Op1, Op2};
+
+/// At most `K` numbers, or any; of definitions nothing is told. But for lists of members it takes no
+/// memory.
+pub struct KSet<const K: usize>;
+
+impl<const K: usize> Base for KSet<K> {
+    ghost use Rattle.std.specs.Prelude.{◌≡◌, ◌∷◌, [], ◌<◌, ◌≤◌, ◌^◌, ℕ, IfOk, IsOk, refl, None, if◌then◌else◌};
+    ghost use Rattle.std.proofs.Common.{rules};
+    ghost use Rattle.std.specs.Cmp.Rules.{comparing};
+    ghost use Rattle.word_ops.specs.Op1.{op1_of};
+    ghost use Rattle.word_ops.specs.Op2.{op2_of};
+    ghost use Rattle.word_ops.specs.Casts.{zext_of, sext_of, trunc_of};
+    ghost use Rattle.word_ops.specs.Width.{IsWidth};
+    ghost use Rattle.base_trait.specs.Laws.{IsExtension};
+    ghost use Rattle.kset_base.specs.Laws.{kset_laws};
+    ghost use Rattle.kset_base.specs.Meaning.{absorbs_set, Fits, kset};
+    ghost use Rattle.kset_base.specs.Same.{same_set_is};
+    ghost use Rattle.kset_base.specs.Sets.{bounded, from_to, images, products, union};
+
+    type Word = Set<K>;
+
+    type Note = ();
+
+    type Ctx = ();
+
+    const CAP: u64 = 256;
+
+    ghost CAP = { 256 };
+
+    ghost algebra = { kset K };
+
+    /// The set of one number, or any where K is 0.
+    fn constant(_alloc: Global, _ctx: &(), w: u32, v: u64) -> Result<Set<K>, NoMemory>
+        requires width { IsWidth w }
+        requires number { v < 2 ^ w }
+        ensures value { IfOk result (λ r. r ≡ bounded K (v ∷ [])) }
+        ensures fits { IfOk result (λ r. Fits K w r) }
+        ensures ok { IsOk result }
+    {
+        let mut out = Set::none();
+        out.add(v);
+        Ok(out)
+    }
+
+    fn any(_alloc: Global, _ctx: &(), w: u32) -> Result<Set<K>, NoMemory>
+        requires width { IsWidth w }
+        ensures value { IfOk result (λ r. r ≡ None) }
+        ensures fits { IfOk result (λ r. Fits K w r) }
+        ensures ok { IsOk result }
+    {
+        Ok(Set::any())
+    }
+
+    /// The numbers from `low` to `high`, or any where they are more than K.
+    fn range(_alloc: Global, _ctx: &(), w: u32, low: u64, high: u64) -> Result<Set<K>, NoMemory>
+        requires width { IsWidth w }
+        requires order { low ≤ high }
+        requires number { high < 2 ^ w }
+        ensures value { IfOk result (λ r. r ≡ from_to K low high) }
+        ensures fits { IfOk result (λ r. Fits K w r) }
+        ensures ok { IsOk result }
+    {
+        Ok(Set::from_to(low, high))
+    }
+
+    /// The set of all results, or any where they are more than K: best among words.
+    fn op1(_alloc: Global, _ctx: &(), op: Op1, w: u32, x: &Set<K>) -> Result<Set<K>, NoMemory>
+        requires width { IsWidth w }
+        requires word { Fits K w x.now }
+        ensures value { IfOk result (λ r. r ≡ images K (op1_of op w) x.now) }
+        ensures fits { IfOk result (λ r. Fits K w r) }
+        ensures ok { IsOk result }
+    {
+        Ok(image(Change::Operation { op, w }, x))
+    }
+
+    /// The set of all results, or any where they are more than K: best among words. `{1, 2} + {3, 4}`
+    /// is `{4, 5, 6}`.
+    fn op2(
+        _alloc: Global,
+        _ctx: &(),
+        op: Op2,
+        w: u32,
+        x: &Set<K>,
+        y: &Set<K>,
+    ) -> Result<Set<K>, NoMemory>
+        requires width { IsWidth w }
+        requires left { Fits K w x.now }
+        requires right { Fits K w y.now }
+        ensures value { IfOk result (λ r. r ≡ products K (op2_of op w) x.now y.now) }
+        ensures fits { IfOk result (λ r. Fits K w r) }
+        ensures ok { IsOk result }
+    {
+        Ok(product(op, w, x, y))
+    }
+
+    /// The truth values of all pairs; of any, both. `{1, 9} < {5}` may be both.
+    fn cmp(_ctx: &(), c: Cmp, w: u32, x: &Set<K>, y: &Set<K>) -> Tri {
+        compare(c, w, x, y)
+    }
+
+    fn zext(_alloc: Global, _ctx: &(), from: u32, to: u32, x: &Set<K>) -> Result<Set<K>, NoMemory>
+        requires widths { IsExtension from to }
+        requires word { Fits K from x.now }
+        ensures value { IfOk result (λ r. r ≡ images K (zext_of from to) x.now) }
+        ensures fits { IfOk result (λ r. Fits K to r) }
+        ensures ok { IsOk result }
+    {
+        Ok(image(Change::Zero { from, to }, x))
+    }
+
+    fn sext(_alloc: Global, _ctx: &(), from: u32, to: u32, x: &Set<K>) -> Result<Set<K>, NoMemory>
+        requires widths { IsExtension from to }
+        requires word { Fits K from x.now }
+        ensures value { IfOk result (λ r. r ≡ images K (sext_of from to) x.now) }
+        ensures fits { IfOk result (λ r. Fits K to r) }
+        ensures ok { IsOk result }
+    {
+        Ok(image(Change::Sign { from, to }, x))
+    }
+
+    fn trunc(_alloc: Global, _ctx: &(), from: u32, to: u32, x: &Set<K>) -> Result<Set<K>, NoMemory>
+        requires widths { IsExtension to from }
+        requires word { Fits K from x.now }
+        ensures value { IfOk result (λ r. r ≡ images K (trunc_of from to) x.now) }
+        ensures fits { IfOk result (λ r. Fits K to r) }
+        ensures ok { IsOk result }
+    {
+        Ok(image(Change::Cut { from, to }, x))
+    }
+
+    /// The union, or any where it has more than K numbers.
+    fn join(_alloc: Global, _ctx: &(), w: u32, x: &Set<K>, y: &Set<K>) -> Result<Set<K>, NoMemory>
+        requires width { IsWidth w }
+        requires left { Fits K w x.now }
+        requires right { Fits K w y.now }
+        ensures value { IfOk result (λ r. r ≡ union K x.now y.now) }
+        ensures fits { IfOk result (λ r. Fits K w r) }
+        ensures ok { IsOk result }
+    {
+        Ok(both(x, y))
+    }
+
+    /// The old set where it has the numbers of the new one, else any.
+    fn widen(
+        _alloc: Global,
+        ctx: &(),
+        w: u32,
+        old: &Set<K>,
+        new: &Set<K>,
+    ) -> Result<Set<K>, NoMemory>
+        requires width { IsWidth w }
+        requires left { Fits K w old.now }
+        requires right { Fits K w new.now }
+        ensures value { IfOk result (λ r. r ≡ (if absorbs_set old.now new.now then old.now else None)) }
+        ensures fits { IfOk result (λ r. Fits K w r) }
+        ensures ok { IsOk result }
+    {
+        if Self::absorbs(ctx, w, old, new) {
+            Ok(old.copy())
+        } else {
+            Ok(Set::any())
+        }
+    }
+
+    fn absorbs(_ctx: &(), _w: u32, old: &Set<K>, new: &Set<K>) -> bool {
+        match (old.listed(), new.listed()) {
+            (None, _) => true,
+            (Some(_numbers), None) => false,
+            (Some(numbers), Some(others)) => are_among(numbers, others),
+        }
+    }
+
+    fn rank(_ctx: &(), _w: u32, x: &Set<K>) -> u64 {
+        if x.is_any() { 0 } else { 1 }
+    }
+
+    fn exact(_ctx: &(), _w: u32, x: &Set<K>) -> Option<u64> {
+        match x.listed() {
+            Some([number]) => Some(*number),
+            _ => None,
+        }
+    }
+
+    fn may(_ctx: &(), _w: u32, x: &Set<K>, k: u64) -> bool {
+        match x.listed() {
+            Some(numbers) => is_among(numbers, k),
+            None => true,
+        }
+    }
+
+    fn members(
+        alloc: Global,
+        _ctx: &(),
+        w: u32,
+        x: &Set<K>,
+        limit: u32,
+    ) -> Result<Option<Vec<u64>>, NoMemory> {
+        let Some(numbers) = x.listed() else {
+            return all(alloc, w, limit);
+        };
+        if numbers.len() <= limit as usize {
+            Ok(Some(copy_of(alloc, numbers)?))
+        } else {
+            Ok(None)
+        }
+    }
+
+    fn copy(_alloc: Global, _ctx: &(), x: &Set<K>) -> Result<Set<K>, NoMemory>
+        ensures value { IfOk result (λ r. r ≡ x.now) }
+        ensures ok { IsOk result }
+    {
+        Ok(x.copy())
+    }
+
+    fn entry_note(_alloc: Global) -> Result<(), NoMemory> {
+        Ok(())
+    }
+
+    fn stamp_note(_alloc: Global, _at: u32) -> Result<(), NoMemory> {
+        Ok(())
+    }
+
+    fn join_note(_alloc: Global, _x: &(), _y: &()) -> Result<(), NoMemory> {
+        Ok(())
+    }
+
+    fn widen_note(_alloc: Global, _old: &(), _new: &()) -> Result<(), NoMemory> {
+        Ok(())
+    }
+
+    fn absorbs_note(_old: &(), _new: &()) -> bool {
+        true
+    }
+
+    fn copy_note(_alloc: Global, _x: &()) -> Result<(), NoMemory> {
+        Ok(())
+    }
+
+    fn copy_ctx(_alloc: Global, _ctx: &()) -> Result<(), NoMemory> {
+        Ok(())
+    }
+
+    fn on_read(
+        _alloc: Global,
+        _log: &mut Log,
+        _map: u32,
+        _key: Option<u64>,
+        _note: &(),
+    ) -> Result<(), NoMemory> {
+        Ok(())
+    }
+
+    ghost capacity = { refl };
+
+    ghost laws = { kset_laws K };
+
+    ghost same_words = { same_set_is };
+
+    ghost same_notes = { λ x y e. Prim.search (comparing, rules) };
+}
