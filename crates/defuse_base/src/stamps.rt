@@ -1,0 +1,110 @@
+//! Sets of stamps.
+
+ghost use Rattle.std.specs.Prelude.{◌≡◌, ◌∷◌, [], IfOk};
+ghost use Rattle.base_trait.specs.Stamps.{AreAscending};
+ghost use Rattle.defuse_base.specs.Laws.{same_notes};
+ghost use Rattle.defuse_base.specs.Notes.{union};
+
+use super::union::united;
+use base_trait::Stamped;
+use std::alloc::{AllocError as NoMemory, Global};
+use std::hash::{Hash, Hasher};
+use std::marker::Model;
+
+/// A set of stamps: the entry first, then addresses, ascending.
+#[derive(Debug, Drop)]
+pub struct Stamps {
+    items: Vec<Stamped>,
+}
+
+impl Model for Stamps {
+    ghost use Rattle.std.specs.Prelude.{List};
+    ghost use Rattle.base_trait.specs.Stamps.{AreAscending};
+    ghost use Rattle.base_trait.specs.declared.uses.Stamped.{Stamped};
+
+    ghost Value = { List Stamped };
+
+    ghost view = { λ s. s.items.items };
+
+    ghost invariant = { λ s. AreAscending s.items.items };
+}
+
+impl PartialEq for Stamps {
+    ghost use Rattle.defuse_base.specs.Laws.{same_notes, same_notes_partial};
+
+    ghost eq = { same_notes };
+
+    ghost laws = { same_notes_partial };
+
+    fn eq(&self, other: &Stamps) -> bool {
+        are_same(self.items(), other.items())
+    }
+}
+
+impl Eq for Stamps {
+    ghost use Rattle.defuse_base.specs.Laws.{same_notes_equiv};
+
+    ghost laws = { same_notes_equiv };
+}
+
+impl Hash for Stamps {
+    ghost use Rattle.std.proofs.Common.{ap};
+    ghost use Rattle.std.specs.Hash as fed;
+    ghost use Rattle.defuse_base.specs.Laws.{same_notes_is};
+
+    ghost hash_input = { λ s. fed.slice ⟦<Stamped as Hash>⟧.hash_input s };
+
+    ghost respects_eq = { λ x y e. ap (λ s. fed.slice ⟦<Stamped as Hash>⟧.hash_input s) (same_notes_is x y e) };
+
+    fn hash<H: Hasher>(&self, state: &mut H) {
+        self.items().hash(state);
+    }
+}
+
+impl Stamps {
+    /// The stamps, in their order.
+    pub fn items(&self) -> &[Stamped]
+        ensures value { result.now ≡ self.now }
+        ensures ascending { AreAscending result.now }
+    {
+        self.items.as_slice()
+    }
+
+    /// The set of one stamp.
+    pub(crate) fn one(alloc: Global, stamp: Stamped) -> Result<Stamps, NoMemory>
+        ensures { IfOk result (λ r. r ≡ stamp ∷ []) }
+    {
+        let items = vec![in alloc; stamp]?;
+        Ok(Stamps { items })
+    }
+
+    /// The stamps of both.
+    pub(crate) fn union(alloc: Global, x: &Stamps, y: &Stamps) -> Result<Stamps, NoMemory>
+        ensures { IfOk result (λ r. r ≡ union x.now y.now) }
+    {
+        let items = united(alloc, x.items(), y.items())?;
+        Ok(Stamps { items })
+    }
+
+    /// The same set once more.
+    pub(crate) fn copy(alloc: Global, x: &Stamps) -> Result<Stamps, NoMemory>
+        ensures { IfOk result (λ r. r ≡ x.now) }
+    {
+        let items = united(alloc, x.items(), &[])?;
+        Ok(Stamps { items })
+    }
+}
+
+fn are_same(xs: &[Stamped], ys: &[Stamped]) -> bool
+    ensures { result ≡ same_notes xs.now ys.now }
+{
+    if xs.len() != ys.len() {
+        return false;
+    }
+    for i in 0..xs.len() {
+        if !xs[i].is_same(ys[i]) {
+            return false;
+        }
+    }
+    true
+}

@@ -1,0 +1,81 @@
+//! Unions of lists of stamps.
+
+ghost use Rattle.std.specs.Prelude.{◌≡◌, ◌≤◌, length, IfOk, OnOk};
+ghost use Rattle.std.specs.List.{insert};
+ghost use Rattle.base_trait.specs.Stamps.{AreAscending, is_listed};
+ghost use Rattle.defuse_base.specs.Notes.{has_all, placed, union, with_stamp};
+
+use base_trait::Stamped;
+use std::alloc::{AllocError as NoMemory, Global};
+
+/// The stamps of both lists.
+pub(crate) fn united(
+    alloc: Global,
+    xs: &[Stamped],
+    ys: &[Stamped],
+) -> Result<Vec<Stamped>, NoMemory>
+    ensures value { IfOk result (λ r. r.items ≡ union xs.now ys.now) }
+{
+    let mut out = copied(alloc, xs)?;
+    for y in ys {
+        add(&mut out, *y)?;
+    }
+    Ok(out)
+}
+
+pub(crate) fn copied(alloc: Global, xs: &[Stamped]) -> Result<Vec<Stamped>, NoMemory>
+    ensures { IfOk result (λ r. r.items ≡ xs.now) }
+{
+    let mut out = Vec::new(alloc);
+    for x in xs {
+        out.push(*x)?;
+    }
+    Ok(out)
+}
+
+/// Puts a stamp in its place, unless it is there.
+fn add(items: &mut Vec<Stamped>, stamp: Stamped) -> Result<(), NoMemory>
+    ensures { OnOk result (items.new.items ≡ with_stamp items.old.items stamp) }
+{
+    if !is_among(items, stamp) {
+        let place = place_of(items, stamp);
+        items.insert(place, stamp)?;
+    }
+    Ok(())
+}
+
+/// Before which stamp this one comes.
+fn place_of(items: &[Stamped], stamp: Stamped) -> usize
+    ensures within { result ≤ length items.now }
+    ensures place { insert items.now result stamp ≡ placed stamp items.now }
+{
+    for i in 0..items.len() {
+        if stamp.is_before(items[i]) {
+            return i;
+        }
+    }
+    items.len()
+}
+
+fn is_among(items: &[Stamped], stamp: Stamped) -> bool
+    ensures { result ≡ is_listed items.now stamp }
+{
+    for x in items {
+        if x.is_same(stamp) {
+            return true;
+        }
+    }
+    false
+}
+
+/// Whether the first list has each stamp of the second.
+pub(crate) fn are_among(items: &[Stamped], others: &[Stamped]) -> bool
+    ensures { result ≡ has_all items.now others.now }
+{
+    for x in others {
+        if !is_among(items, *x) {
+            return false;
+        }
+    }
+    true
+}
