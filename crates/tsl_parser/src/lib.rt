@@ -49,6 +49,3 @@ pub fn parse(alloc: Global, tokens: &[Token], end: u32) -> Result<Tree, ParseErr
         Err(Fault::NoMemory) => Err(ParseError::NoMemory),
     }
 }
-
-#[cfg(test)]
-mod tests;

@@ -1,9 +1,9 @@
-use crate::tree::{Expr, Item, Pat, Span, Tree};
-use crate::{ParseError, parse};
 use std::alloc::{AllocError, Global};
 use std::process::Abort;
 use std::test::Fail;
 use tsl_lexer::{Keyword, Kind, Token, lex};
+use tsl_parser::tree::{Expr, Item, Pat, Span, Tree};
+use tsl_parser::{ParseError, parse};
 
 /// A machine of three instructions.
 const MACHINE: &str = "map Reg [INT2 -> INT32] default 0;
