@@ -1,7 +1,9 @@
 //! From the words to the text that they ask for.
 
-ghost use Rattle.std.specs.Prelude.{◌≡◌, ◌≤◌, IfErr, IsTrue, List, ℕ};
+ghost use Rattle.std.specs.Prelude.{◌≡◌, ◌≢◌, ◌≤◌, IfErr, IsTrue, List, OnOk, ℕ};
+ghost use Rattle.tsl_cli.specs.declared.status.Status.TheVariants as Status;
 ghost use Rattle.tsl_cli.specs.Answering.{IsOwed, IsUnread};
+ghost use Rattle.tsl_cli.specs.Refusals.{status_of};
 ghost use Rattle.tsl_cli.specs.Words.{asked, bad, call, not_built, texts};
 
 use crate::call::value_of_call;
@@ -26,6 +28,9 @@ pub fn answer<'a, I: Inputs>(
     ensures owed { IsTrue (I.tells inputs.old) → IsOwed (texts words.now) (I.held inputs.old) result }
     ensures unread { IfErr result
         (IsUnread (texts words.now) (I.sure inputs.old) (I.faults inputs.old) (I.faults inputs.new)) }
+    ensures no_fault { OnOk result (I.faults inputs.new ≡ I.faults inputs.old) }
+    ensures refused_without_fault { IfErr result (λ refusal. status_of refusal ≢ Status.ReadFault
+        → I.faults inputs.new ≡ I.faults inputs.old) }
 
     // Words that ask for nothing that is built are refused before any input is opened.
     ensures bad_words { asked (texts words.now) ≡ bad
@@ -58,6 +63,9 @@ fn answer_call<'a, I: Inputs>(
     ensures unread { (words : List (List ℕ))
         → asked words ≡ call spec.now fun.now (texts numbers.now)
         → IfErr result (IsUnread words (I.sure inputs.old) (I.faults inputs.old) (I.faults inputs.new)) }
+    ensures no_fault { OnOk result (I.faults inputs.new ≡ I.faults inputs.old) }
+    ensures refused_without_fault { IfErr result (λ refusal. status_of refusal ≢ Status.ReadFault
+        → I.faults inputs.new ≡ I.faults inputs.old) }
 {
     let source = read_source(alloc, inputs, spec)?;
     let tree = specification(alloc, &source)?;

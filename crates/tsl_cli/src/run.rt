@@ -61,6 +61,9 @@ pub fn run<I: Inputs, S: Sink>(
         (I.faults inputs.old) (I.faults inputs.new) text
         × Appended (S.tells sink.old) (S.written sink.old) (S.written sink.new) text }
 
+    // Where a run comes to an answer, no fault of an input was counted.
+    ensures no_fault { IsAnswer result → I.faults inputs.new ≡ I.faults inputs.old }
+
     // A fault of the sink has its cause in this call. It comes only where the text that is due has
     // no room, and a front of that text is written.
     ensures write_fault { result ≡ Status.WriteFault → Rose (S.faults sink.old) (S.faults sink.new) }
@@ -113,6 +116,8 @@ fn report_for<I: Inputs>(
     ensures unread { IfOk result (λ report. report.status ≡ Status.ReadFault
         → Unread (texts words.now) (I.sure inputs.old) (I.faults inputs.old) (I.faults inputs.new)
         (string_bytes report.text)) }
+    ensures no_fault { IfOk result (λ report. report.status ≢ Status.ReadFault
+        → I.faults inputs.new ≡ I.faults inputs.old) }
     ensures not_write_fault { IfOk result (λ report. report.status ≢ Status.WriteFault) }
     ensures not_no_memory { IfOk result (λ report. report.status ≢ Status.NoMemory) }
 

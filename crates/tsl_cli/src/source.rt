@@ -1,6 +1,8 @@
 //! From the name of a specification to its tree.
 
-ghost use Rattle.std.specs.Prelude.{◌≡◌, ◌≤◌, IfErr, IfOk, IsTrue, length};
+ghost use Rattle.std.specs.Prelude.{◌≡◌, ◌≢◌, ◌≤◌, IfErr, IfOk, IsTrue, OnOk, length};
+ghost use Rattle.tsl_cli.specs.declared.status.Status.TheVariants as Status;
+ghost use Rattle.tsl_cli.specs.Refusals.{status_of};
 ghost use Rattle.tsl_cli.specs.Reading.{IsReadRefusal, Specifies};
 ghost use Rattle.tsl_cli.specs.Sources.{source_cap};
 
@@ -32,6 +34,9 @@ pub fn read_source<'a, I: Inputs>(
     ensures refused { IfErr result
         (IsReadRefusal (I.tells inputs.old) (I.held inputs.old) (I.sure inputs.old)
         (I.faults inputs.old) (I.faults inputs.new) name.now) }
+    ensures no_fault { OnOk result (I.faults inputs.new ≡ I.faults inputs.old) }
+    ensures refused_without_fault { IfErr result (λ refusal. status_of refusal ≢ Status.ReadFault
+        → I.faults inputs.new ≡ I.faults inputs.old) }
 {
     match read_whole(alloc, inputs, name, SOURCE_CAP) {
         Ok(source) => Ok(source),

@@ -44,6 +44,7 @@ pub trait Inputs {
 
         ensures opened { OnOk result (IsTrue (is_open self.new)) }
         ensures opened_sure { OnOk result (is_open_sure self.new ≡ sure self.old name.now) }
+        ensures no_fault { OnOk result (faults self.new ≡ faults self.old) }
         ensures first_byte { IsTrue (tells self.old) → OnOk result (held self.old name.now ≡ Some (left self.new)) }
 
         // When it fails, and what that leaves.
@@ -66,6 +67,7 @@ pub trait Inputs {
         ensures still_open { IsTrue (is_open self.new) }
         ensures still_sure { is_open_sure self.new ≡ is_open_sure self.old }
         ensures within { IfOk result (λ count. count ≤ length buf.new) }
+        ensures no_fault { OnOk result (faults self.new ≡ faults self.old) }
         ensures taken { IsTrue (tells self.old) → IfOk result (λ count. left self.old ≡ take count buf.new ++ left self.new) }
         ensures end { IsTrue (tells self.old) → IfOk result (λ count. (count ≡ 0) ↔ (left self.old ≡ [])) }
 

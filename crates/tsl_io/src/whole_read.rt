@@ -58,6 +58,7 @@ fn append_piece<I: Inputs>(
     ensures taken { IsTrue (I.tells inputs.old) → TakesAtMost most (I.left inputs.old) (I.left inputs.new) }
 
     ensures fault { IsErrOf result ReadError.ReadFault → Rose (I.faults inputs.old) (I.faults inputs.new) }
+    ensures no_fault { result ≢ Err ReadError.ReadFault → I.faults inputs.new ≡ I.faults inputs.old }
     ensures sure_reads { IsTrue (I.is_open_sure inputs.old) → result ≢ Err ReadError.ReadFault }
     ensures not_too_long { result ≢ Err ReadError.TooLong }
 {
@@ -91,6 +92,7 @@ fn read_opened<I: Inputs>(alloc: Global, inputs: &mut I, cap: u32) -> Result<Vec
     ensures taken { IsTrue (I.tells inputs.old) → TakesAtMost (cap + 1) (I.left inputs.old) (I.left inputs.new) }
 
     ensures fault { IsErrOf result ReadError.ReadFault → Rose (I.faults inputs.old) (I.faults inputs.new) }
+    ensures no_fault { result ≢ Err ReadError.ReadFault → I.faults inputs.new ≡ I.faults inputs.old }
     ensures sure_reads { IsTrue (I.is_open_sure inputs.old) → result ≢ Err ReadError.ReadFault }
 {
     let limit = cap as usize + 1;
@@ -128,6 +130,7 @@ pub fn read_whole<I: Inputs>(
 
     // A fault has its cause in this call.
     ensures fault { IsErrOf result ReadError.ReadFault → Rose (I.faults inputs.old) (I.faults inputs.new) }
+    ensures no_fault { result ≢ Err ReadError.ReadFault → I.faults inputs.new ≡ I.faults inputs.old }
     ensures sure_reads { IsTrue (I.sure inputs.old name.now) → result ≢ Err ReadError.ReadFault }
 
     // How much was taken from the input, which is left open but for a fault.

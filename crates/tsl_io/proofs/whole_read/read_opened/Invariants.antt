@@ -7,7 +7,7 @@ invariant-loop-bytes g l = record {
   tells : g.I.Inputs.tells l.inputs ≡ g.I.Inputs.tells l.initial.inputs;
   held : g.I.Inputs.held l.inputs ≡ g.I.Inputs.held l.initial.inputs;
   sure : g.I.Inputs.sure l.inputs ≡ g.I.Inputs.sure l.initial.inputs;
-  faults : g.I.Inputs.faults l.initial.inputs ≤ g.I.Inputs.faults l.inputs;
+  faults : g.I.Inputs.faults l.inputs ≡ g.I.Inputs.faults l.initial.inputs;
   still_open : IsTrue (g.I.Inputs.is_open l.inputs);
   still_sure : g.I.Inputs.is_open_sure l.inputs ≡ g.I.Inputs.is_open_sure l.initial.inputs;
   within : vec_len l.bytes ≤ l.limit;
