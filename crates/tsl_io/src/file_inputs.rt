@@ -1,4 +1,7 @@
 //! The files of the file system as inputs.
+//!
+//! No contract can tell what a file holds, so a body that found every file empty would be proved as well. What
+//! real files give is shown by a test, and by the stored run of the program.
 
 ghost use Rattle.std.specs.Prelude.{◌≡◌, false, [], None, is_some};
 ghost use Rattle.std.specs.Bool.{IsFalse};

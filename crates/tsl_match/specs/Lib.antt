@@ -1,0 +1,15 @@
+pub mod Patterns
+pub mod Values
+pub mod Trees
+pub mod Knowledge
+pub mod Views
+pub mod Shapes
+pub mod Meets
+pub mod Picks
+pub mod Rule
+pub mod Limits
+pub mod Useless
+pub mod Refusals
+pub mod Nodes
+pub mod Compiled
+pub mod Premises

@@ -1,0 +1,68 @@
+-- What the types of the crate are as plain data.
+use Rattle.std.specs.Prelude.{ℕ, map}
+use Rattle.tsl_match.specs.declared.shape.Sig.{Sig}
+use Rattle.tsl_match.specs.declared.pattern.Pattern.{Pattern, fold-Pattern}
+use Rattle.tsl_match.specs.declared.pattern.Pattern.TheOpen.{Pattern-F}
+use Rattle.tsl_match.specs.declared.decision.Path.{Path}
+use Rattle.tsl_match.specs.declared.decision.Decision.{Decision, fold-Decision}
+use Rattle.tsl_match.specs.declared.decision.Decision.TheOpen.{Decision-F}
+use Rattle.tsl_match.specs.declared.known.Known.{Known, fold-Known}
+use Rattle.tsl_match.specs.declared.known.Known.TheOpen.{Known-F}
+use Rattle.tsl_match.specs.declared.known.Test.{Test}
+use Rattle.tsl_match.specs.declared.known.Test.TheVariants.{Flag, Word, Case}
+use Rattle.tsl_match.specs.declared.known.Found.{Found}
+use Rattle.tsl_match.specs.declared.candidate.Candidate.{Candidate}
+use Rattle.tsl_match.specs.Values.{Place}
+use Rattle.tsl_match.specs.Picks.{Row}
+use Rattle.tsl_match.specs.Rule.{Test as Asked, Found as FoundAt, flag_test, word_test, case_test}
+use Rattle.tsl_match.specs.Shapes.{Types}
+use Rattle.tsl_match.specs.Patterns.{Pat, pats, any, bind, flag_is, word_is, case_is}
+use Rattle.tsl_match.specs.Trees.{Tree, trees, row, on_case, on_word, on_flag}
+use Rattle.tsl_match.specs.Knowledge.{Knowledge, parts, unknown, flag_known, word_known, others, case_known}
+
+abbrev pub types : Sig → Types
+types sig = map (λ cases. map (λ fields. fields.items) cases.items) sig.datas.items
+
+abbrev pub pattern_step : Pattern-F Pat → Pat
+pattern_step Pattern-F.Any = any
+pattern_step (Pattern-F.Bind n) = bind n
+pattern_step (Pattern-F.Flag b) = flag_is b
+pattern_step (Pattern-F.Word n) = word_is n
+pattern_step (Pattern-F.Case c ps) = case_is c (pats ps.items)
+
+abbrev pub pat : Pattern → Pat
+pat = fold-Pattern Pat pattern_step
+
+-- a variable and the place that it names
+abbrev pub bound : ℕ × Path → ℕ × Place
+bound b = (b.0, b.1.steps.items)
+
+abbrev pub decision_step : Decision-F Tree → Tree
+decision_step (Decision-F.Row r binds) = row r (map bound binds.items)
+decision_step (Decision-F.OnCase at arms) = on_case at.steps.items (trees arms.items)
+decision_step (Decision-F.OnWord at n a b) = on_word at.steps.items n a.value b.value
+decision_step (Decision-F.OnFlag at a b) = on_flag at.steps.items a.value b.value
+
+abbrev pub tree : Decision → Tree
+tree = fold-Decision Tree decision_step
+
+abbrev pub known_step : Known-F Knowledge → Knowledge
+known_step (Known-F.Unknown s) = unknown s
+known_step (Known-F.Flag b) = flag_known b
+known_step (Known-F.Word n) = word_known n
+known_step (Known-F.Others w ns) = others w ns.items
+known_step (Known-F.Made c ks) = case_known c (parts ks.items)
+
+abbrev pub knowledge : Known → Knowledge
+knowledge = fold-Known Knowledge known_step
+
+abbrev pub test : Test → Asked
+test Flag = flag_test
+test (Word w ns n) = word_test w ns.items n
+test (Case t) = case_test t
+
+abbrev pub found : Found → FoundAt
+found f = (f.at.items, test f.test)
+
+abbrev pub candidate : Candidate → Row
+candidate r = (r.number, pat r.pattern.now)

@@ -1,0 +1,51 @@
+//! Rows that are left.
+
+ghost use Rattle.std.specs.Prelude.{◌≡◌, ◌<◌, ◌^◌, map, length, IfOk};
+ghost use Rattle.tsl_match.specs.Picks.{numbered};
+ghost use Rattle.tsl_match.specs.Rule.{still};
+ghost use Rattle.tsl_match.specs.Views.{pat, knowledge, candidate};
+
+use crate::known::Known;
+use crate::may_match::may_match;
+use crate::pattern::Pattern;
+use std::alloc::{AllocError, Global};
+
+/// A row that is left.
+#[derive(Clone, Copy, Drop)]
+pub struct Candidate<'a> {
+    pub number: u32,
+    pub pattern: &'a Pattern,
+}
+
+/// All rows by their numbers.
+pub fn candidates<'a>(alloc: Global, rows: &'a [Pattern]) -> Result<Vec<Candidate<'a>>, AllocError>
+    requires { length rows.now < 2 ^ 32 }
+    ensures { IfOk result (λ r. map candidate r.items ≡ numbered 0 (map pat rows.now)) }
+{
+    let mut out = Vec::new(alloc);
+    for (i, pattern) in rows.iter().enumerate() {
+        out.push(Candidate {
+            number: i as u32,
+            pattern,
+        })?;
+    }
+    Ok(out)
+}
+
+/// The rows that can still match, in their order.
+pub fn keep_matching<'a>(
+    alloc: Global,
+    left: &[Candidate<'a>],
+    known: &Known,
+) -> Result<Vec<Candidate<'a>>, AllocError>
+    ensures { IfOk result
+        (λ r. map candidate r.items ≡ still (map candidate left.now) (knowledge known.now)) }
+{
+    let mut out = Vec::new(alloc);
+    for row in left {
+        if may_match(row.pattern, known) {
+            out.push(*row)?;
+        }
+    }
+    Ok(out)
+}

@@ -1,0 +1,74 @@
+//! What a test may show.
+
+ghost use Rattle.std.specs.Prelude.{◌≡◌, ℕ, ◌<◌, ◌^◌, [], ◌∷◌, map, length, IfOk};
+ghost use Rattle.tsl_match.specs.Shapes.{cases_of};
+ghost use Rattle.tsl_match.specs.Knowledge.{unknown};
+ghost use Rattle.tsl_match.specs.Rule.{outcomes, made_known};
+ghost use Rattle.tsl_match.specs.Views.{types, knowledge, test};
+
+use crate::known::{Known, Test};
+use crate::shape::{Shape, Sig};
+use std::alloc::{AllocError, Global};
+
+/// What is known of the tested value after each answer, in the order of a decision's branches.
+pub fn answers(alloc: Global, sig: &Sig, asked: &Test) -> Result<Vec<Known>, AllocError>
+    requires { (t : ℕ) → length (cases_of (types sig.now) t) < 2 ^ 32 }
+    ensures { IfOk result (λ r. map knowledge r.items ≡ outcomes (types sig.now) (test asked.now)) }
+{
+    match asked {
+        Test::Flag => two(alloc, Known::Flag(true), Known::Flag(false)),
+        Test::Word {
+            width,
+            tested,
+            value,
+        } => {
+            let mut more = Vec::from_slice(alloc, tested)?;
+            more.push(*value)?;
+            let others = Known::Others {
+                width: *width,
+                tested: more,
+            };
+            two(alloc, Known::Word(*value), others)
+        }
+        Test::Case(t) => match sig.datas.get(*t as usize) {
+            Some(cases) => made(alloc, cases),
+            None => Ok(Vec::new(alloc)),
+        },
+    }
+}
+
+/// Two answers.
+fn two(alloc: Global, first: Known, second: Known) -> Result<Vec<Known>, AllocError>
+    ensures { IfOk result (λ r. r.items ≡ first ∷ (second ∷ [])) }
+{
+    let mut out = Vec::new(alloc);
+    out.push(first)?;
+    out.push(second)?;
+    Ok(out)
+}
+
+/// Each of these constructors, as what is known.
+fn made(alloc: Global, cases: &[Vec<Shape>]) -> Result<Vec<Known>, AllocError>
+    requires { length cases.now < 2 ^ 32 }
+    ensures { IfOk result (λ r. map knowledge r.items ≡ made_known 0 (map (λ c. c.items) cases.now)) }
+{
+    let mut out = Vec::new(alloc);
+    for (i, fields) in cases.iter().enumerate() {
+        out.push(Known::Made {
+            case: i as u32,
+            parts: unknown_fields(alloc, fields)?,
+        })?;
+    }
+    Ok(out)
+}
+
+/// Fields of which the shapes alone are known.
+fn unknown_fields(alloc: Global, shapes: &[Shape]) -> Result<Vec<Known>, AllocError>
+    ensures { IfOk result (λ r. map knowledge r.items ≡ map unknown shapes.now) }
+{
+    let mut out = Vec::new(alloc);
+    for shape in shapes {
+        out.push(Known::Unknown(*shape))?;
+    }
+    Ok(out)
+}
