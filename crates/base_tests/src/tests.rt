@@ -62,12 +62,7 @@ fn word<B: Base>(
 }
 
 /// The members, where they are at most 16.
-fn text<B: Base>(
-    alloc: Global,
-    ctx: &B::Ctx,
-    w: u32,
-    x: &B::Word,
-) -> Result<String, AllocError>
+fn text<B: Base>(alloc: Global, ctx: &B::Ctx, w: u32, x: &B::Word) -> Result<String, AllocError>
     requires width { IsWidth w }
     requires word { B.algebra.words.fits ctx.now w x.now }
 {
@@ -132,11 +127,35 @@ fn given<B: Base>(
 fn words_that_calls_give(rt: HostRuntime) -> Result<(), Fail> {
     let alloc = rt.alloc();
     for (call, w, xs, ys, two, sixteen, pair) in [
-        (Call::Two(Op2::Add), 8, &[1u64, 2][..], &[3u64, 4][..], "any", "[4, 5, 6]", "[4, 5, 6]"),
-        (Call::Two(Op2::Add), 8, &[2, 1], &[255], "[0, 1]", "[0, 1]", "[0, 1]"),
+        (
+            Call::Two(Op2::Add),
+            8,
+            &[1u64, 2][..],
+            &[3u64, 4][..],
+            "any",
+            "[4, 5, 6]",
+            "[4, 5, 6]",
+        ),
+        (
+            Call::Two(Op2::Add),
+            8,
+            &[2, 1],
+            &[255],
+            "[0, 1]",
+            "[0, 1]",
+            "[0, 1]",
+        ),
         (Call::Two(Op2::And), 8, &[3, 1], &[1], "[1]", "[1]", "[1]"),
         (Call::Two(Op2::Mul), 8, &[0, 7], &[0], "[0]", "[0]", "[0]"),
-        (Call::Two(Op2::Sub), 8, &[5], &[5, 6], "[0, 255]", "[0, 255]", "[0, 255]"),
+        (
+            Call::Two(Op2::Sub),
+            8,
+            &[5],
+            &[5, 6],
+            "[0, 255]",
+            "[0, 255]",
+            "[0, 255]",
+        ),
         (Call::Two(Op2::Add), 8, &[], &[1], "any", "any", "any"),
         (Call::Two(Op2::Add), 8, &[1], &[], "any", "any", "any"),
         (
@@ -157,26 +176,99 @@ fn words_that_calls_give(rt: HostRuntime) -> Result<(), Fail> {
             "any",
             "any",
         ),
-        (Call::Two(Op2::Add), 1, &[0, 1], &[1], "[0, 1]", "[0, 1]", "[0, 1]"),
+        (
+            Call::Two(Op2::Add),
+            1,
+            &[0, 1],
+            &[1],
+            "[0, 1]",
+            "[0, 1]",
+            "[0, 1]",
+        ),
         (Call::Two(Op2::Xor), 1, &[1], &[1], "[0]", "[0]", "[0]"),
-        (Call::Two(Op2::Add), 64, &[ALL], &[1, 2], "[0, 1]", "[0, 1]", "[0, 1]"),
-        (Call::Two(Op2::ShrU), 64, &[ALL], &[63, 64], "[0, 1]", "[0, 1]", "[0, 1]"),
-        (Call::One(Op1::Neg), 8, &[127, 128], &[], "[128, 129]", "[128, 129]", "[128, 129]"),
-        (Call::One(Op1::Not), 8, &[127, 128], &[], "[127, 128]", "[127, 128]", "[127, 128]"),
-        (Call::Zero(16), 8, &[127, 128], &[], "[127, 128]", "[127, 128]", "[127, 128]"),
-        (Call::Sign(16), 8, &[127, 128], &[], "[127, 65408]", "[127, 65408]", "[127, 65408]"),
+        (
+            Call::Two(Op2::Add),
+            64,
+            &[ALL],
+            &[1, 2],
+            "[0, 1]",
+            "[0, 1]",
+            "[0, 1]",
+        ),
+        (
+            Call::Two(Op2::ShrU),
+            64,
+            &[ALL],
+            &[63, 64],
+            "[0, 1]",
+            "[0, 1]",
+            "[0, 1]",
+        ),
+        (
+            Call::One(Op1::Neg),
+            8,
+            &[127, 128],
+            &[],
+            "[128, 129]",
+            "[128, 129]",
+            "[128, 129]",
+        ),
+        (
+            Call::One(Op1::Not),
+            8,
+            &[127, 128],
+            &[],
+            "[127, 128]",
+            "[127, 128]",
+            "[127, 128]",
+        ),
+        (
+            Call::Zero(16),
+            8,
+            &[127, 128],
+            &[],
+            "[127, 128]",
+            "[127, 128]",
+            "[127, 128]",
+        ),
+        (
+            Call::Sign(16),
+            8,
+            &[127, 128],
+            &[],
+            "[127, 65408]",
+            "[127, 65408]",
+            "[127, 65408]",
+        ),
         (Call::Cut(8), 16, &[256, 512], &[], "[0]", "[0]", "[0]"),
         (Call::Cut(8), 16, &[], &[], "any", "any", "any"),
         (Call::Join, 8, &[1, 2], &[2], "[1, 2]", "[1, 2]", "[1, 2]"),
-        (Call::Join, 8, &[1, 2], &[3], "any", "[1, 2, 3]", "[1, 2, 3]"),
+        (
+            Call::Join,
+            8,
+            &[1, 2],
+            &[3],
+            "any",
+            "[1, 2, 3]",
+            "[1, 2, 3]",
+        ),
         (Call::Join, 8, &[1, 2], &[], "any", "any", "any"),
         (Call::Widen, 8, &[1, 2], &[2], "[1, 2]", "[1, 2]", "[1, 2]"),
         (Call::Widen, 8, &[1], &[1, 2], "any", "any", "any"),
         (Call::Widen, 8, &[], &[1], "any", "any", "any"),
     ] {
-        assert_eq!(rt; given::<KSet<2>>(&rt, alloc, &(), call, w, xs, ys)?.as_str(), two);
-        assert_eq!(rt; given::<KSet<16>>(&rt, alloc, &(), call, w, xs, ys)?.as_str(), sixteen);
-        assert_eq!(rt; given::<Pair>(&rt, alloc, &((), ()), call, w, xs, ys)?.as_str(), pair);
+        assert_eq!(rt;
+            given::<KSet<2>>(&rt, alloc, &(), call, w, xs, ys)?.as_str(),
+            two
+        );
+        assert_eq!(rt;
+            given::<KSet<16>>(&rt, alloc, &(), call, w, xs, ys)?.as_str(),
+            sixteen
+        );
+        assert_eq!(rt;
+            given::<Pair>(&rt, alloc, &((), ()), call, w, xs, ys)?.as_str(),
+            pair
+        );
     }
     Ok(())
 }
@@ -193,10 +285,23 @@ fn words_of_one_number(rt: HostRuntime) -> Result<(), Fail> {
         (Call::Join, 8, 250, 7, "[250]", "any"),
         (Call::Widen, 8, 250, 7, "[250]", "any"),
         (Call::Widen, 8, 250, 250, "[250]", "[250]"),
-        (Call::Two(Op2::MulHiU), 64, ALL, ALL, "[18446744073709551614]", "[18446744073709551614]"),
+        (
+            Call::Two(Op2::MulHiU),
+            64,
+            ALL,
+            ALL,
+            "[18446744073709551614]",
+            "[18446744073709551614]",
+        ),
     ] {
-        assert_eq!(rt; given::<Concrete>(&rt, alloc, &(), call, w, &[x], &[y])?.as_str(), concrete);
-        assert_eq!(rt; given::<DefUse>(&rt, alloc, &(), call, w, &[x], &[y])?.as_str(), defuse);
+        assert_eq!(rt;
+            given::<Concrete>(&rt, alloc, &(), call, w, &[x], &[y])?.as_str(),
+            concrete
+        );
+        assert_eq!(rt;
+            given::<DefUse>(&rt, alloc, &(), call, w, &[x], &[y])?.as_str(),
+            defuse
+        );
     }
     Ok(())
 }
@@ -227,7 +332,15 @@ fn compared<B: Base>(
 fn comparisons(rt: HostRuntime) -> Result<(), Fail> {
     let alloc = rt.alloc();
     for (c, w, xs, ys, two, defuse, pair) in [
-        (Cmp::LtU, 8, &[1u64, 9][..], &[5u64][..], "both", "both", "both"),
+        (
+            Cmp::LtU,
+            8,
+            &[1u64, 9][..],
+            &[5u64][..],
+            "both",
+            "both",
+            "both",
+        ),
         (Cmp::LtU, 8, &[1, 3], &[5], "true", "both", "true"),
         (Cmp::LtU, 8, &[5, 9], &[5], "false", "both", "false"),
         (Cmp::LeU, 8, &[5], &[5, 9], "true", "both", "true"),
@@ -240,10 +353,19 @@ fn comparisons(rt: HostRuntime) -> Result<(), Fail> {
     ] {
         assert_eq!(rt; compared::<KSet<2>>(&rt, alloc, &(), c, w, xs, ys)?, two);
         assert_eq!(rt; compared::<DefUse>(&rt, alloc, &(), c, w, xs, ys)?, defuse);
-        assert_eq!(rt; compared::<Pair>(&rt, alloc, &((), ()), c, w, xs, ys)?, pair);
+        assert_eq!(rt;
+            compared::<Pair>(&rt, alloc, &((), ()), c, w, xs, ys)?,
+            pair
+        );
     }
-    assert_eq!(rt; compared::<Concrete>(&rt, alloc, &(), Cmp::LtS, 8, &[250], &[7])?, "true");
-    assert_eq!(rt; compared::<Concrete>(&rt, alloc, &(), Cmp::LtU, 8, &[250], &[7])?, "false");
+    assert_eq!(rt;
+        compared::<Concrete>(&rt, alloc, &(), Cmp::LtS, 8, &[250], &[7])?,
+        "true"
+    );
+    assert_eq!(rt;
+        compared::<Concrete>(&rt, alloc, &(), Cmp::LtU, 8, &[250], &[7])?,
+        "false"
+    );
     Ok(())
 }
 
@@ -268,20 +390,74 @@ fn known<B: Base>(
 fn what_is_known_of_words(rt: HostRuntime) -> Result<(), Fail> {
     let alloc = rt.alloc();
     for (xs, ys, sixteen, defuse, pair) in [
-        (&[7u64][..], &[7u64][..], "Some(7) true true 1", "Some(7) true true 1", "Some(7) true true 2"),
-        (&[8], &[7], "Some(8) false false 1", "Some(8) false false 1", "Some(8) false false 2"),
-        (&[7, 8], &[8], "None true true 1", "None true true 0", "None true true 1"),
-        (&[8, 9], &[7], "None false false 1", "None true true 0", "None false false 1"),
-        (&[7], &[7, 8], "Some(7) true false 1", "Some(7) true false 1", "Some(7) true false 2"),
-        (&[], &[7], "None true true 0", "None true true 0", "None true true 0"),
-        (&[7], &[], "Some(7) true false 1", "Some(7) true false 1", "Some(7) true false 2"),
+        (
+            &[7u64][..],
+            &[7u64][..],
+            "Some(7) true true 1",
+            "Some(7) true true 1",
+            "Some(7) true true 2",
+        ),
+        (
+            &[8],
+            &[7],
+            "Some(8) false false 1",
+            "Some(8) false false 1",
+            "Some(8) false false 2",
+        ),
+        (
+            &[7, 8],
+            &[8],
+            "None true true 1",
+            "None true true 0",
+            "None true true 1",
+        ),
+        (
+            &[8, 9],
+            &[7],
+            "None false false 1",
+            "None true true 0",
+            "None false false 1",
+        ),
+        (
+            &[7],
+            &[7, 8],
+            "Some(7) true false 1",
+            "Some(7) true false 1",
+            "Some(7) true false 2",
+        ),
+        (
+            &[],
+            &[7],
+            "None true true 0",
+            "None true true 0",
+            "None true true 0",
+        ),
+        (
+            &[7],
+            &[],
+            "Some(7) true false 1",
+            "Some(7) true false 1",
+            "Some(7) true false 2",
+        ),
     ] {
-        assert_eq!(rt; known::<KSet<16>>(&rt, alloc, &(), xs, ys)?.as_str(), sixteen);
+        assert_eq!(rt;
+            known::<KSet<16>>(&rt, alloc, &(), xs, ys)?.as_str(),
+            sixteen
+        );
         assert_eq!(rt; known::<DefUse>(&rt, alloc, &(), xs, ys)?.as_str(), defuse);
-        assert_eq!(rt; known::<Pair>(&rt, alloc, &((), ()), xs, ys)?.as_str(), pair);
+        assert_eq!(rt;
+            known::<Pair>(&rt, alloc, &((), ()), xs, ys)?.as_str(),
+            pair
+        );
     }
-    assert_eq!(rt; known::<Concrete>(&rt, alloc, &(), &[7], &[7])?.as_str(), "Some(7) true true 0");
-    assert_eq!(rt; known::<Concrete>(&rt, alloc, &(), &[8], &[7])?.as_str(), "Some(8) false false 0");
+    assert_eq!(rt;
+        known::<Concrete>(&rt, alloc, &(), &[7], &[7])?.as_str(),
+        "Some(7) true true 0"
+    );
+    assert_eq!(rt;
+        known::<Concrete>(&rt, alloc, &(), &[8], &[7])?.as_str(),
+        "Some(8) false false 0"
+    );
     Ok(())
 }
 
@@ -312,12 +488,27 @@ fn members(rt: HostRuntime) -> Result<(), Fail> {
         (8, &[], 255, "None"),
         (64, &[], 0xffff_ffff, "None"),
     ] {
-        assert_eq!(rt; listed::<KSet<16>>(&rt, alloc, &(), w, xs, limit)?.as_str(), wanted);
-        assert_eq!(rt; listed::<Pair>(&rt, alloc, &((), ()), w, xs, limit)?.as_str(), wanted);
+        assert_eq!(rt;
+            listed::<KSet<16>>(&rt, alloc, &(), w, xs, limit)?.as_str(),
+            wanted
+        );
+        assert_eq!(rt;
+            listed::<Pair>(&rt, alloc, &((), ()), w, xs, limit)?.as_str(),
+            wanted
+        );
     }
-    assert_eq!(rt; listed::<Concrete>(&rt, alloc, &(), 8, &[7], 0)?.as_str(), "None");
-    assert_eq!(rt; listed::<Concrete>(&rt, alloc, &(), 8, &[7], 1)?.as_str(), "Some([7])");
-    assert_eq!(rt; listed::<KSet<0>>(&rt, alloc, &(), 1, &[1], 2)?.as_str(), "Some([0, 1])");
+    assert_eq!(rt;
+        listed::<Concrete>(&rt, alloc, &(), 8, &[7], 0)?.as_str(),
+        "None"
+    );
+    assert_eq!(rt;
+        listed::<Concrete>(&rt, alloc, &(), 8, &[7], 1)?.as_str(),
+        "Some([7])"
+    );
+    assert_eq!(rt;
+        listed::<KSet<0>>(&rt, alloc, &(), 1, &[1], 2)?.as_str(),
+        "Some([0, 1])"
+    );
     Ok(())
 }
 
@@ -377,9 +568,18 @@ fn ranges(rt: HostRuntime) -> Result<(), Fail> {
         (64, 0, ALL, "[0]", "any", "any"),
         (1, 0, 1, "[0]", "[0, 1]", "[0, 1]"),
     ] {
-        assert_eq!(rt; ranged::<Concrete>(&rt, alloc, &(), w, low, high)?.as_str(), concrete);
-        assert_eq!(rt; ranged::<KSet<2>>(&rt, alloc, &(), w, low, high)?.as_str(), two);
-        assert_eq!(rt; ranged::<Pair>(&rt, alloc, &((), ()), w, low, high)?.as_str(), pair);
+        assert_eq!(rt;
+            ranged::<Concrete>(&rt, alloc, &(), w, low, high)?.as_str(),
+            concrete
+        );
+        assert_eq!(rt;
+            ranged::<KSet<2>>(&rt, alloc, &(), w, low, high)?.as_str(),
+            two
+        );
+        assert_eq!(rt;
+            ranged::<Pair>(&rt, alloc, &((), ()), w, low, high)?.as_str(),
+            pair
+        );
     }
     assert_eq!(rt; ranged::<DefUse>(&rt, alloc, &(), 8, 3, 4)?.as_str(), "any");
     Ok(())
@@ -411,12 +611,22 @@ fn stamps_are_entered_joined_and_read(rt: HostRuntime) -> Result<(), Fail> {
     let all = "[Use { map: 1, key: Some(3), from: [Entry, At(4096), At(8192)] }] true false";
     assert_eq!(rt; read::<DefUse>(alloc, Some(3), false)?.as_str(), all);
     assert_eq!(rt; read::<DefUse>(alloc, Some(3), true)?.as_str(), all);
-    assert_eq!(rt; read::<Paired<KSet<16>, DefUse>>(alloc, Some(3), true)?.as_str(), all);
+    assert_eq!(rt;
+        read::<Paired<KSet<16>, DefUse>>(alloc, Some(3), true)?.as_str(),
+        all
+    );
     let one = "[Use { map: 1, key: None, from: [At(4096)] }] true true";
     assert_eq!(rt; read::<Concrete>(alloc, None, false)?.as_str(), one);
-    assert_eq!(rt; read::<KSet<16>>(alloc, None, false)?.as_str(), "[] true true");
-    let two = "[Use { map: 1, key: None, from: [At(8192)] }, Use { map: 1, key: None, from: [Entry, At(4096), At(8192)] }] false false";
-    assert_eq!(rt; read::<Paired<Concrete, DefUse>>(alloc, None, true)?.as_str(), two);
+    assert_eq!(rt;
+        read::<KSet<16>>(alloc, None, false)?.as_str(),
+        "[] true true"
+    );
+    let two =
+        "[Use { map: 1, key: None, from: [At(8192)] }, Use { map: 1, key: None, from: [Entry, At(4096), At(8192)] }] false false";
+    assert_eq!(rt;
+        read::<Paired<Concrete, DefUse>>(alloc, None, true)?.as_str(),
+        two
+    );
     Ok(())
 }
 
