@@ -1,3 +1,4 @@
+pub mod Covering
 pub mod Lists
 pub mod Stamps
 pub mod Tests

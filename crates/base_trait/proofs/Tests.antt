@@ -1,5 +1,5 @@
 -- Tests put together.
-use Rattle.std.proofs.Common.{◌≡◌, Bool, true, false, refl, rules, IsTrue, ◌⊎◌, inl, inr}
+use Rattle.std.proofs.Common.{◌≡◌, Bool, true, false, cond, refl, rules, IsTrue, ◌⊎◌, inl, inr}
 use Rattle.std.specs.Prelude.{◌||◌, ◌&&◌}
 
 pub or_sorted : (p q : Bool) → IsTrue (p || q) → IsTrue p ⊎ IsTrue q
@@ -33,3 +33,13 @@ not_both false q h = inl refl
 pub decide : (b : Bool) → IsTrue b ⊎ (b ≡ false)
 decide true = inl refl
 decide false = inr refl
+
+-- a choice has what both sides have
+pub at_choice : {A : Type 0} (P : A → Type 0) (b : Bool) (y z : A) → (b ≡ true → P y) → (b ≡ false → P z) → P (cond b y z)
+at_choice P true y z h k = h refl
+at_choice P false y z h k = k refl
+
+-- what follows from either side
+pub from_either : {P Q R : Type 0} → (P → R) → (Q → R) → P ⊎ Q → R
+from_either f g (inl h) = f h
+from_either f g (inr h) = g h

@@ -1,6 +1,6 @@
 -- Uses of cells, and which reads they cover.
 use Rattle.std.specs.Prelude.{◌≡◌, ℕ, List, [], ◌∷◌, Option, Some, None, ◌⊎◌, ⊤, map}
-use Rattle.base_trait.specs.Lists.{IsAmong}
+use Rattle.base_trait.specs.Lists.{IsAmong, IsGrown}
 use Rattle.base_trait.specs.declared.uses.Stamped.{Stamped}
 use Rattle.base_trait.specs.declared.uses.Use.{Use}
 use Rattle.base_trait.specs.declared.uses.Log.{Log}
@@ -40,3 +40,7 @@ pub record Covers (u : Seen) (r : Read) : Type 0 where
 abbrev pub AreCovering : List Seen → Read → Type 0
 AreCovering [] r = ⊥
 AreCovering (u ∷ us) r = Covers u r ⊎ AreCovering us r
+
+-- What a log covers it covers as it grows.
+abbrev pub GrownLogsCover : Type 0
+GrownLogsCover = (old new : List Seen) (r : Read) → IsGrown old new → AreCovering old r → AreCovering new r

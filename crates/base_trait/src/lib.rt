@@ -23,6 +23,7 @@
 #![tactic(auto)]
 
 mod base;
+pub mod laws;
 mod tri;
 mod uses;
 

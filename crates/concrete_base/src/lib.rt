@@ -1,5 +1,6 @@
-//! Single numbers as a base: what is exact of every run of code. It takes no memory but for lists of
-//! members, and doesn't join.
+//! Single numbers as a base: what is exact of every run of code. Its operations on words take no memory,
+//! but for lists of members, and it doesn't join: join and widening give their first side, which is both where
+//! the sides are equal.
 #![tactic(auto)]
 
 use base_trait::{Base, Log, Stamped, Tri};

@@ -8,15 +8,11 @@ use Rattle.base_trait.specs.Stamps.{is_before, is_listed, same_stamp, AreAscendi
 use Rattle.base_trait.specs.declared.uses.Stamped.{Stamped}
 use Rattle.base_trait.proofs.Lists.{among_left, among_right, are_among_from, are_among_at, each_from, each_at}
 use Rattle.base_trait.proofs.Stamps.{stamp_itself, stamp_told, listed_from, among_listed, before_on, before_or_after}
-use Rattle.base_trait.proofs.Tests.{and_both, and_parts, neither}
+use Rattle.base_trait.proofs.Tests.{and_both, and_parts, neither, at_choice, from_either}
 use Rattle.std.specs.Cmp.{IsEquivalence, IsPartialEquivalence}
 use Rattle.kset_base.specs.Laws.{word_laws}
 use Rattle.defuse_base.specs.Meaning.{defuse}
 use Rattle.defuse_base.specs.Notes.{placed, with_stamp, union, has_all, lacking, stamp_notes}
-
-at_choice : {A : Type 0} (P : A → Type 0) (b : Bool) (y z : A) → (b ≡ true → P y) → (b ≡ false → P z) → P (cond b y z)
-at_choice P true y z h k = h refl
-at_choice P false y z h k = k refl
 
 -- ---- a stamp in its place
 placed_has : (s : Stamped) (xs : List Stamped) → IsAmong s (placed s xs)
@@ -160,12 +156,8 @@ lacking_most : (ss xs : List Stamped) → lacking ss xs ≤ length ss
 lacking_most [] xs = omega arith
 lacking_most (s ∷ ss) xs = let most = lacking_most ss xs in at_choice (λ n. n ≤ length (s ∷ ss)) (is_listed xs s) (lacking ss xs) (lacking ss xs + 1) (λ e. omega (arith, most)) (λ e. omega (arith, most))
 
-either : {P Q R : Type 0} → (P → R) → (Q → R) → P ⊎ Q → R
-either f g (inl h) = f h
-either f g (inr h) = g h
-
 union_lists : (xs ys : List Stamped) → AreAmong (union xs ys) (xs ++ ys)
-union_lists xs ys = are_among_from (union xs ys) (xs ++ ys) (λ s h. either (among_left s xs ys) (among_right s xs ys) (union_only s xs ys h))
+union_lists xs ys = are_among_from (union xs ys) (xs ++ ys) (λ s h. from_either (among_left s xs ys) (among_right s xs ys) (union_only s xs ys h))
 
 itself_among : (xs : List Stamped) → AreAmong xs xs
 itself_among xs = are_among_from xs xs (λ s h. h)
@@ -174,10 +166,10 @@ pub stamp_note_laws : NoteLaws (List Stamped) true stamp_notes
 stamp_note_laws = record {
   entry_sound = inl refl;
   at_sound = λ a. inl refl;
-  join_describes = λ s x y may h. either (union_left s x y) (union_right s x y) h;
+  join_describes = λ s x y may h. from_either (union_left s x y) (union_right s x y) h;
   join_absorbs = λ x y may. (all_from (union x y) x (λ s h. union_left s x y h), all_from (union x y) y (λ s h. union_right s x y h));
-  join_least = λ x y z h k. all_from z (union x y) (λ s l. either (λ a. all_at s z x h a) (λ a. all_at s z y k a) (union_only s x y l));
-  widen_describes = λ s x y may h. either (union_left s x y) (union_right s x y) h;
+  join_least = λ x y z h k. all_from z (union x y) (λ s l. from_either (λ a. all_at s z x h a) (λ a. all_at s z y k a) (union_only s x y l));
+  widen_describes = λ s x y may h. from_either (union_left s x y) (union_right s x y) h;
   widen_absorbs = λ x y may. (all_from (union x y) x (λ s h. union_left s x y h), all_from (union x y) y (λ s h. union_right s x y h));
   absorbs_itself = λ x. all_from x x (λ s h. h);
   absorbs_on = λ x y z h k. all_from x z (λ s l. all_at s x y h (all_at s y z k l));

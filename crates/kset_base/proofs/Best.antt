@@ -7,8 +7,8 @@ use Rattle.std.proofs.lemmas.List.FromFn.{length-range_with_len}
 use Rattle.word_ops.specs.Cmp.{cmp_of}
 use Rattle.base_trait.specs.Lists.{IsAmong, IsAscending}
 use Rattle.base_trait.proofs.Lists.{ascending_same, among_map, map_among, range_ascends, range_has, range_within}
-use Rattle.base_trait.proofs.Tests.{or_sorted}
-use Rattle.kset_base.specs.Adding.{at_choice, bounded_few, bounded_many}
+use Rattle.base_trait.proofs.Tests.{or_sorted, at_choice}
+use Rattle.kset_base.specs.Adding.{bounded_few, bounded_many}
 use Rattle.kset_base.specs.Best.{IsSetOf, IsBest, IsImage, IsProduct, IsOfEither, BestResults, ExactComparisons, NoNumbers}
 use Rattle.kset_base.specs.Laws.{set_has, set_keeps, set_only, set_ascends, among_rows, rows_among, some_pair_at, outcome_itself}
 use Rattle.kset_base.specs.Meaning.{some_pair, outcome}

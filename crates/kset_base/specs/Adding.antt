@@ -5,12 +5,8 @@ use Rattle.std.specs.List.{range_with_len}
 use Rattle.std.proofs.lemmas.Bool.Decides.{nat_tests}
 use Rattle.std.proofs.lemmas.List.{map-id}
 use Rattle.std.proofs.lemmas.List.FromFn.{map-range_with_len_more}
+use Rattle.base_trait.proofs.Tests.{at_choice}
 use Rattle.kset_base.specs.Sets.{placed, set_with, bounded, add, add_all}
-
--- a choice has what both sides have
-pub at_choice : {A : Type 0} (P : A → Type 0) (b : Bool) (y z : A) → (b ≡ true → P y) → (b ≡ false → P z) → P (cond b y z)
-at_choice P true y z h k = h refl
-at_choice P false y z h k = k refl
 
 pub placed_grows : (x : ℕ) (s : List ℕ) → length s ≤ length (placed x s)
 placed_grows x [] = omega arith

@@ -15,10 +15,10 @@ use Rattle.base_trait.specs.Laws.{Laws, WordLaws}
 use Rattle.base_trait.specs.Lists.{IsAmong, Each, IsAscendingFrom, IsAscending}
 use Rattle.base_trait.specs.NoNotes.{no_note_laws}
 use Rattle.base_trait.proofs.Lists.{among_left, among_right, among_either, each_from, each_at, among_map, map_among, number_itself, number_told, ascending_lower, ascending_shorter, range_ascends, range_has, range_within}
-use Rattle.base_trait.proofs.Tests.{or_sorted, or_left, or_right, and_both, and_parts}
+use Rattle.base_trait.proofs.Tests.{or_sorted, or_left, or_right, and_both, and_parts, at_choice, from_either}
 use Rattle.kset_base.specs.Sets.{placed, set_with, set_of, has, bounded, images, products, union, from_to}
 use Rattle.kset_base.specs.Meaning.{kset, words, Stands, Fits, compared, some_pair, outcome, absorbs_set, the_number, may_be, all_of, size_of, rank_of}
-use Rattle.kset_base.specs.Adding.{at_choice, set_grows, bounded_few}
+use Rattle.kset_base.specs.Adding.{set_grows, bounded_few}
 
 -- ---- a number in its place
 -- it is among the items, and so is each that was
@@ -380,10 +380,6 @@ compared_may k w m n (Some s) None h l = at_truth (cmp_of k w m n)
     at_truth false = refl
 
 -- ---- the laws
-either : {P Q R : Type 0} → (P → R) → (Q → R) → P ⊎ Q → R
-either f g (inl h) = f h
-either f g (inr h) = g h
-
 sides : {P Q S : Type 0} → (P × S) ⊎ (Q × S) → (P ⊎ Q) × S
 sides (inl h) = (inl h.0, h.1)
 sides (inr h) = (inr h.0, h.1)
@@ -408,7 +404,7 @@ word_laws K = record {
   members_ascend = λ c w limit ns x width fx e. subst IsAscending (given (nat_le (size_of w x) limit) (all_of w x) ns e) (members_ascend K w x fx);
   members_fit = λ c w limit ns x width fx e. subst (Each (λ n. (n < 2 ^ w) × IsTrue (may_be x n))) (given (nat_le (size_of w x) limit) (all_of w x) ns e) (members_allowed K w x fx);
   members_none = λ c w limit x width fx. none_where (nat_le (size_of w x) limit) (size_of w x) limit (all_of w x) refl;
-  join_describes = λ c world w n x y width may fx fy h. let s = sides h in (either (union_left K x y n) (union_right K x y n) s.0, s.1);
+  join_describes = λ c world w n x y width may fx fy h. let s = sides h in (from_either (union_left K x y n) (union_right K x y n) s.0, s.1);
   join_absorbs = λ c w x y width may fx fy. (union_absorbs_left K x y, union_absorbs_right K x y);
   join_least = λ c w x y z width fx fy fz h k. union_least K w x y z fx fy fz h k;
   widen_describes = λ c world w n old new width may fx fy h. let s = sides h in (widen_stands old new n s.0, s.1);

@@ -12,7 +12,7 @@ use Rattle.base_trait.specs.Uses.{AreCovering, Read, Seen, IsKey}
 use Rattle.base_trait.specs.Identity.{IsIdentity}
 use Rattle.base_trait.specs.declared.tri.Tri.{Tri}
 use Rattle.base_trait.specs.declared.uses.Stamped.{Stamped}
-use Rattle.base_trait.proofs.Lists.{among_left, among_right, among_either, are_among_from, are_among_at, each_from, each_at}
+use Rattle.base_trait.proofs.Lists.{among_left, among_right, among_either, are_among_from, are_among_at, each_from, each_at, ascending_lower}
 use Rattle.base_trait.proofs.Tests.{or_sorted, neither, and_both, and_parts, not_both}
 use Rattle.paired_base.specs.Meaning.{both_allow, first_of, shared_members, paired_words, paired_notes, paired}
 
@@ -49,17 +49,13 @@ filter_only test n (x ∷ xs) h = at_test (test x) refl h (filter_only test n xs
     at_test true e (inr k) f = let r = f k in (inr r.0, r.1)
     at_test false e k f = let r = f k in (inr r.0, r.1)
 
-ascending_below : (low high : ℕ) (xs : List ℕ) → low ≤ high → IsAscendingFrom high xs → IsAscendingFrom low xs
-ascending_below low high [] l h = tt
-ascending_below low high (x ∷ xs) l h = (let first = h.0 in omega (arith, first), h.1)
-
 filter_ascends : (test : ℕ → Bool) (low : ℕ) (xs : List ℕ) → IsAscendingFrom low xs → IsAscendingFrom low (filter test xs)
 filter_ascends test low [] h = tt
 filter_ascends test low (x ∷ xs) h = at_test (test x) (filter_ascends test (x + 1) xs h.1)
   where
     at_test : (b : Bool) → IsAscendingFrom (x + 1) (filter test xs) → IsAscendingFrom low (cond b (x ∷ filter test xs) (filter test xs))
     at_test true k = (h.0, k)
-    at_test false k = let first = h.0 in ascending_below low (x + 1) (filter test xs) (omega (arith, first)) k
+    at_test false k = let first = h.0 in ascending_lower (x + 1) low (filter test xs) (omega (arith, first)) k
 
 -- what holds of the members of a pair: P of those of the first part that the second allows, and the other way round
 shared_are : (P : List ℕ → Type 0) (a b : Option (List ℕ)) (f g : ℕ → Bool) (ns : List ℕ) → shared_members a f b g ≡ Some ns

@@ -2,7 +2,7 @@ use Rattle.std.proofs.Common.{◌≡◌, ◌≤◌, ◌^◌, refl, arith, pow_mo
 use Rattle.std.specs.Prelude.{nat_le, Some, None}
 use Rattle.std.specs.List.{range_with_len}
 use Rattle.std.proofs.lemmas.Bool.Decides.{nat_tests}
-use Rattle.kset_base.specs.Adding.{at_choice}
+use Rattle.base_trait.proofs.Tests.{at_choice}
 use Rattle.kset_base.proofs.reading.all.Goals as goal
 
 pub returns-then-w-ge32 : goal.returns-then-w-ge32
