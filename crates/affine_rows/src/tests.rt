@@ -5,7 +5,6 @@ ghost use Rattle.std.specs.Prelude.{◌≡◌};
 use super::{Form, Rows};
 use std::process::Abort;
 use std::test::Fail;
-use std::time::{Duration, Instant};
 
 enum Step {
     Insert(&'static [u32], bool),
@@ -206,16 +205,13 @@ fn stair(i: usize) -> [u32; 65] {
 #[test]
 fn full_size(rt: HostRuntime) -> Result<(), Fail> {
     let mut rows = Rows::new(rt.alloc(), 64)?;
-    let start = Instant::now(&rt)?;
     for i in 0..65usize {
         assert!(rt; rows.insert(&stair(i)));
     }
     for i in 0..1000usize {
         assert!(rt; rows.contains(&stair(i)));
     }
-    let spent = start.elapsed(&rt)?;
     assert_eq!(rt; rows.len(), 65);
     assert_eq!(rt; rows.rank(), 1);
-    assert!(rt; spent < Duration::from_secs(1));
     Ok(())
 }
