@@ -5,6 +5,7 @@ pub mod Weight
 pub mod Truth
 pub mod Kept
 pub mod Nodes
+pub mod Newest
 pub mod Deciding
 pub mod Numbers
 pub mod Fits

@@ -1,16 +1,21 @@
 -- The trees of a test's answers, together.
-use Rattle.std.proofs.Common.{◌≡◌, suc, Some, List, [], ◌∷◌, ◌++◌, length, refl, ap}
+use Rattle.std.proofs.Common.{◌≡◌, ℕ, suc, List, [], ◌∷◌, ◌++◌, length, refl, ap}
 use Rattle.tsl_match.specs.declared.match_error.MatchError.{MatchError}
 use Rattle.tsl_match.specs.declared.match_error.MatchError.TheVariants.{NotExhaustive, Useless, NoMemory}
 use Rattle.tsl_match.specs.Values.{Place}
 use Rattle.tsl_match.specs.Shapes.{Types}
 use Rattle.tsl_match.specs.Picks.{Row}
-use Rattle.tsl_match.specs.Trees.{Tree, Trees, trees}
-use Rattle.tsl_match.specs.Knowledge.{Knowledge, put}
-use Rattle.tsl_match.specs.Rule.{Test, flag_test, word_test, case_test, first_test, still, outcomes, IsTree, AreTrees, after_test}
-use Rattle.tsl_match.specs.Nodes.{node, HasArms}
+use Rattle.tsl_match.specs.Trees.{Tree, Trees, trees, on_case, on_word, on_flag}
+use Rattle.tsl_match.specs.Knowledge.{Knowledge, word_known, others, put}
+use Rattle.tsl_match.specs.Rule.{Test, flag_test, word_test, case_test, still, outcomes, IsTree, AreTrees, after_test}
+use Rattle.tsl_match.specs.Questions.{AsksFirst, asked_first}
 use Rattle.tsl_match.specs.Refusals.{FailsWith}
 use Rattle.tsl_match.specs.Views.{pat}
+
+-- one more question
+pub asked_last : (questions : List (Place × ℕ × Tree)) (q : Place × ℕ × Tree) (t : Tree) → asked_first (questions ++ q ∷ []) t ≡ asked_first questions (on_word q.0 q.1 q.2 t)
+asked_last [] q t = refl
+asked_last (p ∷ questions) q t = ap (on_word p.0 p.1 p.2) (asked_last questions q t)
 
 module _ (types : Types) where
   pub more_trees : (rows : List Row) (k : Knowledge) (at : Place) (os : List Knowledge) (ts : List Tree) (o : Knowledge) (t : Tree)
@@ -26,26 +31,27 @@ module _ (types : Types) where
   trees_len rows k at [] (s ∷ ts) h = absurd h
   trees_len rows k at (p ∷ os) [] h = absurd h
 
-  pub has_arms : (rows : List Row) (k : Knowledge) (at : Place) (test : Test) (ts : List Tree) → AreTrees types rows k at (outcomes types test) (trees ts) → HasArms test (length ts)
-  has_arms rows k at flag_test ts h = trees_len rows k at (outcomes types flag_test) ts h
-  has_arms rows k at (word_test w ns n) ts h = trees_len rows k at (outcomes types (word_test w ns n)) ts h
-  has_arms rows k at (case_test t) ts h = tt
+  pub tree_of_case : (rows : List Row) (k : Knowledge) (at : Place) (t : ℕ) (ts : List Tree) → AsksFirst rows k at (case_test t)
+      → AreTrees types rows k at (outcomes types (case_test t)) (trees ts) → IsTree types rows k (on_case at (trees ts))
+  tree_of_case [] k at t ts asks h = absurd asks
+  tree_of_case (first ∷ rest) k at t ts asks h = (t, asks, h)
 
-  pub tree_of_node : (first : Row) (rest : List Row) (k : Knowledge) (at : Place) (test : Test) (ts : List Tree) → first_test first.1 k ≡ Some (at, test)
-      → AreTrees types (first ∷ rest) k at (outcomes types test) (trees ts) → IsTree types (first ∷ rest) k (node at test ts)
-  tree_of_node first rest k at (case_test t) ts e h = (t, e, h)
-  tree_of_node first rest k at flag_test (a ∷ (b ∷ [])) e h = (e, h.0, h.1.0)
-  tree_of_node first rest k at flag_test [] e h = absurd h
-  tree_of_node first rest k at flag_test (a ∷ []) e h = absurd h.1
-  tree_of_node first rest k at flag_test (a ∷ (b ∷ (c ∷ ts))) e h = absurd h.1.1
-  tree_of_node first rest k at (word_test w ns n) (a ∷ (b ∷ [])) e h = (w, ns, e, h.0, h.1.0)
-  tree_of_node first rest k at (word_test w ns n) [] e h = absurd h
-  tree_of_node first rest k at (word_test w ns n) (a ∷ []) e h = absurd h.1
-  tree_of_node first rest k at (word_test w ns n) (a ∷ (b ∷ (c ∷ ts))) e h = absurd h.1.1
+  pub tree_of_flag : (rows : List Row) (k : Knowledge) (at : Place) (a b : Tree) → AsksFirst rows k at flag_test
+      → AreTrees types rows k at (outcomes types flag_test) (trees (a ∷ (b ∷ []))) → IsTree types rows k (on_flag at a b)
+  tree_of_flag [] k at a b asks h = absurd asks
+  tree_of_flag (first ∷ rest) k at a b asks h = (asks, h.0, h.1.0)
 
-  pub fails_after : (first : Row) (rest : List Row) (k o : Knowledge) (at : Place) (test : Test) (earlier later : List Knowledge) (ts : Trees) (e : MatchError)
-      → first_test first.1 k ≡ Some (at, test) → outcomes types test ≡ earlier ++ o ∷ later → AreTrees types (first ∷ rest) k at earlier ts
-      → FailsWith types (still (first ∷ rest) (put k at o)) (put k at o) e → FailsWith types (first ∷ rest) k e
-  fails_after first rest k o at test earlier later ts (NotExhaustive p) is split trees_are h = after_test first rest k o at test earlier later ts (pat p) is split trees_are h
-  fails_after first rest k o at test earlier later ts (Useless r) is split trees_are h = h
-  fails_after first rest k o at test earlier later ts NoMemory is split trees_are h = h
+  pub tree_of_word : (rows : List Row) (k : Knowledge) (at : Place) (w n : ℕ) (ns : List ℕ) (a b : Tree) → AsksFirst rows k at (word_test w ns n)
+      → IsTree types (still rows (put k at (word_known n))) (put k at (word_known n)) a
+      → IsTree types (still rows (put k at (others w (ns ++ n ∷ [])))) (put k at (others w (ns ++ n ∷ []))) b
+      → IsTree types rows k (on_word at n a b)
+  tree_of_word [] k at w n ns a b asks h g = absurd asks
+  tree_of_word (first ∷ rest) k at w n ns a b asks h g = (w, ns, asks, h, g)
+
+  pub fails_after : (rows : List Row) (k o : Knowledge) (at : Place) (test : Test) (earlier later : List Knowledge) (ts : Trees) (e : MatchError)
+      → AsksFirst rows k at test → outcomes types test ≡ earlier ++ o ∷ later → AreTrees types rows k at earlier ts
+      → FailsWith types (still rows (put k at o)) (put k at o) e → FailsWith types rows k e
+  fails_after [] k o at test earlier later ts e asks split trees_are h = absurd asks
+  fails_after (first ∷ rest) k o at test earlier later ts (NotExhaustive p) asks split trees_are h = after_test first rest k o at test earlier later ts (pat p) asks split trees_are h
+  fails_after (first ∷ rest) k o at test earlier later ts (Useless r) asks split trees_are h = h
+  fails_after (first ∷ rest) k o at test earlier later ts NoMemory asks split trees_are h = h

@@ -10,6 +10,6 @@ pub mod Rule
 pub mod Limits
 pub mod Useless
 pub mod Refusals
-pub mod Nodes
+pub mod Questions
 pub mod Compiled
 pub mod Premises

@@ -12,6 +12,7 @@ use Rattle.tsl_match.specs.declared.known.Test.{Test}
 use Rattle.tsl_match.specs.declared.known.Test.TheVariants.{Flag, Word, Case}
 use Rattle.tsl_match.specs.declared.known.Found.{Found}
 use Rattle.tsl_match.specs.declared.candidate.Candidate.{Candidate}
+use Rattle.tsl_match.specs.declared.step.Question.{Question}
 use Rattle.tsl_match.specs.Values.{Place}
 use Rattle.tsl_match.specs.Picks.{Row}
 use Rattle.tsl_match.specs.Rule.{Test as Asked, Found as FoundAt, flag_test, word_test, case_test}
@@ -66,3 +67,7 @@ found f = (f.at.items, test f.test)
 
 abbrev pub candidate : Candidate → Row
 candidate r = (r.number, pat r.pattern.now)
+
+-- the place, the number, and what follows where it is there
+abbrev pub question : Question → Place × ℕ × Tree
+question q = (q.at.steps.items, q.value, tree q.yes)

@@ -1,11 +1,13 @@
 //! Rows that are left.
 
-ghost use Rattle.std.specs.Prelude.{◌≡◌, ◌<◌, ◌^◌, map, length, IfOk};
+ghost use Rattle.std.specs.Prelude.{◌≡◌, ◌<◌, ◌^◌, [], ◌∷◌, map, length, IfOk};
 ghost use Rattle.tsl_match.specs.Picks.{numbered};
+ghost use Rattle.tsl_match.specs.Knowledge.{others, put};
 ghost use Rattle.tsl_match.specs.Rule.{still};
 ghost use Rattle.tsl_match.specs.Views.{pat, knowledge, candidate};
 
 use crate::known::Known;
+use crate::learn::learn;
 use crate::may_match::may_match;
 use crate::pattern::Pattern;
 use std::alloc::{AllocError, Global};
@@ -48,4 +50,24 @@ pub fn keep_matching<'a>(
         }
     }
     Ok(out)
+}
+
+/// The rows that can match where the word at a place isn't this number, whatever else was tested
+/// there before. Whether a row can match doesn't ask for the word's width.
+pub fn keep_others<'a>(
+    alloc: Global,
+    left: &[Candidate<'a>],
+    known: &Known,
+    at: &[(u32, u32)],
+    value: u64,
+) -> Result<Vec<Candidate<'a>>, AllocError>
+    ensures { IfOk result
+        (λ r. map candidate r.items ≡ still (map candidate left.now) (put (knowledge known.now) at.now (others 64 (value ∷ [])))) }
+{
+    let newest = Known::Others {
+        width: 64,
+        tested: vec![in alloc; value]?,
+    };
+    let next = learn(alloc, known, at, &newest)?;
+    keep_matching(alloc, left, &next)
 }

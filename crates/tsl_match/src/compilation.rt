@@ -4,15 +4,16 @@ ghost use Rattle.std.specs.Prelude.{◌≡◌, ℕ, ◌<◌, ◌≤◌, ◌^◌,
 ghost use Rattle.tsl_match.specs.Shapes.{AreTypes, IsShape, Suits};
 ghost use Rattle.tsl_match.specs.Compiled.{IsTreeOf, PicksTheFirst, IsExhaustive, IsOfUse, IsRefusal};
 ghost use Rattle.tsl_match.specs.Meets.{bindings};
-ghost use Rattle.tsl_match.specs.Trees.{row};
-ghost use Rattle.tsl_match.specs.Nodes.{node, HasArms};
+ghost use Rattle.tsl_match.specs.Trees.{row, trees};
+ghost use Rattle.tsl_match.specs.Knowledge.{put};
+ghost use Rattle.tsl_match.specs.Questions.{AsksFirst, AsksFor, AsksWord, MayShow, IsStep};
 ghost use Rattle.tsl_match.specs.Limits.{CanAll, InLimits, PatInLimits, RowsInLimits, TypesInLimits};
-ghost use Rattle.tsl_match.specs.Rule.{IsTree};
+ghost use Rattle.tsl_match.specs.Rule.{still, IsTree, AreTrees};
 ghost use Rattle.tsl_match.specs.Refusals.{FailsWith};
 ghost use Rattle.tsl_match.specs.Views.{types, pat, tree, knowledge, candidate, test};
 
 use crate::binding::bind_all;
-use crate::candidate::{Candidate, candidates, keep_matching};
+use crate::candidate::{Candidate, candidates, keep_matching, keep_others};
 use crate::decision::{Decision, Path};
 use crate::example::as_pattern;
 use crate::find_test::find_test;
@@ -23,6 +24,7 @@ use crate::names::first_unnamed;
 use crate::outcomes::answers;
 use crate::pattern::Pattern;
 use crate::shape::{Shape, Sig};
+use crate::step::{Question, Step, ask_first};
 use std::alloc::{AllocError, Global};
 
 /// The decision tree of a match, or why it is refused.
@@ -47,7 +49,7 @@ pub fn compile(
     ensures refusal { IfErr result (IsRefusal (types sig.now) shape (map pat rows.now)) }
 {
     let left = candidates(alloc, rows)?;
-    let decision = decide(alloc, sig, left.as_slice(), &Known::Unknown(shape))?;
+    let decision = decide(alloc, sig, left, Known::Unknown(shape))?;
     match first_unnamed(&decision, rows.len() as u32) {
         Some(row) => Err(MatchError::Useless { row }),
         None => Ok(decision),
@@ -55,18 +57,54 @@ pub fn compile(
 }
 
 /// The tree of the rule for the rows that are left, by what is known.
+#[cycle(decide)]
 fn decide(
     alloc: Global,
     sig: &Sig,
-    left: &[Candidate],
-    known: &Known,
+    left: Vec<Candidate>,
+    known: Known,
 ) -> Result<Decision, MatchError>
+    requires sig { TypesInLimits (types sig.now) }
+    requires rows { RowsInLimits (map candidate left.items) }
+    requires known { InLimits (knowledge known) }
+    requires can { CanAll (map candidate left.items) (knowledge known) }
+    ensures { MatchResult result
+        (λ d. IsTree (types sig.now) (map candidate left.entry.items) (knowledge known) (tree d))
+        (FailsWith (types sig.now) (map candidate left.entry.items) (knowledge known)) }
+{
+    let mut rows = left;
+    let mut now = known;
+    let mut questions = Vec::new(alloc);
+    loop {
+        match first_step(alloc, sig, rows.as_slice(), &now)? {
+            Step::Settled(last) => return Ok(ask_first(alloc, questions, last)?),
+            Step::Asked {
+                question,
+                left,
+                known,
+            } => {
+                questions.push(question)?;
+                rows = left;
+                now = known;
+            }
+        }
+    }
+}
+
+/// What the first row that is left leads to.
+#[cycle(decide)]
+fn first_step<'a>(
+    alloc: Global,
+    sig: &Sig,
+    left: &[Candidate<'a>],
+    known: &Known,
+) -> Result<Step<'a>, MatchError>
     requires sig { TypesInLimits (types sig.now) }
     requires rows { RowsInLimits (map candidate left.now) }
     requires known { InLimits (knowledge known.now) }
     requires can { CanAll (map candidate left.now) (knowledge known.now) }
     ensures { MatchResult result
-        (λ d. IsTree (types sig.now) (map candidate left.now) (knowledge known.now) (tree d))
+        (IsStep (types sig.now) (map candidate left.now) (knowledge known.now))
         (FailsWith (types sig.now) (map candidate left.now) (knowledge known.now)) }
 {
     let Some(first) = left.first() else {
@@ -81,17 +119,128 @@ fn decide(
         },
     ) = find_test(alloc, first.pattern, known)?
     else {
-        return Ok(chosen(alloc, *first)?);
+        return Ok(Step::Settled(chosen(alloc, *first)?));
     };
-    let at = Vec::from_slice(alloc, found.as_slice())?;
+    let steps = Vec::from_slice(alloc, found.as_slice())?;
+    step_by(alloc, sig, left, known, Path { steps }, asked)
+}
+
+/// What a test leads to that the first row asks for first.
+#[cycle(decide)]
+fn step_by<'a>(
+    alloc: Global,
+    sig: &Sig,
+    left: &[Candidate<'a>],
+    known: &Known,
+    at: Path,
+    asked: Test,
+) -> Result<Step<'a>, MatchError>
+    requires sig { TypesInLimits (types sig.now) }
+    requires rows { RowsInLimits (map candidate left.now) }
+    requires known { InLimits (knowledge known.now) }
+    requires can { CanAll (map candidate left.now) (knowledge known.now) }
+    requires asks { AsksFirst (map candidate left.now) (knowledge known.now) at.steps.items (test asked) }
+    ensures { MatchResult result
+        (IsStep (types sig.now) (map candidate left.now) (knowledge known.now))
+        (FailsWith (types sig.now) (map candidate left.now) (knowledge known.now)) }
+{
     let outcomes = answers(alloc, sig, &asked)?;
-    let mut arms = Vec::new(alloc);
-    for there in &outcomes {
-        let next = learn(alloc, known, at.as_slice(), there)?;
-        let still_left = keep_matching(alloc, left, &next)?;
-        arms.push(decide(alloc, sig, still_left.as_slice(), &next)?)?;
+    match asked {
+        Test::Word {
+            width: _width,
+            tested: _tested,
+            value,
+        } => step_by_word(alloc, sig, left, known, at, value, &outcomes),
+        Test::Flag => {
+            let arms = arms(alloc, sig, left, known, at.steps.as_slice(), &outcomes)?;
+            let (yes, no) = fork(alloc, arms)?;
+            Ok(Step::Settled(Decision::OnFlag { at, yes, no }))
+        }
+        Test::Case(_t) => {
+            let arms = arms(alloc, sig, left, known, at.steps.as_slice(), &outcomes)?;
+            Ok(Step::Settled(Decision::OnCase { at, arms }))
+        }
     }
-    Ok(branches(alloc, Path { steps: at }, asked, arms)?)
+}
+
+/// What the test of a word leads to: its answer yes is worked off, and no is left.
+#[cycle(decide)]
+fn step_by_word<'a>(
+    alloc: Global,
+    sig: &Sig,
+    left: &[Candidate<'a>],
+    known: &Known,
+    at: Path,
+    value: u64,
+    outcomes: &[Known],
+) -> Result<Step<'a>, MatchError>
+    requires sig { TypesInLimits (types sig.now) }
+    requires rows { RowsInLimits (map candidate left.now) }
+    requires known { InLimits (knowledge known.now) }
+    requires can { CanAll (map candidate left.now) (knowledge known.now) }
+    requires asks { AsksWord (types sig.now) (map candidate left.now) (knowledge known.now) at.steps.items value (map knowledge outcomes.now) }
+    ensures { MatchResult result
+        (IsStep (types sig.now) (map candidate left.now) (knowledge known.now))
+        (FailsWith (types sig.now) (map candidate left.now) (knowledge known.now)) }
+{
+    let yes = after(alloc, sig, left, known, at.steps.as_slice(), &outcomes[0])?;
+    let next = learn(alloc, known, at.steps.as_slice(), &outcomes[1])?;
+    let still_left = keep_others(alloc, left, known, at.steps.as_slice(), value)?;
+    Ok(Step::Asked {
+        question: Question { at, value, yes },
+        left: still_left,
+        known: next,
+    })
+}
+
+/// What follows each of the answers of a test.
+#[cycle(decide)]
+fn arms(
+    alloc: Global,
+    sig: &Sig,
+    left: &[Candidate],
+    known: &Known,
+    at: &[(u32, u32)],
+    outcomes: &[Known],
+) -> Result<Vec<Decision>, MatchError>
+    requires sig { TypesInLimits (types sig.now) }
+    requires rows { RowsInLimits (map candidate left.now) }
+    requires known { InLimits (knowledge known.now) }
+    requires can { CanAll (map candidate left.now) (knowledge known.now) }
+    requires asks { AsksFor (types sig.now) (map candidate left.now) (knowledge known.now) at.now (map knowledge outcomes.now) }
+    ensures { MatchResult result
+        (λ ds. AreTrees (types sig.now) (map candidate left.now) (knowledge known.now) at.now (map knowledge outcomes.now) (trees (map tree ds.items)))
+        (FailsWith (types sig.now) (map candidate left.now) (knowledge known.now)) }
+{
+    let mut arms = Vec::new(alloc);
+    for there in outcomes {
+        arms.push(after(alloc, sig, left, known, at, there)?)?;
+    }
+    Ok(arms)
+}
+
+/// What follows where a test shows `there`.
+#[cycle(decide)]
+fn after(
+    alloc: Global,
+    sig: &Sig,
+    left: &[Candidate],
+    known: &Known,
+    at: &[(u32, u32)],
+    there: &Known,
+) -> Result<Decision, MatchError>
+    requires sig { TypesInLimits (types sig.now) }
+    requires rows { RowsInLimits (map candidate left.now) }
+    requires known { InLimits (knowledge known.now) }
+    requires can { CanAll (map candidate left.now) (knowledge known.now) }
+    requires there { MayShow (types sig.now) (map candidate left.now) (knowledge known.now) at.now (knowledge there.now) }
+    ensures { let next = put (knowledge known.now) at.now (knowledge there.now) in MatchResult result
+        (λ d. IsTree (types sig.now) (still (map candidate left.now) next) next (tree d))
+        (FailsWith (types sig.now) (still (map candidate left.now) next) next) }
+{
+    let next = learn(alloc, known, at, there)?;
+    let still_left = keep_matching(alloc, left, &next)?;
+    decide(alloc, sig, still_left, next)
 }
 
 /// The leaf of a chosen row.
@@ -105,33 +254,6 @@ fn chosen(alloc: Global, first: Candidate) -> Result<Decision, AllocError>
         row: first.number,
         binds,
     })
-}
-
-/// The node of a test, with what follows each of its answers.
-fn branches(
-    alloc: Global,
-    at: Path,
-    asked: Test,
-    arms: Vec<Decision>,
-) -> Result<Decision, AllocError>
-    requires { HasArms (test asked) (length arms.items) }
-    ensures { IfOk result (λ d. tree d ≡ node at.steps.items (test asked) (map tree arms.items)) }
-{
-    match asked {
-        Test::Case(_t) => Ok(Decision::OnCase { at, arms }),
-        Test::Flag => {
-            let (yes, no) = fork(alloc, arms)?;
-            Ok(Decision::OnFlag { at, yes, no })
-        }
-        Test::Word {
-            width: _width,
-            tested: _tested,
-            value,
-        } => {
-            let (yes, no) = fork(alloc, arms)?;
-            Ok(Decision::OnWord { at, value, yes, no })
-        }
-    }
 }
 
 /// Two decisions by themselves.

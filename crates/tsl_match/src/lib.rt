@@ -64,9 +64,17 @@
 //!
 //! # Time and stack
 //!
-//! Each test goes once through the rows that are left, for each of its answers. The recursion is as
-//! deep as the tests on the way to a leaf, and each test settles a position of the first row that is
-//! left, or drops that row: so it is no deeper than there are literals and constructors in all rows.
+//! Each test goes once through the rows that are left, for each of its answers. A row's literal at
+//! the tested place is compared with the tested number alone, and one at another place with each
+//! number that was tested there. So n rows of one literal each take time in n²: to find a useless
+//! row, too, the tree is gone through once for each row.
+//!
+//! Where the test of a word is answered no, the compilation goes on in a loop. It calls itself where
+//! the answer is yes and for each answer of the other tests, all of which settle their position for
+//! every row. So its recursion is no deeper than there are different positions at which some row has
+//! a constructor, a truth value or a literal, and many literals at one position add nothing. The
+//! search for useless rows and the drop of a tree go down the tree by calls, also where the answer
+//! is no.
 //!
 //! # Sources
 //!
@@ -90,6 +98,7 @@ mod names;
 mod outcomes;
 mod pattern;
 mod shape;
+mod step;
 
 pub use compilation::compile;
 pub use decision::{Decision, Path};

@@ -98,20 +98,33 @@ fn texts(alloc: Global, arms: &[Decision]) -> Result<String, AllocError> {
     Ok(out)
 }
 
-/// The answer to a match: its tree, `useless ROW` or `unmatched EXAMPLE`.
-fn answer(alloc: Global, sig: &Sig, shape: Shape, rows: &[Pattern]) -> Result<String, AllocError> {
+/// The answer to a match, where it is one.
+fn compiled(
+    alloc: Global,
+    sig: &Sig,
+    shape: Shape,
+    rows: &[Pattern],
+) -> Option<Result<Decision, MatchError>> {
     if !are_types(sig)
         || !all_rows_suit(sig, shape, rows)
         || !is_shape(sig.datas.len() as u64, shape)
         || rows.len() as u64 >= 0x1_0000_0000
     {
-        return String::from_str(alloc, "no match");
+        return None;
     }
-    match compile(alloc, sig, shape, rows) {
-        Ok(decision) => text(alloc, &decision),
-        Err(MatchError::NotExhaustive { example }) => format!(in alloc; "unmatched {example:?}"),
-        Err(MatchError::Useless { row }) => format!(in alloc; "useless {row}"),
-        Err(MatchError::NoMemory) => Err(AllocError),
+    Some(compile(alloc, sig, shape, rows))
+}
+
+/// The answer to a match: its tree, `useless ROW` or `unmatched EXAMPLE`.
+fn answer(alloc: Global, sig: &Sig, shape: Shape, rows: &[Pattern]) -> Result<String, AllocError> {
+    match compiled(alloc, sig, shape, rows) {
+        None => String::from_str(alloc, "no match"),
+        Some(Ok(decision)) => text(alloc, &decision),
+        Some(Err(MatchError::NotExhaustive { example })) => {
+            format!(in alloc; "unmatched {example:?}")
+        }
+        Some(Err(MatchError::Useless { row })) => format!(in alloc; "useless {row}"),
+        Some(Err(MatchError::NoMemory)) => Err(AllocError),
     }
 }
 
@@ -182,7 +195,7 @@ fn answers_follow_the_rule(rt: HostRuntime) -> Result<(), Fail> {
             ]?,
             "(case  2 3@ (flag /1.0 0 2 3@) (/2.0=5 1 4@/2.1 2 3@))",
         ),
-        // no test is needed of the first field where the second decides
+        // the second field is tested first, and then the first, for the row that names it
         (
             Shape::Data(1),
             vec![in a; case2(a, 0, any(), yes())?, case2(a, 0, no(), any())?]?,
@@ -243,5 +256,47 @@ fn two_hundred_rows(rt: HostRuntime) -> Result<(), Fail> {
     let found = answer(a, &sig, Shape::Data(0), &rows)?;
     assert!(rt; found.as_str().starts_with("(case  0 1 2 3"));
     assert!(rt; found.as_str().ends_with(" 198 199)"));
+    Ok(())
+}
+
+/// The row of the leaf where each answer is no.
+fn last_row(decision: &Decision) -> Option<u32> {
+    let mut rest = decision;
+    loop {
+        match rest {
+            Decision::OnWord {
+                at: _at,
+                value: _value,
+                yes: _yes,
+                no,
+            } => rest = no,
+            Decision::Row { row, binds: _binds } => return Some(*row),
+            _ => return None,
+        }
+    }
+}
+
+/// That row of the tree of a match.
+fn compiled_last_row(alloc: Global, sig: &Sig, shape: Shape, rows: &[Pattern]) -> Option<u32> {
+    match compiled(alloc, sig, shape, rows) {
+        None => None,
+        Some(Err(_error)) => None,
+        Some(Ok(decision)) => last_row(&decision),
+    }
+}
+
+/// A row for each of many literals, and one for the other words: as many questions, one below the
+/// other.
+#[test]
+fn many_literals(rt: HostRuntime) -> Result<(), Fail> {
+    let a = rt.alloc();
+    let sig = Sig { datas: Vec::new(a) };
+    let mut rows = Vec::new(a);
+    for n in 0..8000u64 {
+        rows.push(Pattern::Word(n))?;
+    }
+    rows.push(Pattern::Any)?;
+    let found = compiled_last_row(a, &sig, Shape::Word(32), &rows);
+    assert_eq!(rt; found, Some(8000));
     Ok(())
 }

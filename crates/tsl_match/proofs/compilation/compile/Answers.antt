@@ -16,19 +16,19 @@ decide-requires-clause-sig c = types_limits (types c.args.sig.now) c.requires.ty
 
 pub decide-requires-clause-rows : goal.decide-requires-clause-rows
 decide-requires-clause-rows c =
-    let rows : map candidate c.as_slice.result.now ≡ numbered 0 (map pat c.args.rows.now) = search rules in
+    let rows : map candidate c.in_ok-left.left.items ≡ numbered 0 (map pat c.args.rows.now) = search rules in
     let suit = rows_suit (types c.args.sig.now) c.args.shape 0 c.args.rows.now c.requires.patterns in
     rw rows (rows_limits (types c.args.sig.now) c.requires.types c.args.shape (numbered 0 (map pat c.args.rows.now)) suit)
 
 pub decide-requires-clause-can : goal.decide-requires-clause-can
-decide-requires-clause-can c = rw (known_Unknown c.args.shape) (can_all_unknown (map candidate c.as_slice.result.now) c.args.shape)
+decide-requires-clause-can c = rw (known_Unknown c.args.shape) (can_all_unknown (map candidate c.in_ok-left.left.items) c.args.shape)
 
 pub returns-in_err-decision-clause-refusal : goal.returns-in_err-decision-clause-refusal
 returns-in_err-decision-clause-refusal c =
-    let rows : map candidate c.as_slice.result.now ≡ numbered 0 (map pat c.args.rows.now) = search rules in
+    let rows : map candidate c.in_ok-left.left.items ≡ numbered 0 (map pat c.args.rows.now) = search rules in
     let suit = rows_suit (types c.args.sig.now) c.args.shape 0 c.args.rows.now c.requires.patterns in
     let p = err_from_is_err_and c.from_residual-in_err-decision.result c.from_residual-in_err-decision.ensures.1 in
-    let deeper : FailsWith (types c.args.sig.now) (map candidate c.as_slice.result.now) (knowledge (Unknown c.args.shape)) c.in_err-decision.field-0.0 = c.in_err-decision.ensures in
+    let deeper : FailsWith (types c.args.sig.now) (map candidate c.in_ok-left.left.items) (knowledge (Unknown c.args.shape)) c.in_err-decision.field-0.0 = c.in_err-decision.ensures in
     let fails = rw (known_Unknown c.args.shape) at (rw rows at deeper) in
     rw (p.1, p.2) (refused (types c.args.sig.now) c.requires.types c.args.shape c.requires.shape (map pat c.args.rows.now) suit c.in_err-decision.field-0.0 fails)
 
@@ -36,8 +36,8 @@ pub returns-in-Some-clause-refusal : goal.returns-in-Some-clause-refusal
 returns-in-Some-clause-refusal c =
     let suit = rows_suit (types c.args.sig.now) c.args.shape 0 c.args.rows.now c.requires.patterns in
     let is : IsTreeOf (types c.args.sig.now) c.args.shape (map pat c.args.rows.now) (tree c.in_ok-decision.decision) =
-    let rows : map candidate c.as_slice.result.now ≡ numbered 0 (map pat c.args.rows.now) = search rules in
-    let here : IsTree (types c.args.sig.now) (map candidate c.as_slice.result.now) (knowledge (Unknown c.args.shape)) (tree c.in_ok-decision.decision) = c.in_ok-decision.ensures in
+    let rows : map candidate c.in_ok-left.left.items ≡ numbered 0 (map pat c.args.rows.now) = search rules in
+    let here : IsTree (types c.args.sig.now) (map candidate c.in_ok-left.left.items) (knowledge (Unknown c.args.shape)) (tree c.in_ok-decision.decision) = c.in_ok-decision.ensures in
     rw (known_Unknown c.args.shape) at (rw rows at here) in
     let h = c.in-Some.ensures in (
       exhaustive (types c.args.sig.now) c.requires.types c.args.shape c.requires.shape (map pat c.args.rows.now) suit (tree c.in_ok-decision.decision) is,
@@ -46,30 +46,30 @@ returns-in-Some-clause-refusal c =
       λ q l. of_use (types c.args.sig.now) c.requires.types c.args.shape c.requires.shape (map pat c.args.rows.now) suit (tree c.in_ok-decision.decision) q is (h.2 q l),
     )
 
-pub returns-clause-first_match : goal.returns-clause-first_match
-returns-clause-first_match c =
+pub returns-in-None-clause-first_match : goal.returns-in-None-clause-first_match
+returns-in-None-clause-first_match c =
     let suit = rows_suit (types c.args.sig.now) c.args.shape 0 c.args.rows.now c.requires.patterns in
     let is : IsTreeOf (types c.args.sig.now) c.args.shape (map pat c.args.rows.now) (tree c.in_ok-decision.decision) =
-    let rows : map candidate c.as_slice.result.now ≡ numbered 0 (map pat c.args.rows.now) = search rules in
-    let here : IsTree (types c.args.sig.now) (map candidate c.as_slice.result.now) (knowledge (Unknown c.args.shape)) (tree c.in_ok-decision.decision) = c.in_ok-decision.ensures in
+    let rows : map candidate c.in_ok-left.left.items ≡ numbered 0 (map pat c.args.rows.now) = search rules in
+    let here : IsTree (types c.args.sig.now) (map candidate c.in_ok-left.left.items) (knowledge (Unknown c.args.shape)) (tree c.in_ok-decision.decision) = c.in_ok-decision.ensures in
     rw (known_Unknown c.args.shape) at (rw rows at here) in
     picks_first (types c.args.sig.now) c.requires.types c.args.shape c.requires.shape (map pat c.args.rows.now) suit (tree c.in_ok-decision.decision) is
 
-pub returns-clause-exhaustive : goal.returns-clause-exhaustive
-returns-clause-exhaustive c =
+pub returns-in-None-clause-exhaustive : goal.returns-in-None-clause-exhaustive
+returns-in-None-clause-exhaustive c =
     let suit = rows_suit (types c.args.sig.now) c.args.shape 0 c.args.rows.now c.requires.patterns in
     let is : IsTreeOf (types c.args.sig.now) c.args.shape (map pat c.args.rows.now) (tree c.in_ok-decision.decision) =
-    let rows : map candidate c.as_slice.result.now ≡ numbered 0 (map pat c.args.rows.now) = search rules in
-    let here : IsTree (types c.args.sig.now) (map candidate c.as_slice.result.now) (knowledge (Unknown c.args.shape)) (tree c.in_ok-decision.decision) = c.in_ok-decision.ensures in
+    let rows : map candidate c.in_ok-left.left.items ≡ numbered 0 (map pat c.args.rows.now) = search rules in
+    let here : IsTree (types c.args.sig.now) (map candidate c.in_ok-left.left.items) (knowledge (Unknown c.args.shape)) (tree c.in_ok-decision.decision) = c.in_ok-decision.ensures in
     rw (known_Unknown c.args.shape) at (rw rows at here) in
     exhaustive (types c.args.sig.now) c.requires.types c.args.shape c.requires.shape (map pat c.args.rows.now) suit (tree c.in_ok-decision.decision) is
 
-pub returns-clause-of_use : goal.returns-clause-of_use
-returns-clause-of_use c =
+pub returns-in-None-clause-of_use : goal.returns-in-None-clause-of_use
+returns-in-None-clause-of_use c =
     let suit = rows_suit (types c.args.sig.now) c.args.shape 0 c.args.rows.now c.requires.patterns in
     let is : IsTreeOf (types c.args.sig.now) c.args.shape (map pat c.args.rows.now) (tree c.in_ok-decision.decision) =
-    let rows : map candidate c.as_slice.result.now ≡ numbered 0 (map pat c.args.rows.now) = search rules in
-    let here : IsTree (types c.args.sig.now) (map candidate c.as_slice.result.now) (knowledge (Unknown c.args.shape)) (tree c.in_ok-decision.decision) = c.in_ok-decision.ensures in
+    let rows : map candidate c.in_ok-left.left.items ≡ numbered 0 (map pat c.args.rows.now) = search rules in
+    let here : IsTree (types c.args.sig.now) (map candidate c.in_ok-left.left.items) (knowledge (Unknown c.args.shape)) (tree c.in_ok-decision.decision) = c.in_ok-decision.ensures in
     rw (known_Unknown c.args.shape) at (rw rows at here) in
     let h = c.in-None.ensures in
     λ r l. of_use (types c.args.sig.now) c.requires.types c.args.shape c.requires.shape (map pat c.args.rows.now) suit (tree c.in_ok-decision.decision) r is (h r l)

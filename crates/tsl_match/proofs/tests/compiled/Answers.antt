@@ -3,7 +3,7 @@ use Rattle.std.proofs.lemmas.List.{length-map}
 use Rattle.tsl_match.specs.Premises.{shape_fits}
 use Rattle.tsl_match.specs.Views.{types}
 use Rattle.tsl_match.proofs.Checked.{are_types, rows_suit, is_a_shape}
-use Rattle.tsl_match.proofs.tests.answer.Goals as goal
+use Rattle.tsl_match.proofs.tests.compiled.Goals as goal
 
 pub compile-requires-clause-types : goal.compile-requires-clause-types
 compile-requires-clause-types c = are_types (types c.args.sig.now) (sym c.are_types.ensures ∙ c.if-not-are_types.false)
