@@ -116,7 +116,10 @@ fn given<B: Base>(
     let x = word::<B>(rt, alloc, ctx, w, xs)?;
     let y = word::<B>(rt, alloc, ctx, w, ys)?;
     match call {
-        Call::Two(op) => text::<B>(alloc, ctx, w, &B::op2(alloc, ctx, op, w, &x, &y)?),
+        Call::Two(op) => {
+            let found = B::op2(alloc, ctx, op, w, &x, &y)?;
+            text::<B>(alloc, ctx, w, &B::copy(alloc, ctx, &found)?)
+        }
         Call::Join => text::<B>(alloc, ctx, w, &B::join(alloc, ctx, w, &x, &y)?),
         Call::Widen => text::<B>(alloc, ctx, w, &B::widen(alloc, ctx, w, &x, &y)?),
         _ => changed::<B>(rt, alloc, ctx, call, w, &x),
