@@ -22,6 +22,23 @@ decode {
 }
 ";
 
+/// The same machine, without guards.
+const MINI: &str = "map Reg [INT2 -> INT32] default 0;
+type Instr = Set(d: INT2, v: INT16) | Add(d: INT2, a: INT2, b: INT2) | Jz(a: INT2, t: INT16);
+type State = State(pc: INT32, r: Reg);
+fun interpInstr(i: Instr, s: State) -> State =
+  match s with { State(pc, r) => match i with {
+    Set(d, v) => State(pc + 4:32, r[d := zext(v, 32)]);
+    Add(d, a, b) => State(pc + 4:32, r[d := r[a] + r[b]]);
+    Jz(a, t) => State(if r[a] == 0:32 then zext(t, 32) else pc + 4:32, r);
+  }; };
+decode {
+  [1:8 0:6 d:2 v:16] => Set(d, v);
+  [2:8 0:18 d:2 a:2 b:2] => Add(d, a, b);
+  [3:8 0:6 a:2 t:16] => Jz(a, t);
+}
+";
+
 fn tokens_of(rt: &impl Abort, alloc: Global, source: &str) -> Vec<Token> {
     assert!(rt; source.len() <= 262_144);
     match lex(alloc, source.as_bytes()) {
@@ -124,6 +141,18 @@ fn levels(rt: HostRuntime) -> Result<(), Fail> {
         let source = repeated(rt.alloc(), opened.as_str(), close, m, ";")?;
         let found = answer(&rt, rt.alloc(), source.as_str())?;
         assert_eq!(rt; found.as_str(), wanted, "{piece} {n}");
+    }
+    Ok(())
+}
+
+#[test]
+fn levels_of_patterns(rt: HostRuntime) -> Result<(), Fail> {
+    let head = "fun f(x: INT32) -> INT32 = match x with { ";
+    for (n, wanted) in [(254, "1 items"), (255, "P2 at 552")] {
+        let opened = repeated(rt.alloc(), head, "A(", n, "x")?;
+        let source = repeated(rt.alloc(), opened.as_str(), ")", n, " => x; };")?;
+        let found = answer(&rt, rt.alloc(), source.as_str())?;
+        assert_eq!(rt; found.as_str(), wanted, "{n} constructors");
     }
     Ok(())
 }
@@ -311,5 +340,79 @@ fn spans(rt: HostRuntime) -> Result<(), Fail> {
     };
     assert_eq!(rt; span(*made, alloc)?.as_str(), "61-68");
     assert_eq!(rt; parts.len(), 2);
+    Ok(())
+}
+
+/// A declaration as it is printed for debugging, with names, numbers and spans in short: `Reg@4-7` is a name with its span.
+fn printed(alloc: Global, item: &Item) -> Result<String, AllocError> {
+    let mut text = format!(in alloc; "{item:?}")?;
+    for (long, short) in [
+        ("Name { text: Text { string: \"", ""),
+        ("\" }, span: Span { from: ", "@"),
+        ("span: Span { from: ", "@"),
+        ("to: Num { v: ", "width "),
+        ("Num { v: ", ""),
+        (", to: ", "-"),
+        (" } }", ""),
+    ] {
+        text = text.replace(alloc, long, short)?;
+    }
+    Ok(text)
+}
+
+#[test]
+fn each_declaration_has_its_tree(rt: HostRuntime) -> Result<(), Fail> {
+    let alloc = rt.alloc();
+    let tokens = tokens_of(&rt, alloc, MINI);
+    let tree = parse(alloc, tokens.as_slice(), 583).ok().ok_or("no tree")?;
+    let wanted = [
+        "Map(MapDecl { name: Reg@4-7, key: INT2@9-13, value: INT32@17-22, default: 0, @32-33, @0-34)",
+        "Data(DataDecl { name: Instr@40-45, cases: [CaseDecl { name: Set@48-51, \
+         fields: [FieldDecl { name: d@52-53, ty: INT2@55-59, @52-59, FieldDecl { name: v@61-62, \
+         ty: INT16@64-69, @61-69], @48-70, CaseDecl { name: Add@73-76, fields: [FieldDecl { name: d@77-78, \
+         ty: INT2@80-84, @77-84, FieldDecl { name: a@86-87, ty: INT2@89-93, @86-93, \
+         FieldDecl { name: b@95-96, ty: INT2@98-102, @95-102], @73-103, CaseDecl { name: Jz@106-108, \
+         fields: [FieldDecl { name: a@109-110, ty: INT2@112-116, @109-116, FieldDecl { name: t@118-119, \
+         ty: INT16@121-126, @118-126], @106-127], @35-128)",
+        "Data(DataDecl { name: State@134-139, cases: [CaseDecl { name: State@142-147, \
+         fields: [FieldDecl { name: pc@148-150, ty: INT32@152-157, @148-157, FieldDecl { name: r@159-160, \
+         ty: Reg@162-165, @159-165], @142-166], @129-167)",
+        "Fun(FunDecl { name: interpInstr@172-183, params: [FieldDecl { name: i@184-185, ty: Instr@187-192, \
+         @184-192, FieldDecl { name: s@194-195, ty: State@197-202, @194-202], result: State@207-212, \
+         body: Match { x: Var(s@223-224), arms: [Arm { pat: Make { name: State@232-237, \
+         parts: [Var(pc@238-240), Var(r@242-243)], @232-244, body: Match { x: Var(i@254-255), \
+         arms: [Arm { pat: Make { name: Set@267-270, parts: [Var(d@271-272), Var(v@274-275)], @267-276, \
+         body: Make { name: State@280-285, args: [Binary { op: Add, x: Var(pc@286-288), y: Word { v: 4, \
+         @291-292, w: 32, @293-295, @291-295, @286-295, Put { x: Var(r@297-298), key: Var(d@299-300), \
+         v: Cast { op: KwZext, x: Var(v@309-310), width 32, @312-314, @304-315, @297-316], @280-317, \
+         @267-318, Arm { pat: Make { name: Add@323-326, parts: [Var(d@327-328), Var(a@330-331), \
+         Var(b@333-334)], @323-335, body: Make { name: State@339-344, args: [Binary { op: Add, \
+         x: Var(pc@345-347), y: Word { v: 4, @350-351, w: 32, @352-354, @350-354, @345-354, \
+         Put { x: Var(r@356-357), key: Var(d@358-359), v: Binary { op: Add, x: Get { x: Var(r@363-364), \
+         key: Var(a@365-366), @363-367, y: Get { x: Var(r@370-371), key: Var(b@372-373), @370-374, @363-374, \
+         @356-375], @339-376, @323-377, Arm { pat: Make { name: Jz@382-384, parts: [Var(a@385-386), \
+         Var(t@388-389)], @382-390, body: Make { name: State@394-399, args: [If { c: Binary { op: Eq, \
+         x: Get { x: Var(r@403-404), key: Var(a@405-406), @403-407, y: Word { v: 0, @411-412, w: 32, \
+         @413-415, @411-415, @403-415, yes: Cast { op: KwZext, x: Var(t@426-427), width 32, @429-431, \
+         @421-432, no: Binary { op: Add, x: Var(pc@438-440), y: Word { v: 4, @443-444, w: 32, @445-447, \
+         @443-447, @438-447, @400-447, Var(r@449-450)], @394-451, @382-452], @248-456, @232-457], @217-459, \
+         @168-460)",
+        "Decode(DecodeDecl { rows: [RowDecl { parts: [Fixed { v: 1, @473-474, w: 8, @475-476, @473-476, \
+         Fixed { v: 0, @477-478, w: 6, @479-480, @477-480, Named { name: d@481-482, w: 2, @483-484, \
+         @481-484, Named { name: v@485-486, w: 16, @487-489, @485-489], guards: [], case: Set@494-497, \
+         args: [Named(d@498-499), Named(v@501-502)], @472-504, RowDecl { parts: [Fixed { v: 2, @508-509, \
+         w: 8, @510-511, @508-511, Fixed { v: 0, @512-513, w: 18, @514-516, @512-516, \
+         Named { name: d@517-518, w: 2, @519-520, @517-520, Named { name: a@521-522, w: 2, @523-524, \
+         @521-524, Named { name: b@525-526, w: 2, @527-528, @525-528], guards: [], case: Add@533-536, \
+         args: [Named(d@537-538), Named(a@540-541), Named(b@543-544)], @507-546, \
+         RowDecl { parts: [Fixed { v: 3, @550-551, w: 8, @552-553, @550-553, Fixed { v: 0, @554-555, w: 6, \
+         @556-557, @554-557, Named { name: a@558-559, w: 2, @560-561, @558-561, Named { name: t@562-563, \
+         w: 16, @564-566, @562-566], guards: [], case: Jz@571-573, args: [Named(a@574-575), \
+         Named(t@577-578)], @549-580], @461-582)",
+    ];
+    assert_eq!(rt; tree.items.len(), wanted.len());
+    for (item, wanted) in tree.items.iter().zip(wanted) {
+        assert_eq!(rt; printed(alloc, item)?.as_str(), wanted);
+    }
     Ok(())
 }

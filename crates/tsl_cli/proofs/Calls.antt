@@ -5,8 +5,8 @@ use Rattle.tsl_parser.specs.Tree.{Tree}
 use Rattle.tsl_den.specs.Functions.{number_of}
 use Rattle.tsl_cli.specs.declared.refusal.Refusal.{Refusal}
 use Rattle.tsl_cli.specs.declared.refusal.Refusal.TheVariants.{BadWords, NotBuilt, CannotRead, TooLong, SpecRefused, NoMemory}
-use Rattle.tsl_cli.specs.Call.{arguments_in}
-use Rattle.tsl_cli.specs.Calling.{CallsFor, GivesNumbers, bad_numbers}
+use Rattle.tsl_cli.specs.Call.{arguments_in, bad_numbers}
+use Rattle.tsl_cli.specs.Calling.{CallsFor, GivesNumbers}
 
 -- where a function has no arguments the call has no value
 pub no_arguments : (tree : Tree) (fun : List ℕ) (texts : List (List ℕ)) (number : ℕ) (refusal : Refusal) → number_of tree fun ≡ Some number

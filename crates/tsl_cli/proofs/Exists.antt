@@ -1,5 +1,5 @@
 -- Something is owed for all words.
-use Rattle.std.proofs.Common.{◌≡◌, ◌≢◌, ℕ, suc, ◌<◌, ◌≤◌, ◌^◌, ◌⊎◌, inl, inr, Bool, true, false, cond, ◌&&◌, List, [], ◌∷◌, Option, Some, None, length, refl, sym, ◌∙◌, ap, subst, All, eqb, ltb, ltb-true, eqb-true, option_map}
+use Rattle.std.proofs.Common.{◌≡◌, ◌≢◌, ℕ, suc, ◌<◌, ◌^◌, ◌⊎◌, inl, inr, Bool, true, false, cond, ◌&&◌, List, [], ◌∷◌, Option, Some, None, length, refl, sym, ◌∙◌, ap, subst, All, eqb, ltb, ltb-true, eqb-true, option_map}
 use Rattle.std.specs.Prelude.{option_and_then, IsSomeAnd}
 use Rattle.std.specs.Str.Parse.{digits_value}
 use Rattle.std.proofs.lemmas.List.Elements.{All-nil, All-cons}
@@ -14,21 +14,21 @@ use Rattle.tsl_parser.proofs.Total as parsing
 use Rattle.tsl_den.specs.FirstForm.{IsFirstForm}
 use Rattle.tsl_den.specs.Functions.{number_of, parameter_count}
 use Rattle.tsl_den.specs.Meaning.{meaning}
+use Rattle.tsl_den.proofs.Decided.{Decided, is_first_form, up_to}
 use Rattle.tsl_den.proofs.Sound.{functions_have_values}
 use Rattle.tsl_cli.specs.declared.status.Status.{Status}
 use Rattle.tsl_cli.specs.declared.status.Status.TheVariants as s
-use Rattle.tsl_cli.specs.Call.{arguments_in}
+use Rattle.tsl_cli.specs.Call.{arguments_in, bad_numbers, no_function}
 use Rattle.tsl_cli.specs.Laws.{SomeAnswer}
 use Rattle.tsl_cli.specs.Lines.{bad_words_line, cannot_read_line, not_built_line, spec_line, too_long_line, value_line}
 use Rattle.tsl_cli.specs.Numbers.{is_number, number_in, numbers_in}
-use Rattle.tsl_cli.specs.Owed.{Held, Owes}
+use Rattle.tsl_cli.specs.Owed.{Held, Owes, Reads}
 use Rattle.tsl_cli.specs.Owed as owed
 use Rattle.tsl_cli.specs.Sources.{source_cap, HasFault, IsOfOtherForm, IsParsedFrom, IsSpecification}
 use Rattle.tsl_cli.specs.Sources as sources
 use Rattle.tsl_cli.specs.declared.spec_fault.SpecFault.{SpecFault}
 use Rattle.tsl_cli.specs.declared.spec_fault.SpecFault.TheVariants.{BadByte, LongName, BadNumber, Syntax, TooDeep}
 use Rattle.tsl_cli.specs.Words.{Asked, bad, not_built, call, asked}
-use Rattle.tsl_cli.proofs.Decided.{Decided, is_first_form, up_to}
 
 -- ---- a source has a specification, a fault, or a tree of another form
 
@@ -116,35 +116,36 @@ module _ (words : List (List ℕ)) (held : Held) where
   Owed = (status : Status) × (text : List ℕ) × Owes words held status text
 
   module _ (spec fun : List ℕ) (numbers : List (List ℕ)) (asks : asked words ≡ call spec fun numbers) where
-    module _ (source : List ℕ) (holds : held spec ≡ Some source) (fits : length source ≤ source_cap) (tree : Tree) (specifies : IsSpecification source tree) where
+    module _ (source : List ℕ) (reads : Reads words held fun numbers source) (tree : Tree) (specifies : IsSpecification source tree) where
       by_value : (number : ℕ) (args : List ℕ) (v : Option ℕ) → number_of tree fun ≡ Some number → arguments_in tree number numbers ≡ Some args → meaning tree number args ≡ v → IsSomeAnd v (λ v. v < 2 ^ 32) → Owed
       unfolding Owed
-      by_value number args (Some v) named written means some = (s.Ok, value_line v, owed.value asks holds fits specifies named written means)
+      by_value number args (Some v) named written means some =
+          (s.Ok, value_line v, owed.value reads specifies (record { number = number; args = args; named = named; written = written; value = means }))
       by_value number args None named written means some = absurd some
 
       by_arguments : (number : ℕ) (args : Option (List ℕ)) → number_of tree fun ≡ Some number → arguments_in tree number numbers ≡ args → Owed
       unfolding Owed
-      by_arguments number None named unwritten = (s.BadWords, bad_words_line, owed.bad_numbers asks holds fits specifies named unwritten)
+      by_arguments number None named unwritten = (s.BadWords, bad_words_line, owed.no_call reads specifies (bad_numbers named unwritten))
       by_arguments number (Some args) named written =
           let count = counted (parameter_count tree number) numbers args written in
           by_value number args (meaning tree number args) named written refl (functions_have_values tree number args specifies.form count.0 count.1)
 
       by_number : (number : Option ℕ) → number_of tree fun ≡ number → Owed
       unfolding Owed
-      by_number None unnamed = (s.BadWords, bad_words_line, owed.no_function asks holds fits specifies unnamed)
+      by_number None unnamed = (s.BadWords, bad_words_line, owed.no_call reads specifies (no_function unnamed))
       by_number (Some number) named = by_arguments number (arguments_in tree number numbers) named refl
 
-    by_source : (source : List ℕ) → held spec ≡ Some source → length source ≤ source_cap → Found source → Owed
+    by_source : (source : List ℕ) → Reads words held fun numbers source → Found source → Owed
     unfolding Owed
-    by_source source holds fits (inl (tree, specifies)) = by_number source holds fits tree specifies (number_of tree fun) refl
-    by_source source holds fits (inr (inl (fault, has))) = (s.SpecRefused, spec_line fault, owed.spec_refused asks holds fits has)
-    by_source source holds fits (inr (inr form)) = (s.NotBuilt, not_built_line, owed.source_not_built asks holds fits form)
+    by_source source reads (inl (tree, specifies)) = by_number source reads tree specifies (number_of tree fun) refl
+    by_source source reads (inr (inl (fault, has))) = (s.SpecRefused, spec_line fault, owed.spec_refused reads has)
+    by_source source reads (inr (inr form)) = (s.NotBuilt, not_built_line, owed.source_not_built reads form)
 
     by_held : (found : Option (List ℕ)) → held spec ≡ found → Owed
     unfolding Owed
     by_held None is = (s.ReadFault, cannot_read_line spec, owed.cannot_read asks is)
     by_held (Some source) is = elim (up_to (length source) source_cap) [
-      | inl fits ↦ by_source source is fits (specification_or_none source)
+      | inl fits ↦ by_source source (record { spec = spec; asks = asks; holds = is; fits = fits }) (specification_or_none source)
       | inr long ↦ (s.TooLong, too_long_line spec, owed.too_long asks is long)
     ]
 

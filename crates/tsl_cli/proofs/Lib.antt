@@ -1,8 +1,8 @@
 mod Calls
-mod Decided
 mod Digits
 mod Exists
 mod Numbers
+mod OneLine
 mod Owing
 mod Sources
 mod Unique

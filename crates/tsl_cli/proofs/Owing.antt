@@ -8,11 +8,11 @@ use Rattle.tsl_cli.specs.declared.refusal.Refusal.{Refusal}
 use Rattle.tsl_cli.specs.declared.refusal.Refusal.TheVariants.{BadWords, NotBuilt, CannotRead, TooLong, SpecRefused, NoMemory}
 use Rattle.tsl_cli.specs.declared.status.Status.{Status}
 use Rattle.tsl_cli.specs.declared.status.Status.TheVariants as s
-use Rattle.tsl_cli.specs.Calling.{CallsFor, IsCallOf, IsNoCall}
-use Rattle.tsl_cli.specs.Calling as calling
+use Rattle.tsl_cli.specs.Call.{IsCallOf}
+use Rattle.tsl_cli.specs.Calling.{CallsFor}
 use Rattle.tsl_cli.specs.Commands.{Asks}
 use Rattle.tsl_cli.specs.Lines.{too_long_line, value_line}
-use Rattle.tsl_cli.specs.Owed.{Held, Owes, Due, Unread}
+use Rattle.tsl_cli.specs.Owed.{Held, Owes, Reads, Due, Unread}
 use Rattle.tsl_cli.specs.Owed as owed
 use Rattle.tsl_cli.specs.Reading.{IsReadRefusal, Specifies}
 use Rattle.tsl_cli.specs.Refusals.{line_of, status_of}
@@ -45,23 +45,22 @@ module _ (words : List (List ℕ)) (held : Held) (spec fun : List ℕ) (numbers 
   no_source tells sure old new NoMemory told refused = tt
 
   module _ (source : List ℕ) (holds : held spec ≡ Some source) (fits : length source ≤ source_cap) where
+    reads : Reads words held fun numbers source
+    reads = record { spec = spec; asks = asks; holds = holds; fits = fits }
+
     -- where it has no specification
     pub no_specification : (refusal : Refusal) → Specifies source (Err refusal) → IsOwed words held (Err refusal)
     no_specification BadWords refused = absurd refused
-    no_specification NotBuilt refused = owed.source_not_built asks holds fits refused
+    no_specification NotBuilt refused = owed.source_not_built reads refused
     no_specification (CannotRead name) refused = tt
     no_specification (TooLong name) refused = absurd refused
-    no_specification (SpecRefused fault) refused = owed.spec_refused asks holds fits refused
+    no_specification (SpecRefused fault) refused = owed.spec_refused reads refused
     no_specification NoMemory refused = tt
 
     module _ (tree : Tree) (specifies : IsSpecification source tree) where
-      bad_call : IsNoCall tree fun numbers → IsOwed words held (Err BadWords)
-      bad_call (calling.no_function none) = owed.no_function asks holds fits specifies none
-      bad_call (calling.bad_numbers named none) = owed.bad_numbers asks holds fits specifies named none
-
       -- where the call has no value
       pub no_value : (refusal : Refusal) → CallsFor tree fun numbers (Err refusal) → IsOwed words held (Err refusal)
-      no_value BadWords refused = bad_call refused
+      no_value BadWords refused = owed.no_call reads specifies refused
       no_value NotBuilt refused = absurd refused
       no_value (CannotRead name) refused = tt
       no_value (TooLong name) refused = absurd refused
@@ -70,7 +69,7 @@ module _ (words : List (List ℕ)) (held : Held) (spec fun : List ℕ) (numbers 
 
       -- and where it has one
       pub some_value : (v : ℕ) (text : List ℕ) → IsCallOf tree fun numbers v → text ≡ value_line v → Owes words held s.Ok text
-      some_value v text value is = subst (λ (t : List ℕ). Owes words held s.Ok t) (sym is) (owed.value asks holds fits specifies value.named value.written value.value)
+      some_value v text value is = subst (λ (t : List ℕ). Owes words held s.Ok t) (sym is) (owed.value reads specifies value)
 
 -- what the words alone refuse
 pub refused_at_once : (words : List (List ℕ)) (held : Held) (refusal : Refusal) → Asks (Err refusal) (asked words) → IsOwed words held (Err refusal)

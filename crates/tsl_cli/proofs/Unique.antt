@@ -13,10 +13,10 @@ use Rattle.tsl_den.specs.Functions.{number_of}
 use Rattle.tsl_den.specs.Meaning.{meaning}
 use Rattle.tsl_cli.specs.declared.status.Status.{Status}
 use Rattle.tsl_cli.specs.declared.status.Status.TheVariants as s
-use Rattle.tsl_cli.specs.Call.{arguments_in}
+use Rattle.tsl_cli.specs.Call.{arguments_in, bad_numbers, no_function}
 use Rattle.tsl_cli.specs.Laws.{OneAnswer}
 use Rattle.tsl_cli.specs.Lines.{bad_words_line, cannot_read_line, not_built_line, spec_line, too_long_line, value_line}
-use Rattle.tsl_cli.specs.Owed.{Held, Owes}
+use Rattle.tsl_cli.specs.Owed.{Held, Owes, Reads}
 use Rattle.tsl_cli.specs.Owed as owed
 use Rattle.tsl_cli.specs.Sources.{source_cap, HasFault, IsOfOtherForm, IsParsedFrom, IsSpecification}
 use Rattle.tsl_cli.specs.Sources as sources
@@ -128,23 +128,27 @@ module _ (words : List (List ℕ)) (held : Held) where
   at_held spec fun numbers found status text asks is by =
       at_asked (call spec fun numbers) status text asks (subst (λ (f : Option (List ℕ)). ByHeld spec fun numbers f status text) (sym is) by)
 
+  at_source : (fun : List ℕ) (numbers : List (List ℕ)) (source : List ℕ) (status : Status) (text : List ℕ) → Reads words held fun numbers source → BySource fun numbers source status text
+      → ByAsked (asked words) held status text
+  at_source fun numbers source status text reads by = at_held reads.spec fun numbers (Some source) status text reads.asks reads.holds (short reads.fits by)
+
   by_cases : (status : Status) (text : List ℕ) → Owes words held status text → ByAsked (asked words) held status text
   by_cases status text (owed.bad_words asks) = at_asked bad status text asks (refl, refl)
   by_cases status text (owed.words_not_built asks) = at_asked not_built status text asks (refl, refl)
   by_cases status text (owed.cannot_read {spec = spec} {fun = fun} {numbers = numbers} asks is) = at_held spec fun numbers None status text asks is (refl, refl)
   by_cases status text (owed.too_long {spec = spec} {fun = fun} {numbers = numbers} {source = source} asks is far) = at_held spec fun numbers (Some source) status text asks is (long far refl refl)
-  by_cases status text (owed.spec_refused {spec = spec} {fun = fun} {numbers = numbers} {source = source} {fault = fault} asks is fits has) =
-      at_held spec fun numbers (Some source) status text asks is (short fits (refused fault has refl refl))
-  by_cases status text (owed.source_not_built {spec = spec} {fun = fun} {numbers = numbers} {source = source} asks is fits form) =
-      at_held spec fun numbers (Some source) status text asks is (short fits (of_other_form form refl refl))
-  by_cases status text (owed.no_function {spec = spec} {fun = fun} {numbers = numbers} {source = source} {tree = tree} asks is fits specifies unnamed) =
-      at_held spec fun numbers (Some source) status text asks is (short fits (some tree specifies (subst (λ (n : Option ℕ). ByNumber tree numbers n status text) (sym unnamed) (refl, refl))))
-  by_cases status text (owed.bad_numbers {spec = spec} {fun = fun} {numbers = numbers} {source = source} {tree = tree} {number = number} asks is fits specifies named unwritten) =
-      at_held spec fun numbers (Some source) status text asks is (short fits (some tree specifies (subst (λ (n : Option ℕ). ByNumber tree numbers n status text) (sym named)
-      (subst (λ (a : Option (List ℕ)). ByArguments tree number a status text) (sym unwritten) (refl, refl)))))
-  by_cases status text (owed.value {spec = spec} {fun = fun} {numbers = numbers} {source = source} {tree = tree} {number = number} {args = args} asks is fits specifies named written means) =
-      at_held spec fun numbers (Some source) status text asks is (short fits (some tree specifies (subst (λ (n : Option ℕ). ByNumber tree numbers n status text) (sym named)
-      (subst (λ (a : Option (List ℕ)). ByArguments tree number a status text) (sym written) (subst (λ (v : Option ℕ). ByValue v status text) (sym means) (refl, refl))))))
+  by_cases status text (owed.spec_refused {fun = fun} {numbers = numbers} {source = source} {fault = fault} reads has) =
+      at_source fun numbers source status text reads (refused fault has refl refl)
+  by_cases status text (owed.source_not_built {fun = fun} {numbers = numbers} {source = source} reads form) =
+      at_source fun numbers source status text reads (of_other_form form refl refl)
+  by_cases status text (owed.no_call {fun = fun} {numbers = numbers} {source = source} {tree = tree} reads specifies (no_function unnamed)) =
+      at_source fun numbers source status text reads (some tree specifies (subst (λ (n : Option ℕ). ByNumber tree numbers n status text) (sym unnamed) (refl, refl)))
+  by_cases status text (owed.no_call {fun = fun} {numbers = numbers} {source = source} {tree = tree} reads specifies (bad_numbers {number = number} named unwritten)) =
+      at_source fun numbers source status text reads (some tree specifies (subst (λ (n : Option ℕ). ByNumber tree numbers n status text) (sym named)
+      (subst (λ (a : Option (List ℕ)). ByArguments tree number a status text) (sym unwritten) (refl, refl))))
+  by_cases status text (owed.value {fun = fun} {numbers = numbers} {source = source} {tree = tree} {v = v} reads specifies found) =
+      at_source fun numbers source status text reads (some tree specifies (subst (λ (n : Option ℕ). ByNumber tree numbers n status text) (sym found.named)
+      (subst (λ (a : Option (List ℕ)). ByArguments tree found.number a status text) (sym found.written) (subst (λ (v : Option ℕ). ByValue v status text) (sym found.value) (refl, refl)))))
 
 -- two that are owed are the same
 module _ (status other_status : Status) (text line : List ℕ) where

@@ -1,5 +1,5 @@
 -- What is answered to the words.
-use Rattle.std.specs.Prelude.{ℕ, Bool, List, Result, Ok, Err, String}
+use Rattle.std.specs.Prelude.{ℕ, Bool, List, Result, Ok, Err, String, Contains}
 use Rattle.std.specs.String.{string_bytes}
 use Rattle.std.specs.declared.alloc.Global.{Global}
 use Rattle.tsl_cli.specs.declared.refusal.Refusal.{Refusal}
@@ -7,6 +7,8 @@ use Rattle.tsl_cli.specs.declared.refusal.Refusal.TheVariants.{BadWords, NotBuil
 use Rattle.tsl_cli.specs.declared.status.Status.TheVariants as s
 use Rattle.tsl_cli.specs.Owed.{Held, Owes, Unread}
 use Rattle.tsl_cli.specs.Lines.{bad_words_line, cannot_read_line, not_built_line, spec_line, too_long_line}
+use Rattle.tsl_cli.specs.OneLine.{IsLineOf}
+use Rattle.tsl_cli.specs.Words.{input_names}
 
 -- The answer is owed, but for an input that could not be read and want of memory.
 abbrev pub IsOwed : List (List ℕ) → Held → Result (String Global) Refusal → Type 0
@@ -22,3 +24,10 @@ IsOwed words held (Err NoMemory) = Unit {0}
 abbrev pub IsUnread : List (List ℕ) → (List ℕ → Bool) → ℕ → ℕ → Refusal → Type 0
 IsUnread words sure old new (CannotRead name) = Unread words sure old new (cannot_read_line name.now)
 IsUnread words sure old new _ = Unit {0}
+
+-- The answer has a line of its status for these words, unless memory ran out.
+abbrev pub HasLine : List (List ℕ) → Result (String Global) Refusal → Type 0
+HasLine words (Ok text) = IsLineOf words s.Ok (string_bytes text)
+HasLine words (Err (CannotRead name)) = Contains (input_names words) name.now
+HasLine words (Err (TooLong name)) = Contains (input_names words) name.now
+HasLine words (Err _) = Unit {0}

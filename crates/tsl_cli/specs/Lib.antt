@@ -5,6 +5,7 @@ pub mod Commands
 pub mod Laws
 pub mod Lines
 pub mod Numbers
+pub mod OneLine
 pub mod Output
 pub mod Owed
 pub mod Reading

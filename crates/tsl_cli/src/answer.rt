@@ -1,10 +1,11 @@
 //! From the words to the text that they ask for.
 
-ghost use Rattle.std.specs.Prelude.{◌≡◌, ◌≢◌, ◌≤◌, IfErr, IsTrue, List, OnOk, ℕ};
+ghost use Rattle.std.specs.Prelude.{◌≡◌, ◌≢◌, ◌⊎◌, ◌≤◌, IfErr, IsTrue, List, OnOk, ℕ};
 ghost use Rattle.tsl_cli.specs.declared.status.Status.TheVariants as Status;
-ghost use Rattle.tsl_cli.specs.Answering.{IsOwed, IsUnread};
+ghost use Rattle.tsl_cli.specs.Answering.{HasLine, IsOwed, IsUnread};
+ghost use Rattle.tsl_cli.specs.Reading.{IsTakenFrom, TakesSource};
 ghost use Rattle.tsl_cli.specs.Refusals.{status_of};
-ghost use Rattle.tsl_cli.specs.Words.{asked, bad, call, not_built, texts};
+ghost use Rattle.tsl_cli.specs.Words.{asked, bad, call, input_names, not_built, texts};
 
 use crate::call::value_of_call;
 use crate::lines::value_line;
@@ -28,6 +29,10 @@ pub fn answer<'a, I: Inputs>(
     ensures owed { IsTrue (I.tells inputs.old) → IsOwed (texts words.now) (I.held inputs.old) result }
     ensures unread { IfErr result
         (IsUnread (texts words.now) (I.sure inputs.old) (I.faults inputs.old) (I.faults inputs.new)) }
+    ensures line { HasLine (texts words.now) result }
+    ensures taken { IsTrue (I.tells inputs.old) → (inputs.new ≡ inputs.old)
+        ⊎ (IsTrue (I.is_open inputs.new)
+        → IsTakenFrom (input_names (texts words.now)) (I.held inputs.old) (I.left inputs.new)) }
     ensures no_fault { OnOk result (I.faults inputs.new ≡ I.faults inputs.old) }
     ensures refused_without_fault { IfErr result (λ refusal. status_of refusal ≢ Status.ReadFault
         → I.faults inputs.new ≡ I.faults inputs.old) }
@@ -63,6 +68,10 @@ fn answer_call<'a, I: Inputs>(
     ensures unread { (words : List (List ℕ))
         → asked words ≡ call spec.now fun.now (texts numbers.now)
         → IfErr result (IsUnread words (I.sure inputs.old) (I.faults inputs.old) (I.faults inputs.new)) }
+    ensures line { (words : List (List ℕ))
+        → asked words ≡ call spec.now fun.now (texts numbers.now) → HasLine words result }
+    ensures taken { IsTrue (I.tells inputs.old) → IsTrue (I.is_open inputs.new)
+        → TakesSource (I.held inputs.old) spec.now (I.left inputs.new) }
     ensures no_fault { OnOk result (I.faults inputs.new ≡ I.faults inputs.old) }
     ensures refused_without_fault { IfErr result (λ refusal. status_of refusal ≢ Status.ReadFault
         → I.faults inputs.new ≡ I.faults inputs.old) }

@@ -5,8 +5,10 @@ ghost use Rattle.std.specs.String.{string_bytes};
 ghost use Rattle.tsl_io.specs.Faults.{Rose};
 ghost use Rattle.tsl_cli.specs.declared.status.Status.{Status};
 ghost use Rattle.tsl_cli.specs.Lines.{bad_words_line, not_built_line};
+ghost use Rattle.tsl_cli.specs.OneLine.{IsLineOf};
 ghost use Rattle.tsl_cli.specs.Owed.{Due, Owes, Unread};
 ghost use Rattle.tsl_cli.specs.Output.{Appended, Ends, Finishes, FrontAppended};
+ghost use Rattle.tsl_cli.specs.Reading.{IsTakenFrom};
 ghost use Rattle.tsl_cli.specs.Statuses.{IsAnswer};
 ghost use Rattle.tsl_cli.specs.Words.{asked, bad, input_names, not_built, texts};
 
@@ -74,6 +76,21 @@ pub fn run<I: Inputs, S: Sink>(
         × (S.room sink.old < length text)
         × FrontAppended (S.tells sink.old) (S.written sink.old) (S.written sink.new) text }
 
+    // Over all inputs, also those that do not tell: one line of the status is written, or a front of
+    // a line that had no room.
+    ensures one_line { result ≢ Status.WriteFault → result ≢ Status.NoMemory
+        → (text : List ℕ) × IsLineOf (texts words.now) result text
+        × Appended (S.tells sink.old) (S.written sink.old) (S.written sink.new) text }
+    ensures cut_line { result ≡ Status.WriteFault
+        → (status : Status) × (text : List ℕ) × IsLineOf (texts words.now) status text
+        × (S.room sink.old < length text)
+        × FrontAppended (S.tells sink.old) (S.written sink.old) (S.written sink.new) text }
+
+    // No more is taken of an input than its cap and one byte, from the last time it was opened.
+    ensures taken { IsTrue (I.tells inputs.old) → (inputs.new ≡ inputs.old)
+        ⊎ (IsTrue (I.is_open inputs.new)
+        → IsTakenFrom (input_names (texts words.now)) (I.held inputs.old) (I.left inputs.new)) }
+
     // Where memory runs out nothing is written.
     ensures no_memory { result ≡ Status.NoMemory → sink.new ≡ sink.old }
 
@@ -118,6 +135,11 @@ fn report_for<I: Inputs>(
         (string_bytes report.text)) }
     ensures no_fault { IfOk result (λ report. report.status ≢ Status.ReadFault
         → I.faults inputs.new ≡ I.faults inputs.old) }
+    ensures line { IfOk result (λ report.
+        IsLineOf (texts words.now) report.status (string_bytes report.text)) }
+    ensures taken { IsTrue (I.tells inputs.old) → (inputs.new ≡ inputs.old)
+        ⊎ (IsTrue (I.is_open inputs.new)
+        → IsTakenFrom (input_names (texts words.now)) (I.held inputs.old) (I.left inputs.new)) }
     ensures not_write_fault { IfOk result (λ report. report.status ≢ Status.WriteFault) }
     ensures not_no_memory { IfOk result (λ report. report.status ≢ Status.NoMemory) }
 

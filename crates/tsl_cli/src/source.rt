@@ -3,7 +3,7 @@
 ghost use Rattle.std.specs.Prelude.{◌≡◌, ◌≢◌, ◌≤◌, IfErr, IfOk, IsTrue, OnOk, length};
 ghost use Rattle.tsl_cli.specs.declared.status.Status.TheVariants as Status;
 ghost use Rattle.tsl_cli.specs.Refusals.{status_of};
-ghost use Rattle.tsl_cli.specs.Reading.{IsReadRefusal, Specifies};
+ghost use Rattle.tsl_cli.specs.Reading.{IsReadRefusal, Specifies, TakesSource};
 ghost use Rattle.tsl_cli.specs.Sources.{source_cap};
 
 use crate::refusal::Refusal;
@@ -34,6 +34,8 @@ pub fn read_source<'a, I: Inputs>(
     ensures refused { IfErr result
         (IsReadRefusal (I.tells inputs.old) (I.held inputs.old) (I.sure inputs.old)
         (I.faults inputs.old) (I.faults inputs.new) name.now) }
+    ensures taken { IsTrue (I.tells inputs.old) → IsTrue (I.is_open inputs.new)
+        → TakesSource (I.held inputs.old) name.now (I.left inputs.new) }
     ensures no_fault { OnOk result (I.faults inputs.new ≡ I.faults inputs.old) }
     ensures refused_without_fault { IfErr result (λ refusal. status_of refusal ≢ Status.ReadFault
         → I.faults inputs.new ≡ I.faults inputs.old) }

@@ -2,3 +2,4 @@ pub mod Lists
 pub mod Scopes
 pub mod Declared
 pub mod Sound
+pub mod Decided

@@ -9,7 +9,7 @@ use Rattle.tsl_parser.specs.Tree as t
 use Rattle.tsl_parser.specs.Tree.{Term}
 use Rattle.tsl_parser.specs.declared.tree.BinOp.{BinOp}
 use Rattle.tsl_parser.specs.declared.tree.FieldDecl.{FieldDecl}
-use Rattle.tsl_den.specs.declared.limits.TheConstants.{MOST_WIDTH, INT32_WIDTH}
+use Rattle.tsl_den.specs.Limits.{most_width, int32_width}
 use Rattle.tsl_den.specs.Functions.{functions, parameter_count}
 use Rattle.tsl_den.specs.FirstForm.{IsFaultless, parameter_widths}
 use Rattle.tsl_den.specs.Laws.{AcceptedFunctionsHaveValues}
@@ -54,7 +54,7 @@ literal_of true number width w h e = let is : width ≡ w = cc in (is, subst (λ
 literal_of false number width w h e = cc
 
 pub literal_sound : (number width w : ℕ) → literal_width number width ≡ Some w → IsSomeAnd (literal number width) (HasWidth w)
-literal_sound number width w e = literal_of (nat_le 1 width && nat_le width MOST_WIDTH && nat_lt number (2 ^ width)) number width w (within_width (nat_le 1 width) (nat_le width MOST_WIDTH) number width) e
+literal_sound number width w e = literal_of (nat_le 1 width && nat_le width most_width && nat_lt number (2 ^ width)) number width w (within_width (nat_le 1 width) (nat_le width most_width) number width) e
 
 wrapped_of : (c : Bool) (u n w : ℕ) → (if c then Some u else None) ≡ Some w → IsSomeAnd (if c then Some (word (n % 2 ^ u) u) else None) (HasWidth w)
 wrapped_of true u n w e = let is : u ≡ w = cc in (is, subst (λ z. n % 2 ^ u < 2 ^ z) is (mod-lt n (pow_pos u)))
@@ -98,15 +98,15 @@ parameters_agree [] args e h = tt
 parameters_agree (p ∷ params) [] e h = absurd (omega arith)
 parameters_agree (p ∷ params) (a ∷ args) e h = (refl, (refl, All-head (λ x. x < 2 ^ 32) a args h), parameters_agree params args (omega arith) (All-tail (λ x. x < 2 ^ 32) a args h))
 
-numbered : (o : Option Word) → IsSomeAnd o (HasWidth INT32_WIDTH) → IsSomeAnd (option_and_then as_int32 o) (λ n. n < 2 ^ 32)
+numbered : (o : Option Word) → IsSomeAnd o (HasWidth int32_width) → IsSomeAnd (option_and_then as_int32 o) (λ n. n < 2 ^ 32)
 numbered None h = h
-numbered (Some v) h = rw (eq-eqb v.width INT32_WIDTH h.0) h.1
+numbered (Some v) h = rw (eq-eqb v.width int32_width h.0) h.1
 
 applied_sound : (f : t.Function) (args : List ℕ) → IsFaultless f → length args ≡ length f.params → All (λ x. x < 2 ^ 32) args → IsSomeAnd (applied f args) (λ n. n < 2 ^ 32)
 applied_sound f args sound e h =
     rw (eq-eqb (length args) (length f.params) e)
     (numbered (value_in (parameter_scope f.params (map int32 args)) f.body)
-    (term_sound f.body (parameter_widths f.params) (parameter_scope f.params (map int32 args)) INT32_WIDTH (parameters_agree f.params args e h) sound.body))
+    (term_sound f.body (parameter_widths f.params) (parameter_scope f.params (map int32 args)) int32_width (parameters_agree f.params args e h) sound.body))
 
 called_sound : (o : Option t.Function) (args : List ℕ) → ((f : t.Function) → o ≡ Some f → IsFaultless f) → option_map (λ (f : t.Function). length f.params) o ≡ Some (length args) → All (λ x. x < 2 ^ 32) args
     → IsSomeAnd (option_and_then (λ f. applied f args) o) (λ n. n < 2 ^ 32)

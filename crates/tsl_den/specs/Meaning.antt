@@ -7,10 +7,10 @@ use Rattle.tsl_den.specs.Functions.{functions}
 use Rattle.tsl_den.specs.Scope.{Scope, innermost, parameter_scope}
 use Rattle.tsl_den.specs.Typing.{literal_width}
 use Rattle.tsl_den.specs.Word.{Word, word}
-use Rattle.tsl_den.specs.declared.limits.TheConstants.{INT32_WIDTH}
+use Rattle.tsl_den.specs.Limits.{int32_width}
 
 abbrev pub int32 : ℕ → Word
-int32 number = word number INT32_WIDTH
+int32 number = word number int32_width
 
 -- a literal's word
 abbrev pub literal : ℕ → ℕ → Option Word
@@ -36,7 +36,7 @@ value_in scope _ = None
 
 -- the number of a word of 32 bits
 abbrev pub as_int32 : Word → Option ℕ
-as_int32 v = if v.width == INT32_WIDTH then Some v.number else None
+as_int32 v = if v.width == int32_width then Some v.number else None
 
 -- the value of a function where its parameters are bound to words
 abbrev pub value_on : Function → List Word → Option ℕ

@@ -4,11 +4,11 @@ use Rattle.tsl_parser.specs.Tree as t
 use Rattle.tsl_parser.specs.Tree.{Term}
 use Rattle.tsl_parser.specs.declared.tree.BinOp.{BinOp}
 use Rattle.tsl_den.specs.Scope.{Scope, innermost}
-use Rattle.tsl_den.specs.declared.limits.TheConstants.{MOST_WIDTH}
+use Rattle.tsl_den.specs.Limits.{most_width}
 
 -- the width of a literal
 abbrev pub literal_width : ℕ → ℕ → Option ℕ
-literal_width number width = if nat_le 1 width && nat_le width MOST_WIDTH && nat_lt number (2 ^ width) then Some width else None
+literal_width number width = if nat_le 1 width && nat_le width most_width && nat_lt number (2 ^ width) then Some width else None
 
 abbrev pub one_width : ℕ → ℕ → Option ℕ
 one_width x y = if x == y then Some x else None

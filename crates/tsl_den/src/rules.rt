@@ -4,6 +4,7 @@ ghost use Rattle.std.specs.Prelude.{◌≡◌, ◌≢◌, ◌≤◌, ◌↔◌, 
 ghost use Rattle.tsl_parser.specs.View.{function, item as item_of, term, tree as tree_of};
 ghost use Rattle.tsl_den.specs.FirstForm.{IsFirstForm, IsInt32, IsFaultless, IsFaultlessFunction, parameter_widths};
 ghost use Rattle.tsl_den.specs.Functions.{as_function, function_name, functions_among};
+ghost use Rattle.tsl_den.specs.Limits.{int32_width, most_parameters};
 ghost use Rattle.tsl_den.specs.Scope.{parameter_name};
 ghost use Rattle.tsl_den.specs.Typing.{width_of};
 
@@ -60,8 +61,8 @@ fn is_int32(name: &Name) -> bool
 
 /// Whether the body of a function has 32 bits.
 fn has_int32_body(f: &FunDecl) -> bool
-    requires { length f.now.params.items ≤ MOST_PARAMETERS }
-    ensures { IsTrue result ↔ (width_of (parameter_widths f.now.params.items) (term f.now.body) ≡ Some INT32_WIDTH) }
+    requires { length f.now.params.items ≤ most_parameters }
+    ensures { IsTrue result ↔ (width_of (parameter_widths f.now.params.items) (term f.now.body) ≡ Some int32_width) }
 {
     let widths = [INT32_WIDTH; MOST_PARAMETERS];
     let scope = parameters_in_scope(&f.params, &widths[..f.params.len()]);

@@ -105,6 +105,16 @@ fn tree(alloc: Global, params: &[&str], body: &[Step]) -> Result<Tree, AllocErro
     Ok(Tree { items, end: 0 })
 }
 
+/// A tree of so many functions, each of another name.
+fn tree_of_functions(alloc: Global, count: u32) -> Result<Tree, AllocError> {
+    let mut items = Vec::new(alloc);
+    for i in 0..count {
+        let text = format!(in alloc; "f{i}")?;
+        items.push(function(alloc, &text, &[], &[Word(1, 32)])?)?;
+    }
+    Ok(Tree { items, end: 0 })
+}
+
 /// The value of `f`, or none where the tree is not of the first form.
 fn value(alloc: Global, tree: &Tree, args: &[u32]) -> Result<Option<u32>, AllocError> {
     if !first_form(tree) {
@@ -176,5 +186,14 @@ fn counts_and_finds_functions(rt: HostRuntime) -> Result<(), Fail> {
     assert_eq!(rt; function_named(&two, "h"), None);
     two.items.push(function(alloc, "f", &["x"], &[Var("x")])?)?;
     assert!(rt; !first_form(&two));
+    Ok(())
+}
+
+#[test]
+fn has_at_most_1024_functions(rt: HostRuntime) -> Result<(), Fail> {
+    for (count, want) in [(1024, true), (1025, false)] {
+        let tree = tree_of_functions(rt.alloc(), count)?;
+        assert_eq!(rt; first_form(&tree), want, "{count} functions");
+    }
     Ok(())
 }

@@ -7,6 +7,7 @@ ghost use Rattle.std.specs.Prelude.{◌≡◌, false, [], None, is_some};
 ghost use Rattle.std.specs.Bool.{IsFalse};
 ghost use Rattle.std.proofs.Common.{rules};
 
+use crate::whole_read::PIECE;
 use crate::{Failed, Inputs};
 use std::fs;
 use std::io::Read;
@@ -64,8 +65,14 @@ impl<R: Files> Inputs for FileInputs<'_, R> {
         let Some(file) = &mut self.file else {
             unreachable!()
         };
-        match file.read(buf) {
-            Ok(count) => Ok(count),
+        // What a failed read leaves in the bytes that it was lent is not known, so these are its own.
+        let mut piece = [0u8; PIECE];
+        let lent = buf.len().min(PIECE);
+        match file.read(&mut piece[..lent]) {
+            Ok(count) => {
+                buf[..count].copy_from_slice(&piece[..count]);
+                Ok(count)
+            }
             Err(_) => {
                 self.faults = self.faults.saturating_add(1);
                 Err(Failed)

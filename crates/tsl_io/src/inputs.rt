@@ -54,7 +54,7 @@ pub trait Inputs {
         ensures closed { OnErr result (IsFalse (is_open self.new)) };
 
     /// Reads into the front of `buf`, and answers how many bytes: 0 is the end of the input. What
-    /// stands in `buf` past them is open.
+    /// stands in `buf` past them is open. Where this fails, `buf` is as it was.
     fn read(&mut self, buf: &mut [u8]) -> Result<usize, Failed>
         requires open { IsTrue (is_open self.old) }
         requires nonempty { 0 < length buf.old }
@@ -74,7 +74,8 @@ pub trait Inputs {
         // When it fails, and what that leaves.
         ensures sure_reads { IsTrue (is_open_sure self.old) → IsOk result }
         ensures cause { OnErr result (Rose (faults self.old) (faults self.new)) }
-        ensures none_taken { OnErr result (left self.new ≡ left self.old) };
+        ensures none_taken { OnErr result (left self.new ≡ left self.old) }
+        ensures unchanged { OnErr result (buf.new ≡ buf.old) };
 
     /// Inputs that tell hold each name that is sure.
     ghost sure_is_held: { (inputs : Self) (name : List ℕ) → IsTrue (tells inputs) → IsTrue (sure inputs name) → IsSome (held inputs name) };

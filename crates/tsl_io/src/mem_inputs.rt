@@ -103,6 +103,7 @@ impl Inputs for MemInputs {
         ensures taken { IfOk result (λ count. left_in (files_of self.old) ≡ take count buf.new ++ left_in (files_of self.new)) }
         ensures end { IfOk result (λ count. (count ≡ 0) ↔ (left_in (files_of self.old) ≡ [])) }
         ensures none_taken { OnErr result (left_in (files_of self.new) ≡ left_in (files_of self.old)) }
+        ensures unchanged { OnErr result (buf.new ≡ buf.old) }
         ensures still_open { IsTrue (is_some (open_in (files_of self.new))) }
         ensures counts { faults_of self.new ≡ (if is_ok result then faults_of self.old else counted (faults_of self.old)) }
         ensures faults { faults_of self.old ≤ faults_of self.new }

@@ -1,4 +1,7 @@
 //! Standard output as a sink.
+//!
+//! No contract can tell what reaches standard output, so a body that wrote nothing and answered that it did would be
+//! proved as well. What is really written is shown by the stored run of the program.
 
 ghost use Rattle.std.specs.Prelude.{◌≡◌, false, []};
 

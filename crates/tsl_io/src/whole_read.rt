@@ -10,7 +10,7 @@ use std::alloc::{AllocError, Global};
 use thiserror::Error;
 
 /// How many bytes are read at a time.
-const PIECE: usize = 4096;
+pub const PIECE: usize = 4096;
 
 /// Why a whole read has no bytes to give.
 #[derive(Clone, Copy, Debug, PartialEq, Eq, Error)]

@@ -6,7 +6,9 @@ use Rattle.tsl_parser.specs.declared.tree.Span.{Span}
 use Rattle.tsl_parser.specs.Tree.{Term as Expr}
 use Rattle.tsl_parser.specs.State.{At}
 use Rattle.tsl_parser.specs.Parsing.{Outcome, Parser, next, skip, after_first, rise}
-use Rattle.tsl_parser.specs.TermRules.{chain_from, binds, groups, operator, binary_of, max_turns}
+use Rattle.tsl_parser.specs.TermRules.{chain_from, max_turns}
+use Rattle.tsl_parser.specs.Nodes.{binary_of}
+use Rattle.tsl_parser.specs.Operators.{binds, groups, operator}
 
 -- operators that group go on with one turn less
 pub chain_turn : (operand : Parser Expr) (prec i : ℕ) (left right : Expr) (s : Span) (a b c d : At) → i < max_turns → binds (next a) ≡ prec → groups prec ≡ true

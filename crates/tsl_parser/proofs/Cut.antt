@@ -5,9 +5,10 @@ use Rattle.std.specs.Prelude.{Err, if◌then◌else◌}
 use Rattle.tsl_lexer.specs.declared.token.Token.{Token}
 use Rattle.tsl_parser.specs.declared.reader.Fault.TheVariants.{TooDeep}
 use Rattle.tsl_parser.specs.State.{At}
-use Rattle.tsl_parser.specs.Parsing.{Outcome, Parser, and_then, max_level}
+use Rattle.tsl_parser.specs.Parsing.{Outcome, Parser, and_then}
 use Rattle.tsl_parser.specs.Grammar.{Leveled, tokens_of}
 use Rattle.tsl_parser.specs.Exact.{Shallow}
+use Rattle.tsl_parser.specs.Tokens.{max_level}
 
 abbrev pub at : ℕ → List Token → At
 at level rest = record { level = level; rest = rest }

@@ -7,10 +7,11 @@ use Rattle.tsl_parser.specs.Tree.{Tree}
 use Rattle.tsl_parser.specs.declared.reader.Fault.{Fault}
 use Rattle.tsl_parser.specs.declared.reader.Fault.TheVariants.{Syntax, TooDeep}
 use Rattle.tsl_parser.specs.State.{At}
-use Rattle.tsl_parser.specs.Parsing.{Outcome, Parser, and_then, max_level, place}
+use Rattle.tsl_parser.specs.Parsing.{Outcome, Parser, and_then}
 use Rattle.tsl_parser.specs.ItemRules.{item, items, items_from}
 use Rattle.tsl_parser.specs.Grammar.{Leveled, tokens_of, Items}
 use Rattle.tsl_parser.specs.Exact.{Shallow, HasTree, GoesWrong, IsSyntaxAt, IsDeepAt}
+use Rattle.tsl_parser.specs.Tokens.{max_level, place}
 use Rattle.std.proofs.lemmas.Bool.Decides.{nat_tests}
 use Rattle.tsl_parser.proofs.Cut.{at, cut, Fits, tokens-append, by_fits}
 use Rattle.tsl_parser.proofs.Found.{Done, Stuck, Deep}

@@ -10,8 +10,10 @@ use Rattle.tsl_lexer.specs.declared.token.Keyword.{Keyword}
 use Rattle.tsl_parser.specs.declared.reader.Fault.{Fault}
 use Rattle.tsl_parser.specs.declared.reader.Fault.TheVariants.{Syntax, TooDeep}
 use Rattle.tsl_parser.specs.State.{At}
-use Rattle.tsl_parser.specs.Parsing.{Outcome, Parser, ◌>>=◌, ◌>>◌, and_then, pure, stop, skip, by_next, first_kind, max_level, after_first, eat, expect, expect_word, number, number_by, literal, literal_of, lower, lower_by, upper, upper_by, enter, enter_if, rise, leave, is_mark, is_word}
+use Rattle.tsl_parser.specs.Parsing.{Outcome, Parser, ◌>>=◌, ◌>>◌, and_then, pure, stop, skip, by_next, first_kind, after_first, eat, expect, expect_word, number, number_by, literal, lower, lower_by, upper, upper_by, enter, enter_if, rise, leave, is_mark, is_word}
 use Rattle.tsl_parser.specs.Lists.{separated, separated_from, until, until_from, many}
+use Rattle.tsl_parser.specs.Nodes.{literal_of}
+use Rattle.tsl_parser.specs.Tokens.{max_level}
 use Rattle.tsl_parser.proofs.Cut.{at}
 use Rattle.tsl_parser.proofs.Found.{Takes}
 use Rattle.tsl_parser.proofs.TokensFound.{of_number, takes_number}

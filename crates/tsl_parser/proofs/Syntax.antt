@@ -7,10 +7,11 @@ use Rattle.tsl_parser.specs.Tree.{Item as ItemTree}
 use Rattle.tsl_parser.specs.declared.reader.Fault.{Fault}
 use Rattle.tsl_parser.specs.declared.reader.Fault.TheVariants.{Syntax, TooDeep, NoMemory}
 use Rattle.tsl_parser.specs.State.{At}
-use Rattle.tsl_parser.specs.Parsing.{Outcome, max_level, place}
+use Rattle.tsl_parser.specs.Parsing.{Outcome}
 use Rattle.tsl_parser.specs.ItemRules.{items}
 use Rattle.tsl_parser.specs.Grammar.{Leveled, tokens_of, Items}
 use Rattle.tsl_parser.specs.Exact.{Shallow, HasTree, Starts, IsViable, GoesWrong, IsSyntaxAt}
+use Rattle.tsl_parser.specs.Tokens.{max_level, place}
 use Rattle.tsl_parser.proofs.Cut.{at, cut, tokens-append, tokens-append-rest, cut-append}
 use Rattle.tsl_parser.proofs.Local.{Beyond, no_more}
 use Rattle.tsl_parser.proofs.RulesLocal.{local_items}

@@ -4,8 +4,11 @@ use Rattle.std.specs.Prelude.{if◌then◌else◌, Err}
 use Rattle.tsl_parser.specs.declared.reader.Fault.TheVariants.{TooDeep}
 use Rattle.tsl_parser.specs.Tree.{Term as Expr, Pattern}
 use Rattle.tsl_parser.specs.State.{At}
-use Rattle.tsl_parser.specs.Parsing.{Parser, ◌>>=◌, ◌>>◌, pure, next, skip, rise, is_prefix}
-use Rattle.tsl_parser.specs.TermRules.{unary_from, post, prefix_of, prefix_operator}
+use Rattle.tsl_parser.specs.Parsing.{Parser, ◌>>=◌, ◌>>◌, pure, next, skip, rise}
+use Rattle.tsl_parser.specs.TermRules.{unary_from, post}
+use Rattle.tsl_parser.specs.Nodes.{prefix_of}
+use Rattle.tsl_parser.specs.Operators.{prefix_operator}
+use Rattle.tsl_parser.specs.Tokens.{is_prefix}
 
 pub unary_turn : (p : Parser Pattern) (t : Parser Expr) (n : ℕ) (at : At) → 0 < n
     → unary_from p t n at ≡ (if is_prefix (next at) then (rise >> (skip >>= (λ start. unary_from p t (n - 1) >>= (λ x. pure (prefix_of (prefix_operator (next at)) start x))))) else post p t) at

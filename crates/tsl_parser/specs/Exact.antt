@@ -6,8 +6,8 @@ use Rattle.tsl_parser.specs.declared.ParseError.TheVariants.{Syntax, TooDeep, No
 use Rattle.tsl_parser.specs.declared.tree.Tree.{Tree as CodeTree}
 use Rattle.tsl_parser.specs.Tree.{Tree, Item as ItemTree}
 use Rattle.tsl_parser.specs.View.{tree}
-use Rattle.tsl_parser.specs.Parsing.{max_level, place}
 use Rattle.tsl_parser.specs.Grammar.{Leveled, tokens_of, Items}
+use Rattle.tsl_parser.specs.Tokens.{max_level, place}
 
 -- no token stands deeper than is allowed
 abbrev pub Shallow : List Leveled → Type 0

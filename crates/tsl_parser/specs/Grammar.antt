@@ -23,10 +23,9 @@ use Rattle.tsl_parser.specs.declared.tree.ArgDecl.TheVariants as arg_variants
 use Rattle.tsl_parser.specs.declared.reader.Literal.{Literal}
 use Rattle.tsl_parser.specs.Tree.{Term as Expr, Pattern, Arm as ArmTree, Constructor, Datatype as DataTree, Function as FunTree, Row as RowTree, DecodeSection, Item as ItemTree}
 use Rattle.tsl_parser.specs.Tree as e
-use Rattle.tsl_parser.specs.Parsing.{is_operation, is_cast, is_prefix, literal_of}
-use Rattle.tsl_parser.specs.PatternRules.{pattern_make_of}
-use Rattle.tsl_parser.specs.TermRules.{let_of, if_of, binary_of, prefix_of, get_of, put_of, call_of, make_of, operation_of, cast_of, arm_of, match_of, paren_of, binds, groups, operator, prefix_operator, loosest}
-use Rattle.tsl_parser.specs.ItemRules.{field_of, case_of, datatype_of, map_of, fun_of, part_of, guard_of, row_of, decode_of}
+use Rattle.tsl_parser.specs.Nodes.{literal_of, pattern_make_of, let_of, if_of, binary_of, prefix_of, get_of, put_of, call_of, make_of, operation_of, cast_of, arm_of, match_of, paren_of, field_of, case_of, datatype_of, map_of, fun_of, part_of, guard_of, row_of, decode_of}
+use Rattle.tsl_parser.specs.Operators.{binds, groups, operator, prefix_operator, loosest}
+use Rattle.tsl_parser.specs.Tokens.{is_operation, is_cast, is_prefix}
 
 -- a token and its level: how many terms and patterns contain it, and how many operators and marks `[` stand directly in one of these at or before it
 abbrev pub Leveled : Type 0

@@ -4,9 +4,7 @@ use Rattle.tsl_lexer.specs.declared.token.Kind.{Kind}
 use Rattle.tsl_lexer.specs.declared.token.Kind.TheVariants as k
 use Rattle.tsl_lexer.specs.declared.token.Mark.TheVariants as m
 use Rattle.tsl_lexer.specs.declared.token.Keyword.TheVariants as w
-use Rattle.tsl_parser.specs.declared.tree.Span.{Span}
 use Rattle.tsl_parser.specs.declared.tree.Name.{Name}
-use Rattle.tsl_parser.specs.declared.tree.Num.{Num}
 use Rattle.tsl_parser.specs.declared.tree.FieldDecl.{FieldDecl}
 use Rattle.tsl_parser.specs.declared.tree.MapDecl.{MapDecl}
 use Rattle.tsl_parser.specs.declared.tree.PartDecl.{PartDecl}
@@ -21,14 +19,13 @@ use Rattle.tsl_parser.specs.declared.tree.ArgDecl.TheVariants as arg_variants
 use Rattle.tsl_parser.specs.declared.reader.Fault.TheVariants.{Syntax}
 use Rattle.tsl_parser.specs.Tree.{Term as Expr, Constructor, Datatype, Function as FunDecl, Row, DecodeSection, Item}
 use Rattle.tsl_parser.specs.Tree as e
-use Rattle.tsl_parser.specs.Parsing.{Parser, ◌>>=◌, ◌>>◌, pure, stop, by_next, skip, expect, expect_word, literal, number, lower, upper, eat, is_mark, is_word, max_level, hull}
+use Rattle.tsl_parser.specs.Parsing.{Parser, ◌>>=◌, ◌>>◌, pure, stop, by_next, skip, expect, expect_word, literal, number, lower, upper, eat, is_mark, is_word}
 use Rattle.tsl_parser.specs.Lists.{separated, until, many}
 use Rattle.tsl_parser.specs.TermRules.{term}
+use Rattle.tsl_parser.specs.Nodes.{field_of, case_of, datatype_of, map_of, fun_of, part_of, guard_of, row_of, decode_of}
+use Rattle.tsl_parser.specs.Tokens.{max_level}
 
 -- ---- fields, types and maps
-
-abbrev pub field_of : Name → Name → FieldDecl
-field_of name ty = record { name = name; ty = ty; span = hull name.span ty.span }
 
 unfoldable pub field : Parser FieldDecl
 field = do
@@ -36,9 +33,6 @@ field = do
   expect m.Colon
   ty ← upper
   pure (field_of name ty)
-
-abbrev pub case_of : Name → List FieldDecl → Span → Constructor
-case_of name fields end = record { name = name; fields = fields; span = hull name.span end }
 
 -- the fields of a constructor, after the opening mark
 unfoldable pub case_fields : Name → Parser Constructor
@@ -53,9 +47,6 @@ constructor = do
   has_fields ← eat m.LParen
   if has_fields then case_fields name else pure (case_of name [] name.span)
 
-abbrev pub datatype_of : Span → Name → List Constructor → Span → Datatype
-datatype_of start name cases end = record { name = name; cases = cases; span = hull start end }
-
 unfoldable pub datatype : Parser Datatype
 datatype = do
   start ← expect_word w.KwType
@@ -64,9 +55,6 @@ datatype = do
   cases ← separated constructor m.Bar
   end ← expect m.Semi
   pure (datatype_of start name cases end)
-
-abbrev pub map_of : Span → Name → Name → Name → Num → Span → MapDecl
-map_of start name key value default end = record { name = name; key = key; value = value; default = default; span = hull start end }
 
 unfoldable pub map_type : Parser MapDecl
 map_type = do
@@ -88,9 +76,6 @@ map_type = do
 unfoldable pub params : Parser (List FieldDecl)
 params = by_next (λ next. if is_mark m.RParen next then pure [] else separated field m.Comma)
 
-abbrev pub fun_of : Span → Name → List FieldDecl → Name → Expr → Span → FunDecl
-fun_of start name params ty body end = record { name = name; params = params; result_type = ty; body = body; span = hull start end }
-
 unfoldable pub function : Parser FunDecl
 function = do
   start ← expect_word w.KwFun
@@ -111,9 +96,6 @@ unfoldable pub part_fixed : Parser PartDecl
 part_fixed = do
   found ← literal
   pure (part_variants.Fixed found.v found.w found.span)
-
-abbrev pub part_of : Name → Num → PartDecl
-part_of name w = part_variants.Named name w (hull name.span w.span)
 
 unfoldable pub part_named : Parser PartDecl
 part_named = do
@@ -146,13 +128,6 @@ other_by _ = stop Syntax
 
 unfoldable pub other : Parser GuardArg
 other = by_next other_by
-
-abbrev pub other_span : GuardArg → Span
-other_span (other_variants.Named name) = name.span
-other_span (other_variants.Number n) = n.span
-
-abbrev pub guard_of : Name → GuardOp → GuardArg → GuardDecl
-guard_of field op other = record { field = field; op = op; other = other; span = hull field.span (other_span other) }
 
 unfoldable pub guard : Parser GuardDecl
 guard = do
@@ -192,9 +167,6 @@ args = do
   has_args ← eat m.LParen
   if has_args then arg_list else pure []
 
-abbrev pub row_of : Span → List PartDecl → List GuardDecl → Name → List ArgDecl → Span → Row
-row_of start parts guards name args end = record { parts = parts; guards = guards; case = name; args = args; span = hull start end }
-
 unfoldable pub row : Parser Row
 row = do
   start ← expect m.LBracket
@@ -206,9 +178,6 @@ row = do
   found ← args
   end ← expect m.Semi
   pure (row_of start parts tests name found end)
-
-abbrev pub decode_of : Span → List Row → Span → DecodeSection
-decode_of start rows end = record { rows = rows; span = hull start end }
 
 unfoldable pub decode : Parser DecodeSection
 decode = do

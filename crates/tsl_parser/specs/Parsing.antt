@@ -17,6 +17,8 @@ use Rattle.tsl_lexer.specs.declared.token.Keyword.TheVariants as w
 use Rattle.tsl_lexer.specs.declared.token.Mark.TheVariants as m
 use Rattle.tsl_parser.specs.declared.reader.Literal.{Literal}
 use Rattle.tsl_parser.specs.State.{At}
+use Rattle.tsl_parser.specs.Nodes.{literal_of}
+use Rattle.tsl_parser.specs.Tokens.{max_level, is_operation, is_cast, is_prefix}
 
 abbrev pub first_kind : List Token → Option Kind
 first_kind [] = None
@@ -29,11 +31,6 @@ first_span (t ∷ ts) = record { from = t.from; to = t.to }
 abbrev pub after_first : List Token → List Token
 after_first [] = []
 after_first (t ∷ ts) = ts
-
--- where the first token begins, or the end
-abbrev pub place : ℕ → List Token → ℕ
-place end [] = end
-place end (t ∷ ts) = t.from
 
 abbrev pub next : At → Option Kind
 next at = first_kind at.rest
@@ -112,13 +109,6 @@ upper_by _ = stop Syntax
 unfoldable pub upper : Parser Name
 upper = by_next upper_by
 
--- from the beginning of one to the end of another
-abbrev pub hull : Span → Span → Span
-hull a b = record { from = a.from; to = b.to }
-
-abbrev pub literal_of : Num → Num → Literal
-literal_of v w = record { v = v; w = w; span = hull v.span w.span }
-
 -- `v:w`
 unfoldable pub literal : Parser Literal
 literal = do
@@ -129,42 +119,9 @@ literal = do
 
 -- ---- levels
 
-abbrev pub max_level : ℕ
-max_level = 256
-
 -- one level deeper
 unfoldable pub rise : Parser (Unit {0})
 rise = λ at. if nat_lt at.level max_level then (Ok tt, record at { level = at.level + 1 }) else stop TooDeep at
-
--- the operations that are named by a keyword
-abbrev pub is_operation : Keyword → Bool
-is_operation w.KwShl = true
-is_operation w.KwShru = true
-is_operation w.KwShrs = true
-is_operation w.KwRotl = true
-is_operation w.KwDivu = true
-is_operation w.KwDivs = true
-is_operation w.KwRemu = true
-is_operation w.KwRems = true
-is_operation w.KwMulhu = true
-is_operation w.KwMulhs = true
-is_operation w.KwLtu = true
-is_operation w.KwLeu = true
-is_operation w.KwLts = true
-is_operation w.KwLes = true
-is_operation _ = false
-
-abbrev pub is_cast : Keyword → Bool
-is_cast w.KwZext = true
-is_cast w.KwSext = true
-is_cast w.KwTrunc = true
-is_cast _ = false
-
-abbrev pub is_prefix : Option Kind → Bool
-is_prefix (Some (k.Mark m.Bang)) = true
-is_prefix (Some (k.Mark m.Tilde)) = true
-is_prefix (Some (k.Mark m.Minus)) = true
-is_prefix _ = false
 
 abbrev pub word_begins_atom : Keyword → Bool
 word_begins_atom w.KwTrue = true

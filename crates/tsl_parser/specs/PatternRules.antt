@@ -1,27 +1,17 @@
 -- The parser of patterns, rule by rule.
-use Rattle.std.specs.Prelude.{if◌then◌else◌, ℕ, zero, suc, Bool, true, false, List, Option, Some}
+use Rattle.std.specs.Prelude.{if◌then◌else◌, ℕ, zero, suc, Bool, true, false, Option, Some}
 use Rattle.tsl_lexer.specs.declared.token.Kind.{Kind}
 use Rattle.tsl_lexer.specs.declared.token.Kind.TheVariants as k
 use Rattle.tsl_lexer.specs.declared.token.Keyword.{Keyword}
 use Rattle.tsl_lexer.specs.declared.token.Mark.TheVariants as m
 use Rattle.tsl_lexer.specs.declared.token.Keyword.TheVariants as w
-use Rattle.tsl_parser.specs.declared.tree.Span.{Span}
 use Rattle.tsl_parser.specs.declared.tree.Name.{Name}
 use Rattle.tsl_parser.specs.declared.reader.Fault.TheVariants.{Syntax, TooDeep}
 use Rattle.tsl_parser.specs.Tree.{Pattern}
 use Rattle.tsl_parser.specs.Tree as t
-use Rattle.tsl_parser.specs.Parsing.{Parser, ◌>>=◌, ◌>>◌, pure, stop, by_next, expect, expect_word, literal, lower, upper, eat, enter, leave, begins_pattern, hull}
+use Rattle.tsl_parser.specs.Parsing.{Parser, ◌>>=◌, ◌>>◌, pure, stop, by_next, expect, expect_word, literal, lower, upper, eat, enter, leave, begins_pattern}
 use Rattle.tsl_parser.specs.Lists.{separated}
-
-abbrev pub pattern_span : Pattern → Span
-pattern_span (t.any span) = span
-pattern_span (t.bind name) = name.span
-pattern_span (t.Pattern.word v w span) = span
-pattern_span (t.Pattern.flag v span) = span
-pattern_span (t.Pattern.make name parts span) = span
-
-abbrev pub pattern_make_of : Name → List Pattern → Span → Pattern
-pattern_make_of name parts end = t.Pattern.make name (t.patterns parts) (hull name.span end)
+use Rattle.tsl_parser.specs.Nodes.{pattern_make_of}
 
 unfoldable pub pattern_any : Parser Pattern
 pattern_any = do

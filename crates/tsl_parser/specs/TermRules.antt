@@ -1,121 +1,22 @@
 -- The parser of terms, rule by rule.
-use Rattle.std.specs.Prelude.{if◌then◌else◌, ◌==◌, ℕ, zero, suc, Bool, true, false, not, List, [], Option, Some}
+use Rattle.std.specs.Prelude.{if◌then◌else◌, ◌==◌, ℕ, zero, suc, Bool, true, false, List, [], Option, Some}
 use Rattle.tsl_lexer.specs.declared.token.Kind.{Kind}
 use Rattle.tsl_lexer.specs.declared.token.Kind.TheVariants as k
 use Rattle.tsl_lexer.specs.declared.token.Keyword.{Keyword}
 use Rattle.tsl_lexer.specs.declared.token.Mark.TheVariants as m
 use Rattle.tsl_lexer.specs.declared.token.Keyword.TheVariants as w
-use Rattle.tsl_parser.specs.declared.tree.Span.{Span}
 use Rattle.tsl_parser.specs.declared.tree.Name.{Name}
-use Rattle.tsl_parser.specs.declared.tree.Num.{Num}
-use Rattle.tsl_parser.specs.declared.tree.BinOp.{BinOp}
-use Rattle.tsl_parser.specs.declared.tree.BinOp.TheVariants as b
-use Rattle.tsl_parser.specs.declared.tree.PreOp.{PreOp}
-use Rattle.tsl_parser.specs.declared.tree.PreOp.TheVariants as p
 use Rattle.tsl_parser.specs.declared.reader.Fault.TheVariants.{Syntax, TooDeep}
 use Rattle.tsl_parser.specs.Tree.{Term as Expr, Pattern, Arm}
 use Rattle.tsl_parser.specs.Tree as e
-use Rattle.tsl_parser.specs.Parsing.{Parser, ◌>>=◌, ◌>>◌, pure, stop, by_next, skip, expect, expect_word, literal, number, lower, upper, eat, is_mark, is_prefix, is_operation, is_cast, rise, enter, leave, begins_term, hull}
+use Rattle.tsl_parser.specs.Parsing.{Parser, ◌>>=◌, ◌>>◌, pure, stop, by_next, skip, expect, expect_word, literal, number, lower, upper, eat, is_mark, rise, enter, leave, begins_term}
 use Rattle.tsl_parser.specs.Lists.{separated, many}
-use Rattle.tsl_parser.specs.PatternRules.{pattern, pattern_span}
-
-unfoldable pub span_of : Expr → Span
-span_of (e.let_in name x body span) = span
-span_of (e.if_else c x y span) = span
-span_of (e.binary op x y span) = span
-span_of (e.prefix op x span) = span
-span_of (e.get x key span) = span
-span_of (e.put x key v span) = span
-span_of (e.Term.word v w span) = span
-span_of (e.Term.flag v span) = span
-span_of (e.var name) = name.span
-span_of (e.call name args span) = span
-span_of (e.Term.make name args span) = span
-span_of (e.operation op x y span) = span
-span_of (e.cast op x to span) = span
-span_of (e.match_on x arms span) = span
-span_of (e.paren x span) = span
-
--- ---- terms with their spans
-
-unfoldable pub let_of : Span → Name → Expr → Expr → Expr
-let_of s name x body = e.let_in name x body (hull s (span_of body))
-
-unfoldable pub if_of : Span → Expr → Expr → Expr → Expr
-if_of s c x y = e.if_else c x y (hull s (span_of y))
-
-unfoldable pub binary_of : BinOp → Expr → Expr → Expr
-binary_of op x y = e.binary op x y (hull (span_of x) (span_of y))
-
-unfoldable pub prefix_of : PreOp → Span → Expr → Expr
-prefix_of op start x = e.prefix op x (hull start (span_of x))
-
-unfoldable pub get_of : Expr → Expr → Span → Expr
-get_of x key end = e.get x key (hull (span_of x) end)
-
-unfoldable pub put_of : Expr → Expr → Expr → Span → Expr
-put_of x key v end = e.put x key v (hull (span_of x) end)
-
-abbrev pub call_of : Name → List Expr → Span → Expr
-call_of name args end = e.call name (e.terms args) (hull name.span end)
-
-abbrev pub make_of : Name → List Expr → Span → Expr
-make_of name args end = e.Term.make name (e.terms args) (hull name.span end)
-
-abbrev pub operation_of : Keyword → Span → Expr → Expr → Span → Expr
-operation_of op start x y end = e.operation op x y (hull start end)
-
-abbrev pub cast_of : Keyword → Span → Expr → Num → Span → Expr
-cast_of op start x to end = e.cast op x to (hull start end)
-
-abbrev pub arm_of : Pattern → Expr → Span → Arm
-arm_of pat body end = record { pat = pat; body = body; span = hull (pattern_span pat) end }
-
-abbrev pub match_of : Span → Expr → List Arm → Span → Expr
-match_of start x arms end = e.match_on x (e.arms arms) (hull start end)
-
-abbrev pub paren_of : Span → Expr → Span → Expr
-paren_of start x end = e.paren x (hull start end)
+use Rattle.tsl_parser.specs.PatternRules.{pattern}
+use Rattle.tsl_parser.specs.Nodes.{let_of, if_of, binary_of, prefix_of, get_of, put_of, call_of, make_of, operation_of, cast_of, arm_of, match_of, paren_of}
+use Rattle.tsl_parser.specs.Tokens.{is_prefix, is_operation, is_cast}
+use Rattle.tsl_parser.specs.Operators.{binds, loosest, groups, operator, prefix_operator}
 
 -- ---- operators
-
--- how tightly a binary operator binds, from 1, the tightest; 0 is none
-abbrev pub binds : Option Kind → ℕ
-binds (Some (k.Mark m.Star)) = 1
-binds (Some (k.Mark m.Plus)) = 2
-binds (Some (k.Mark m.Minus)) = 2
-binds (Some (k.Mark m.And)) = 3
-binds (Some (k.Mark m.Caret)) = 4
-binds (Some (k.Mark m.Bar)) = 5
-binds (Some (k.Mark m.EqEq)) = 6
-binds (Some (k.Mark m.NotEq)) = 6
-binds (Some (k.Mark m.AndAnd)) = 7
-binds (Some (k.Mark m.BarBar)) = 8
-binds _ = 0
-
-abbrev pub loosest : ℕ
-loosest = 8
-
--- whether operators of a precedence may stand in a row, grouped to the left: all but the equations
-abbrev pub groups : ℕ → Bool
-groups prec = not (prec == 6)
-
-abbrev pub operator : Option Kind → BinOp
-operator (Some (k.Mark m.Star)) = b.Mul
-operator (Some (k.Mark m.Minus)) = b.Sub
-operator (Some (k.Mark m.And)) = b.BitAnd
-operator (Some (k.Mark m.Caret)) = b.BitXor
-operator (Some (k.Mark m.Bar)) = b.BitOr
-operator (Some (k.Mark m.EqEq)) = b.Eq
-operator (Some (k.Mark m.NotEq)) = b.Ne
-operator (Some (k.Mark m.AndAnd)) = b.AndAlso
-operator (Some (k.Mark m.BarBar)) = b.OrElse
-operator _ = b.Add
-
-abbrev pub prefix_operator : Option Kind → PreOp
-prefix_operator (Some (k.Mark m.Tilde)) = p.Tilde
-prefix_operator (Some (k.Mark m.Minus)) = p.Minus
-prefix_operator _ = p.Bang
 
 -- a turn for each level, and one turn more
 abbrev pub max_turns : ℕ

@@ -3,6 +3,7 @@
 ghost use Rattle.std.specs.Prelude.{◌≡◌, map};
 ghost use Rattle.tsl_parser.specs.Parsing.{Gives, GivesBy};
 ghost use Rattle.tsl_parser.specs.Lists as lists;
+ghost use Rattle.tsl_parser.specs.Nodes as nodes;
 ghost use Rattle.tsl_parser.specs.ItemRules as spec;
 ghost use Rattle.tsl_parser.specs.View.{row as row_view, section_ as section_view};
 ghost use Rattle.tsl_lexer.specs.declared.token.Mark.TheVariants as marks;
@@ -87,7 +88,7 @@ fn other(alloc: Global, tokens: &mut Reader<'_>) -> Result<GuardArg, Fault>
 }
 
 fn other_span(other: &GuardArg) -> Span
-    ensures { result ≡ spec.other_span other.now }
+    ensures { result ≡ nodes.other_span other.now }
 {
     match other {
         GuardArg::Named(name) => name.span,

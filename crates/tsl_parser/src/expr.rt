@@ -5,6 +5,7 @@ ghost use Rattle.std.specs.Option.{option_copied};
 ghost use Rattle.tsl_parser.specs.Parsing.{GivesBy};
 ghost use Rattle.tsl_parser.specs.Lists as lists;
 ghost use Rattle.tsl_parser.specs.PatternRules as patterns;
+ghost use Rattle.tsl_parser.specs.Operators as operators;
 ghost use Rattle.tsl_parser.specs.TermRules as spec;
 ghost use Rattle.tsl_parser.specs.View.{term as term_view, arm as arm_view};
 ghost use Rattle.tsl_lexer.specs.declared.token.Mark.TheVariants as marks;
@@ -27,7 +28,7 @@ const LOOSEST: u8 = 8;
 
 /// How tightly a binary operator binds, from 1, the tightest. 0 is none.
 fn binds(next: Option<&Kind>) -> u8
-    ensures { result ≡ spec.binds (option_copied next.entry) }
+    ensures { result ≡ operators.binds (option_copied next.entry) }
 {
     match next {
         Some(Kind::Mark(Mark::Star)) => 1,
@@ -44,13 +45,13 @@ fn binds(next: Option<&Kind>) -> u8
 
 /// Whether operators of a precedence may stand in a row, grouped to the left.
 fn groups(precedence: u8) -> bool
-    ensures { result ≡ spec.groups precedence }
+    ensures { result ≡ operators.groups precedence }
 {
     precedence != 6
 }
 
 fn operator(next: Option<&Kind>) -> BinOp
-    ensures { result ≡ spec.operator (option_copied next.entry) }
+    ensures { result ≡ operators.operator (option_copied next.entry) }
 {
     match next {
         Some(Kind::Mark(Mark::Star)) => BinOp::Mul,
@@ -67,7 +68,7 @@ fn operator(next: Option<&Kind>) -> BinOp
 }
 
 fn prefix_operator(next: Option<&Kind>) -> PreOp
-    ensures { result ≡ spec.prefix_operator (option_copied next.entry) }
+    ensures { result ≡ operators.prefix_operator (option_copied next.entry) }
 {
     match next {
         Some(Kind::Mark(Mark::Tilde)) => PreOp::Tilde,

@@ -1,7 +1,6 @@
 //! From the tokens of a specification to its tree, exact in both directions.
 #![tactic(auto)]
 
-ghost use Rattle.std.specs.Prelude.{length};
 ghost use Rattle.std.specs.Prelude.{ℕ};
 ghost use Rattle.tsl_parser.specs.Exact.{Answers, HasTree, IsDeepAt, IsOnly, IsRefusal, IsSyntaxAt};
 ghost use Rattle.tsl_parser.specs.Tree as plain;
@@ -9,6 +8,7 @@ ghost use Rattle.tsl_parser.specs.Tree as plain;
 mod decode;
 mod expr;
 mod items;
+pub mod laws;
 mod make;
 mod pattern;
 mod reader;
@@ -18,15 +18,20 @@ use crate::items::declarations;
 use crate::reader::{Fault, Reader};
 use crate::tree::Tree;
 use std::alloc::Global;
+use thiserror::Error;
 use tsl_lexer::Token;
 
 /// Why tokens have no tree. `at` is a byte offset into the source.
-#[derive(Clone, Copy, Debug, PartialEq, Eq)]
+#[derive(Clone, Copy, Debug, PartialEq, Eq, Error)]
 pub enum ParseError {
-    /// No specification goes on with the token that begins here, or the tokens end too early.
+    /// P1: no specification goes on with the token that begins here, or the tokens end too early.
+    #[error("no specification goes on at byte {at}")]
     Syntax { at: u32 },
-    /// The token that begins here stands in more than 256 levels.
+    /// P2: the token that begins here stands in more than 256 levels.
+    #[error("the token at byte {at} stands in more than 256 levels")]
     TooDeep { at: u32 },
+    /// Memory ran out.
+    #[error("out of memory")]
     NoMemory,
 }
 

@@ -1,6 +1,7 @@
 //! Terms made from their parts, each with its span.
 
 ghost use Rattle.std.specs.Prelude.{◌≡◌, IfOk, map};
+ghost use Rattle.tsl_parser.specs.Nodes as nodes;
 ghost use Rattle.tsl_parser.specs.TermRules as spec;
 ghost use Rattle.tsl_parser.specs.View.{term as term_view, arm as arm_view, pattern as pattern_view};
 
@@ -10,9 +11,9 @@ use crate::tree::{Arm, BinOp, Expr, Name, Num, Pat, PreOp, Span};
 use std::alloc::{AllocError, Global};
 use tsl_lexer::Keyword;
 
-#[tactic(auto, unfolding(crate::specs::TermRules::span_of))]
+#[tactic(auto, unfolding(crate::specs::Nodes::span_of))]
 fn span_of(e: &Expr) -> Span
-    ensures { result ≡ spec.span_of (term_view e.now) }
+    ensures { result ≡ nodes.span_of (term_view e.now) }
 {
     match e {
         Expr::Let { span, .. }
@@ -33,7 +34,7 @@ fn span_of(e: &Expr) -> Span
     }
 }
 
-#[tactic(auto, unfolding(crate::specs::TermRules::let_of))]
+#[tactic(auto, unfolding(crate::specs::Nodes::let_of))]
 pub fn let_of(
     alloc: Global,
     start: Span,
@@ -41,7 +42,7 @@ pub fn let_of(
     x: Expr,
     then: Expr,
 ) -> Result<Expr, AllocError>
-    ensures { IfOk result (λ e. term_view e ≡ spec.let_of start name (term_view x) (term_view then)) }
+    ensures { IfOk result (λ e. term_view e ≡ nodes.let_of start name (term_view x) (term_view then)) }
 {
     let span = hull(start, span_of(&then));
     Ok(Expr::Let {
@@ -52,9 +53,9 @@ pub fn let_of(
     })
 }
 
-#[tactic(auto, unfolding(crate::specs::TermRules::if_of))]
+#[tactic(auto, unfolding(crate::specs::Nodes::if_of))]
 pub fn if_of(alloc: Global, start: Span, c: Expr, yes: Expr, no: Expr) -> Result<Expr, AllocError>
-    ensures { IfOk result (λ e. term_view e ≡ spec.if_of start (term_view c) (term_view yes) (term_view no)) }
+    ensures { IfOk result (λ e. term_view e ≡ nodes.if_of start (term_view c) (term_view yes) (term_view no)) }
 {
     let span = hull(start, span_of(&no));
     Ok(Expr::If {
@@ -65,9 +66,9 @@ pub fn if_of(alloc: Global, start: Span, c: Expr, yes: Expr, no: Expr) -> Result
     })
 }
 
-#[tactic(auto, unfolding(crate::specs::TermRules::binary_of))]
+#[tactic(auto, unfolding(crate::specs::Nodes::binary_of))]
 pub fn binary_of(alloc: Global, op: BinOp, x: Expr, y: Expr) -> Result<Expr, AllocError>
-    ensures { IfOk result (λ e. term_view e ≡ spec.binary_of op (term_view x) (term_view y)) }
+    ensures { IfOk result (λ e. term_view e ≡ nodes.binary_of op (term_view x) (term_view y)) }
 {
     let span = hull(span_of(&x), span_of(&y));
     Ok(Expr::Binary {
@@ -78,9 +79,9 @@ pub fn binary_of(alloc: Global, op: BinOp, x: Expr, y: Expr) -> Result<Expr, All
     })
 }
 
-#[tactic(auto, unfolding(crate::specs::TermRules::prefix_of))]
+#[tactic(auto, unfolding(crate::specs::Nodes::prefix_of))]
 pub fn prefix_of(alloc: Global, op: PreOp, start: Span, x: Expr) -> Result<Expr, AllocError>
-    ensures { IfOk result (λ e. term_view e ≡ spec.prefix_of op start (term_view x)) }
+    ensures { IfOk result (λ e. term_view e ≡ nodes.prefix_of op start (term_view x)) }
 {
     let span = hull(start, span_of(&x));
     Ok(Expr::Prefix {
@@ -90,9 +91,9 @@ pub fn prefix_of(alloc: Global, op: PreOp, start: Span, x: Expr) -> Result<Expr,
     })
 }
 
-#[tactic(auto, unfolding(crate::specs::TermRules::get_of))]
+#[tactic(auto, unfolding(crate::specs::Nodes::get_of))]
 pub fn get_of(alloc: Global, x: Expr, key: Expr, end: Span) -> Result<Expr, AllocError>
-    ensures { IfOk result (λ e. term_view e ≡ spec.get_of (term_view x) (term_view key) end) }
+    ensures { IfOk result (λ e. term_view e ≡ nodes.get_of (term_view x) (term_view key) end) }
 {
     let span = hull(span_of(&x), end);
     Ok(Expr::Get {
@@ -102,9 +103,9 @@ pub fn get_of(alloc: Global, x: Expr, key: Expr, end: Span) -> Result<Expr, Allo
     })
 }
 
-#[tactic(auto, unfolding(crate::specs::TermRules::put_of))]
+#[tactic(auto, unfolding(crate::specs::Nodes::put_of))]
 pub fn put_of(alloc: Global, x: Expr, key: Expr, v: Expr, end: Span) -> Result<Expr, AllocError>
-    ensures { IfOk result (λ e. term_view e ≡ spec.put_of (term_view x) (term_view key) (term_view v) end) }
+    ensures { IfOk result (λ e. term_view e ≡ nodes.put_of (term_view x) (term_view key) (term_view v) end) }
 {
     let span = hull(span_of(&x), end);
     Ok(Expr::Put {
@@ -123,7 +124,7 @@ pub fn operation_of(
     y: Expr,
     end: Span,
 ) -> Result<Expr, AllocError>
-    ensures { IfOk result (λ e. term_view e ≡ spec.operation_of op start (term_view x) (term_view y) end) }
+    ensures { IfOk result (λ e. term_view e ≡ nodes.operation_of op start (term_view x) (term_view y) end) }
 {
     Ok(Expr::Op {
         op,
@@ -141,7 +142,7 @@ pub fn cast_of(
     to: Num,
     end: Span,
 ) -> Result<Expr, AllocError>
-    ensures { IfOk result (λ e. term_view e ≡ spec.cast_of op start (term_view x) to end) }
+    ensures { IfOk result (λ e. term_view e ≡ nodes.cast_of op start (term_view x) to end) }
 {
     Ok(Expr::Cast {
         op,
@@ -152,7 +153,7 @@ pub fn cast_of(
 }
 
 pub fn arm_of(pat: Pat, body: Expr, end: Span) -> Arm
-    ensures { arm_view result ≡ spec.arm_of (pattern_view pat) (term_view body) end }
+    ensures { arm_view result ≡ nodes.arm_of (pattern_view pat) (term_view body) end }
 {
     let span = hull(pattern_span(&pat), end);
     Arm { pat, body, span }
@@ -165,7 +166,7 @@ pub fn match_of(
     arms: Vec<Arm>,
     end: Span,
 ) -> Result<Expr, AllocError>
-    ensures { IfOk result (λ e. term_view e ≡ spec.match_of start (term_view x) (map arm_view arms.items) end) }
+    ensures { IfOk result (λ e. term_view e ≡ nodes.match_of start (term_view x) (map arm_view arms.items) end) }
 {
     Ok(Expr::Match {
         x: Box::new(alloc, x)?,
@@ -175,7 +176,7 @@ pub fn match_of(
 }
 
 pub fn paren_of(alloc: Global, start: Span, x: Expr, end: Span) -> Result<Expr, AllocError>
-    ensures { IfOk result (λ e. term_view e ≡ spec.paren_of start (term_view x) end) }
+    ensures { IfOk result (λ e. term_view e ≡ nodes.paren_of start (term_view x) end) }
 {
     Ok(Expr::Paren {
         x: Box::new(alloc, x)?,

@@ -2,6 +2,7 @@
 
 ghost use Rattle.std.specs.Prelude.{◌≡◌, map};
 ghost use Rattle.tsl_parser.specs.Parsing.{GivesBy};
+ghost use Rattle.tsl_parser.specs.Nodes as nodes;
 ghost use Rattle.tsl_parser.specs.Parsing as parsing;
 ghost use Rattle.tsl_parser.specs.Lists as lists;
 ghost use Rattle.tsl_parser.specs.PatternRules as spec;
@@ -15,7 +16,7 @@ use tsl_lexer::{Keyword, Kind, Mark};
 
 /// The span of a pattern.
 pub fn pattern_span(pat: &Pat) -> Span
-    ensures { result ≡ spec.pattern_span (pattern_view pat.now) }
+    ensures { result ≡ nodes.pattern_span (pattern_view pat.now) }
 {
     match pat {
         Pat::Any { span }

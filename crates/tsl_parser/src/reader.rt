@@ -2,6 +2,8 @@
 
 ghost use Rattle.std.specs.Prelude.{◌≡◌, ◌≤◌, ◌+◌, [], ◌∷◌, length};
 ghost use Rattle.std.specs.Option.{option_copied};
+ghost use Rattle.tsl_parser.specs.Nodes as nodes;
+ghost use Rattle.tsl_parser.specs.Tokens as token_specs;
 ghost use Rattle.tsl_parser.specs.Parsing as spec;
 ghost use Rattle.tsl_parser.specs.Parsing.{Gives};
 
@@ -50,7 +52,7 @@ pub struct Literal {
 
 /// From the beginning of one span to the end of another.
 pub fn hull(a: Span, b: Span) -> Span
-    ensures { result ≡ spec.hull a b }
+    ensures { result ≡ nodes.hull a b }
 {
     Span {
         from: a.from,
@@ -61,7 +63,7 @@ pub fn hull(a: Span, b: Span) -> Span
 /// The greatest level at which a token may stand.
 pub const MAX_LEVEL: usize = 256;
 
-/// A cursor: the tokens that are left, and the level of the last one that was taken.
+/// A cursor: the tokens that are left, and the level so far of the innermost term or pattern that is open.
 #[derive(Drop)]
 pub struct Reader<'a> {
     rest: &'a [Token],
@@ -97,7 +99,7 @@ impl<'a> Reader<'a> {
 
     /// Where the next token begins, or the end.
     pub fn place(&self, end: u32) -> u32
-        ensures { result ≡ spec.place end self.now.rest }
+        ensures { result ≡ token_specs.place end self.now.rest }
     {
         match self.rest {
             [token, ..] => token.from,
@@ -292,7 +294,7 @@ impl<'a> Reader<'a> {
 
 /// Whether a keyword names an operation of two operands.
 pub fn is_operation(word: Keyword) -> bool
-    ensures { result ≡ spec.is_operation word }
+    ensures { result ≡ token_specs.is_operation word }
 {
     matches!(
         word,
@@ -315,14 +317,14 @@ pub fn is_operation(word: Keyword) -> bool
 
 /// Whether a keyword names a cast.
 pub fn is_cast(word: Keyword) -> bool
-    ensures { result ≡ spec.is_cast word }
+    ensures { result ≡ token_specs.is_cast word }
 {
     matches!(word, Keyword::KwZext | Keyword::KwSext | Keyword::KwTrunc)
 }
 
 /// Whether the next token is a prefix operator.
 pub fn is_prefix(next: Option<&Kind>) -> bool
-    ensures { result ≡ spec.is_prefix (option_copied next.entry) }
+    ensures { result ≡ token_specs.is_prefix (option_copied next.entry) }
 {
     matches!(
         next,

@@ -118,6 +118,7 @@ pub struct GuardDecl {
     pub span: Span,
 }
 
+/// The comparison of a guard: `==`, `!=`, and `<` of unsigned numbers.
 #[derive(Clone, Copy, Debug, PartialEq, Eq)]
 pub enum GuardOp {
     Eq,
@@ -125,6 +126,7 @@ pub enum GuardOp {
     Less,
 }
 
+/// What a guard compares a field with: another field or a number.
 #[derive(Debug, Drop)]
 pub enum GuardArg {
     Named(Name),

@@ -30,4 +30,4 @@ pub returns-clause-owed : goal.returns-clause-owed
 returns-clause-owed g c told words asks =
     let source = c.in_ok-source.source.items in
     let specifies = subst (λ (s : List ℕ). IsSpecification s (tree_of c.in_ok-tree.tree)) c.deref.ensures.value c.in_ok-tree.ensures in
-    some_value words (g.I.Inputs.held c.args.inputs.now) c.args.spec.now c.args.fun.now (texts c.args.numbers.now) asks source (c.in_ok-source.ensures.whole told) c.in_ok-source.ensures.within_cap (tree_of c.in_ok-tree.tree) specifies c.in_ok-value.value _ c.in_ok-value.ensures c.in_ok-value_line.ensures
+    some_value words (g.I.Inputs.held c.args.inputs.now) c.args.spec.now c.args.fun.now (texts c.args.numbers.now) asks source (c.in_ok-source.ensures.whole told) c.in_ok-source.ensures.within_cap (tree_of c.in_ok-tree.tree) specifies c.in_ok-value.value _ c.in_ok-value.ensures c.in_ok-value_line.ensures.value

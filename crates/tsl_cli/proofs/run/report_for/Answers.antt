@@ -1,8 +1,10 @@
 use Rattle.std.proofs.Common.{sym, subst}
 use Rattle.std.specs.String.{string_bytes}
 use Rattle.tsl_cli.specs.declared.status.Status.{Status}
+use Rattle.tsl_cli.specs.OneLine.{IsLineOf}
 use Rattle.tsl_cli.specs.Owed.{Due}
 use Rattle.tsl_cli.specs.Words.{texts}
+use Rattle.tsl_cli.proofs.OneLine.{line_of_refusal}
 use Rattle.tsl_cli.proofs.Owing.{due_refusal, due_text}
 use Rattle.tsl_cli.proofs.run.report_for.Goals as goal
 
@@ -17,3 +19,9 @@ returns-in_ok-line-in-Err-clause-due g c told =
     let due = due_refusal (texts c.args.words.now) (g.I.Inputs.held old) (g.I.Inputs.sure old) (g.I.Inputs.faults old) (g.I.Inputs.faults new) c.in-Err.refusal text
     c.in_ok-line-in-Err.ensures (c.in-Err.ensures.owed told) c.in-Err.ensures.unread in
     subst (λ (status : Status). Due (texts c.args.words.now) (g.I.Inputs.held old) (g.I.Inputs.sure old) (g.I.Inputs.faults old) (g.I.Inputs.faults new) status text) (sym c.status.ensures) due
+
+pub returns-in_ok-line-in-Err-clause-line : goal.returns-in_ok-line-in-Err-clause-line
+returns-in_ok-line-in-Err-clause-line g c =
+    let text = string_bytes c.in_ok-line-in-Err.field-0 in
+    let line = line_of_refusal (texts c.args.words.now) c.in-Err.refusal text c.in_ok-line-in-Err.ensures c.in-Err.ensures.line in
+    subst (λ (status : Status). IsLineOf (texts c.args.words.now) status text) (sym c.status.ensures) line

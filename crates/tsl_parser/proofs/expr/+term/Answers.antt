@@ -5,7 +5,9 @@ use Rattle.tsl_parser.specs.Tree.{Term as Expr}
 use Rattle.tsl_parser.specs.State.{At}
 use Rattle.tsl_parser.specs.Parsing.{Parser, next, rise, skip}
 use Rattle.tsl_parser.specs.PatternRules.{pattern}
-use Rattle.tsl_parser.specs.TermRules.{level, post, term, chain_from, binds, groups, operator, binary_of, max_turns}
+use Rattle.tsl_parser.specs.TermRules.{level, post, term, chain_from, max_turns}
+use Rattle.tsl_parser.specs.Nodes.{binary_of}
+use Rattle.tsl_parser.specs.Operators.{binds, groups, operator}
 use Rattle.tsl_parser.proofs.Chain.{chain_turn}
 use Rattle.tsl_parser.proofs.expr.+term.Goals as goal
 

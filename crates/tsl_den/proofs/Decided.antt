@@ -12,7 +12,7 @@ use Rattle.tsl_den.specs.FirstForm.{IsFirstForm, IsFaultless, IsFaultlessFunctio
 use Rattle.tsl_den.specs.Functions.{function_name, functions}
 use Rattle.tsl_den.specs.Scope.{parameter_name}
 use Rattle.tsl_den.specs.Typing.{width_of}
-use Rattle.tsl_den.specs.declared.limits.TheConstants.{INT32_WIDTH, MOST_FUNCTIONS, MOST_PARAMETERS}
+use Rattle.tsl_den.specs.Limits.{int32_width, most_functions, most_parameters}
 use Rattle.tsl_den.proofs.Lists.{AllPairs-head, AllPairs-tail}
 
 abbrev pub Decided : Type 0 → Type 0
@@ -59,13 +59,13 @@ pairs_decided R each (x ∷ xs) = by (all_decided (R x) (each x) xs) (pairs_deci
 
 is_faultless : (f : Function) → Decided (IsFaultless f)
 is_faultless f =
-    by (up_to_decided (length f.params) MOST_PARAMETERS) (all_decided (λ (p : FieldDecl). IsInt32 p.ty) (λ p. same_text p.ty.text (codes "INT32")) f.params)
+    by (up_to_decided (length f.params) most_parameters) (all_decided (λ (p : FieldDecl). IsInt32 p.ty) (λ p. same_text p.ty.text (codes "INT32")) f.params)
     (same_text f.result_type.text (codes "INT32"))
     (pairs_decided (λ (p q : FieldDecl). parameter_name p ≢ parameter_name q) (λ p q. not_decided (same_text (parameter_name p) (parameter_name q))) f.params)
-    (is_some_number (width_of (parameter_widths f.params) f.body) INT32_WIDTH)
+    (is_some_number (width_of (parameter_widths f.params) f.body) int32_width)
   where
-    by : Decided (length f.params ≤ MOST_PARAMETERS) → Decided (All (λ p. IsInt32 p.ty) f.params) → Decided (IsInt32 f.result_type)
-        → Decided (AllPairs (λ p q. parameter_name p ≢ parameter_name q) f.params) → Decided (width_of (parameter_widths f.params) f.body ≡ Some INT32_WIDTH) → Decided (IsFaultless f)
+    by : Decided (length f.params ≤ most_parameters) → Decided (All (λ p. IsInt32 p.ty) f.params) → Decided (IsInt32 f.result_type)
+        → Decided (AllPairs (λ p q. parameter_name p ≢ parameter_name q) f.params) → Decided (width_of (parameter_widths f.params) f.body ≡ Some int32_width) → Decided (IsFaultless f)
     by (inl a) (inl b) (inl c) (inl d) (inl e) = inl (record { parameters = a; parameter_types = b; result_type = c; distinct = d; body = e })
     by (inr a) b c d e = inr (λ f. a f.parameters)
     by (inl a) (inr b) c d e = inr (λ f. b f.parameter_types)
@@ -81,10 +81,10 @@ is_faultless_function (t.decode d) = inr (λ no_function. no_function)
 
 pub is_first_form : (tree : Tree) → Decided (IsFirstForm tree)
 is_first_form tree =
-    by (up_to_decided (length tree.items) MOST_FUNCTIONS) (all_decided IsFaultlessFunction is_faultless_function tree.items)
+    by (up_to_decided (length tree.items) most_functions) (all_decided IsFaultlessFunction is_faultless_function tree.items)
     (pairs_decided (λ (f g : Function). function_name f ≢ function_name g) (λ f g. not_decided (same_text (function_name f) (function_name g))) (functions tree))
   where
-    by : Decided (length tree.items ≤ MOST_FUNCTIONS) → Decided (All IsFaultlessFunction tree.items) → Decided (AllPairs (λ f g. function_name f ≢ function_name g) (functions tree)) → Decided (IsFirstForm tree)
+    by : Decided (length tree.items ≤ most_functions) → Decided (All IsFaultlessFunction tree.items) → Decided (AllPairs (λ f g. function_name f ≢ function_name g) (functions tree)) → Decided (IsFirstForm tree)
     by (inl a) (inl b) (inl c) = inl (record { count = a; each = b; distinct = c })
     by (inr a) b c = inr (λ form. a form.count)
     by (inl a) (inr b) c = inr (λ form. b form.each)
