@@ -3,9 +3,10 @@
 ghost use Rattle.std.specs.Prelude.{◌≡◌, ◌<◌, ◌^◌, IfOk, IsTrue};
 ghost use Rattle.word_ops.specs.Width.{IsWidth};
 
+use super::generic::sum_with_either;
 use base_trait::{Base, Log};
 use concrete_base::Concrete;
-use defuse_base::DefUse;
+use defuse_base::{DefUse, Stamps};
 use kset_base::KSet;
 use paired_base::Paired;
 use std::alloc::{AllocError, Global};
@@ -256,6 +257,25 @@ fn words_that_calls_give(rt: HostRuntime) -> Result<(), Fail> {
             "[1, 2, 3]",
         ),
         (Call::Join, 8, &[1, 2], &[], "any", "any", "any"),
+        (
+            Call::Join,
+            8,
+            &[0, 1, 2, 3, 4, 5, 6, 7, 8, 9, 10, 11, 12, 13, 14, 15],
+            &[16],
+            "any",
+            "any",
+            "any",
+        ),
+        (
+            Call::Join,
+            64,
+            &[ALL],
+            &[0],
+            "[0, 18446744073709551615]",
+            "[0, 18446744073709551615]",
+            "[0, 18446744073709551615]",
+        ),
+        (Call::Join, 64, &[ALL], &[], "any", "any", "any"),
         (Call::Widen, 8, &[1, 2], &[2], "[1, 2]", "[1, 2]", "[1, 2]"),
         (Call::Widen, 8, &[1], &[1, 2], "any", "any", "any"),
         (Call::Widen, 8, &[], &[1], "any", "any", "any"),
@@ -273,6 +293,26 @@ fn words_that_calls_give(rt: HostRuntime) -> Result<(), Fail> {
             pair
         );
     }
+    Ok(())
+}
+
+/// The sum of 250 with either 3 or 7, in eight bits.
+fn sum<B: Base>(rt: &impl Abort, alloc: Global, ctx: &B::Ctx) -> Result<String, AllocError>
+    requires { IsTrue B.algebra.joins }
+{
+    let x = word::<B>(rt, alloc, ctx, 8, &[250])?;
+    let y = word::<B>(rt, alloc, ctx, 8, &[3])?;
+    let z = word::<B>(rt, alloc, ctx, 8, &[7])?;
+    let found = sum_with_either::<B>(alloc, ctx, 8, &x, &y, &z)?;
+    text::<B>(alloc, ctx, 8, &found)
+}
+
+#[test]
+fn sums_with_either_word(rt: HostRuntime) -> Result<(), Fail> {
+    let alloc = rt.alloc();
+    assert_eq!(rt; sum::<KSet<16>>(&rt, alloc, &())?.as_str(), "[1, 253]");
+    assert_eq!(rt; sum::<DefUse>(&rt, alloc, &())?.as_str(), "any");
+    assert_eq!(rt; sum::<Pair>(&rt, alloc, &((), ()))?.as_str(), "[1, 253]");
     Ok(())
 }
 
@@ -640,5 +680,6 @@ fn equal_notes_are_the_same(rt: HostRuntime) -> Result<(), Fail> {
     let late = joined::<DefUse>(alloc, true)?;
     assert!(rt; early == late && early.items().len() == 3);
     assert!(rt; early != DefUse::entry_note(alloc)?);
+    assert!(rt; Stamps::new(early.into_items()) == late);
     Ok(())
 }

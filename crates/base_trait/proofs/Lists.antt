@@ -1,9 +1,10 @@
 -- Items of lists.
-use Rattle.std.proofs.Common.{◌≡◌, ℕ, ◌+◌, ◌<◌, ◌≤◌, Bool, true, false, List, [], ◌∷◌, ◌++◌, map, length, suc, zero, refl, sym, ap, ◌∙◌, subst, arith, IsTrue, ◌⊎◌, inl, inr}
-use Rattle.std.specs.Prelude.{◌==◌}
-use Rattle.std.specs.List.{range_with_len}
+use Rattle.std.proofs.Common.{◌≡◌, ℕ, ◌+◌, ◌<◌, ◌≤◌, Bool, true, false, List, [], ◌∷◌, ◌++◌, map, length, suc, zero, refl, sym, ap, ◌∙◌, subst, arith, IsTrue, cond, ◌↔◌, ◌⊎◌, inl, inr}
+use Rattle.std.specs.Prelude.{◌==◌, nat_le}
+use Rattle.std.specs.List.{filter, list_all, range_with_len}
 use Rattle.std.proofs.lemmas.Bool.Decides.{nat_tests}
-use Rattle.base_trait.specs.Lists.{IsAmong, AreAmong, Each, IsAscendingFrom}
+use Rattle.base_trait.specs.Lists.{IsAmong, AreAmong, Each, IsAscendingFrom, ascends_from}
+use Rattle.base_trait.proofs.Tests.{and_both, and_parts}
 
 module _ {A : Type 0} where
   -- ---- items of two lists, one behind the other
@@ -44,8 +45,29 @@ module _ {A : Type 0} where
   each_at P [] x h k = absurd k
   each_at P (z ∷ xs) x h (inl e) = subst P (sym e) h.0
   each_at P (z ∷ xs) x h (inr k) = each_at P xs x h.1 k
-  -- ---- items of a map
 
+  -- what a test says of each item
+  pub all_told : (test : A → Bool) (xs : List A) → IsTrue (list_all test xs) ↔ Each (λ x. IsTrue (test x)) xs
+  all_told test xs = (from xs, to xs)
+    where
+      from : (xs : List A) → IsTrue (list_all test xs) → Each (λ x. IsTrue (test x)) xs
+      from [] h = tt
+      from (x ∷ xs) h = let k = and_parts (test x) (list_all test xs) h in (k.0, from xs k.1)
+
+      to : (xs : List A) → Each (λ x. IsTrue (test x)) xs → IsTrue (list_all test xs)
+      to [] h = refl
+      to (x ∷ xs) h = and_both (test x) (list_all test xs) h.0 (to xs h.1)
+
+  -- ---- what passes a test
+  pub filter_shorter : (test : A → Bool) (xs : List A) → length (filter test xs) ≤ length xs
+  filter_shorter test [] = omega arith
+  filter_shorter test (x ∷ xs) = at_test (test x) (filter_shorter test xs)
+    where
+      at_test : (b : Bool) → length (filter test xs) ≤ length xs → length (cond b (x ∷ filter test xs) (filter test xs)) ≤ length (x ∷ xs)
+      at_test true k = omega (arith, k)
+      at_test false k = omega (arith, k)
+
+-- ---- items of a map
 module _ {A B : Type 0} (f : A → B) where
   pub among_map : (x : A) (xs : List A) → IsAmong x xs → IsAmong (f x) (map f xs)
   among_map x [] h = absurd h
@@ -69,6 +91,18 @@ pub ascending_above : (low n : ℕ) (xs : List ℕ) → IsAscendingFrom low xs �
 ascending_above low n [] h k = absurd k
 ascending_above low n (x ∷ xs) h (inl e) = subst (λ z. low ≤ z) (sym e) h.0
 ascending_above low n (x ∷ xs) h (inr k) = let later = ascending_above (x + 1) n xs h.1 k in let first = h.0 in omega arith
+
+-- the test tells ascending lists
+pub ascends_told : (low : ℕ) (xs : List ℕ) → IsTrue (ascends_from low xs) ↔ IsAscendingFrom low xs
+ascends_told low xs = (from low xs, to low xs)
+  where
+    from : (low : ℕ) (xs : List ℕ) → IsTrue (ascends_from low xs) → IsAscendingFrom low xs
+    from low [] h = tt
+    from low (x ∷ xs) h = let k = and_parts (nat_le low x) (ascends_from (x + 1) xs) h in (let first = k.0 in grind (arith, nat_tests), from (x + 1) xs k.1)
+
+    to : (low : ℕ) (xs : List ℕ) → IsAscendingFrom low xs → IsTrue (ascends_from low xs)
+    to low [] h = refl
+    to low (x ∷ xs) h = and_both (nat_le low x) (ascends_from (x + 1) xs) (let first = h.0 in grind (arith, nat_tests)) (to (x + 1) xs h.1)
 
 pub ascending_lower : (low less : ℕ) (xs : List ℕ) → less ≤ low → IsAscendingFrom low xs → IsAscendingFrom less xs
 ascending_lower low less [] l h = tt

@@ -19,6 +19,8 @@ pub record Words (W C : Type 0) : Type 1 where
   pub describes : List ℕ → ℕ → ℕ → W → Type 0
   -- the word is one of the width
   pub fits : C → ℕ → W → Type 0
+  -- whether it is, as a test
+  pub fits_test : C → ℕ → W → Bool
   -- whether the numbers that a word stands for depend on the world
   pub looks : Bool
   pub constant : C → ℕ → ℕ → W

@@ -24,12 +24,14 @@ pub record IsExtension (from to : ℕ) : Type 0 where
   pub wide : IsWidth to
   pub order : from ≤ to
 
--- a word of each side is a number of the other's, and the numbers are words
+-- The laws of words.
 pub record WordLaws (W C : Type 0) (joins : Bool) (B : Words W C) : Type 0 where
   -- a number that is described is below 2 ^ w
   pub described_fits : (world : List ℕ) (w n : ℕ) (x : W) → B.describes world w n x → n < 2 ^ w
   -- where a base does not look at the world, its words stand for the same numbers in each
   pub unseen : (world other : List ℕ) (w n : ℕ) (x : W) → B.looks ≡ false → B.describes world w n x → B.describes other w n x
+  -- the test tells whether a word fits
+  pub fits_told : (c : C) (w : ℕ) (x : W) → IsTrue (B.fits_test c w x) ↔ B.fits c w x
   -- ---- operations describe the results on words
   pub constant_sound : (c : C) (world : List ℕ) (w n : ℕ) → IsWidth w → n < 2 ^ w → B.describes world w n (B.constant c w n)
   pub any_sound : (c : C) (world : List ℕ) (w n : ℕ) → IsWidth w → IsTrue joins → n < 2 ^ w → B.describes world w n (B.any c w)
@@ -59,6 +61,8 @@ pub record WordLaws (W C : Type 0) (joins : Bool) (B : Words W C) : Type 0 where
       → B.members c w x limit ≡ Some ns → IsAscending ns
   pub members_fit : (c : C) (w limit : ℕ) (ns : List ℕ) (x : W) → IsWidth w → B.fits c w x
       → B.members c w x limit ≡ Some ns → Each (λ n. (n < 2 ^ w) × IsTrue (B.may c w x n)) ns
+  pub members_few : (c : C) (w limit : ℕ) (ns : List ℕ) (x : W) → IsWidth w → B.fits c w x
+      → B.members c w x limit ≡ Some ns → length ns ≤ limit
   pub members_none : (c : C) (w limit : ℕ) (x : W) → IsWidth w → B.fits c w x
       → (B.members c w x limit ≡ None) ↔ (limit < B.size c w x)
   -- ---- join and widening are upper bounds
@@ -100,6 +104,7 @@ pub record WordLaws (W C : Type 0) (joins : Bool) (B : Words W C) : Type 0 where
   pub join_fits : (c : C) (w : ℕ) (x y : W) → IsWidth w → B.fits c w x → B.fits c w y → B.fits c w (B.join c w x y)
   pub widen_fits : (c : C) (w : ℕ) (old new : W) → IsWidth w → B.fits c w old → B.fits c w new → B.fits c w (B.widen c w old new)
 
+-- The laws of notes.
 pub record NoteLaws (N : Type 0) (joins : Bool) (B : Notes N) : Type 0 where
   -- ---- notes of definitions
   pub entry_sound : B.describes Entry B.entry
@@ -119,9 +124,10 @@ pub record NoteLaws (N : Type 0) (joins : Bool) (B : Notes N) : Type 0 where
   pub widen_falls : (stamps : List Stamped) (old new : N) → IsTrue joins → AreAmong (B.listed old) stamps → AreAmong (B.listed new) stamps
       → B.absorbs old new ≡ false → B.rank stamps (B.widen old new) < B.rank stamps old
   pub rank_height : (stamps : List Stamped) (x : N) → B.rank stamps x ≤ B.height (length stamps)
-  -- ---- reads are covered
+  -- ---- reads are covered, and no use names another map or key
   pub reads_cover : (m : ℕ) (key : Option ℕ) (k : ℕ) (s : Stamped) (x : N) → IsTrue B.stamped → IsKey key k → B.describes s x
       → AreCovering (B.reads m key x) (record { of_map = m; key = k; stamp = s })
+  pub reads_name : (m : ℕ) (key : Option ℕ) (x : N) → Each (λ u. (u.of_map ≡ m) × (u.key ≡ key)) (B.reads m key x)
   pub reads_nothing : (m : ℕ) (key : Option ℕ) (x : N) → B.stamped ≡ false → B.reads m key x ≡ []
   -- ---- no call lists a stamp that it was not lent
   pub entry_lists : AreAmong (B.listed B.entry) (Entry ∷ [])

@@ -1,5 +1,5 @@
 -- Lists of numbers and of stamps.
-use Rattle.std.specs.Prelude.{◌≡◌, ℕ, ◌+◌, ◌≤◌, List, [], ◌∷◌, length, take, Option, option_map, Vec, ◌⊎◌, ⊤}
+use Rattle.std.specs.Prelude.{◌≡◌, ℕ, ◌+◌, ◌≤◌, Bool, true, ◌&&◌, nat_le, List, [], ◌∷◌, length, take, Option, option_map, Vec, ◌⊎◌, ⊤}
 use Rattle.std.specs.declared.alloc.Global.{Global}
 
 -- x is an item of the list
@@ -25,6 +25,11 @@ IsAscendingFrom low (x ∷ xs) = (low ≤ x) × IsAscendingFrom (x + 1) xs
 -- the numbers ascend without doubles
 abbrev pub IsAscending : List ℕ → Type 0
 IsAscending = IsAscendingFrom 0
+
+-- whether the numbers ascend without doubles, from low or more on
+abbrev pub ascends_from : ℕ → List ℕ → Bool
+ascends_from low [] = true
+ascends_from low (x ∷ xs) = nat_le low x && ascends_from (x + 1) xs
 
 -- the list begins with the old one
 abbrev pub IsGrown : {A : Type 0} → List A → List A → Type 0

@@ -35,6 +35,7 @@ no_note_laws joins = record {
   widen_falls = λ stamps old new j a b h. cc;
   rank_height = λ stamps x. omega arith;
   reads_cover = λ m key k s x e h d. cc;
+  reads_name = λ m key x. tt;
   reads_nothing = λ m key x e. refl;
   entry_lists = tt;
   at_lists = λ a. tt;

@@ -1,5 +1,5 @@
 -- The laws of the base of single numbers.
-use Rattle.std.proofs.Common.{◌≡◌, ℕ, ◌^◌, ◌<◌, Bool, true, false, List, [], ◌∷◌, Option, Some, None, refl, sym, subst, arith, IsTrue, ◌↔◌, ◌⊎◌, inl, inr}
+use Rattle.std.proofs.Common.{◌≡◌, ℕ, ◌^◌, ◌<◌, ◌≤◌, Bool, true, false, List, [], ◌∷◌, length, Option, Some, None, refl, sym, subst, arith, IsTrue, ◌↔◌, ◌⊎◌, inl, inr}
 use Rattle.std.specs.Prelude.{◌==◌, nat_le, if◌then◌else◌}
 use Rattle.std.proofs.lemmas.Nat.{pow_pos}
 use Rattle.std.proofs.lemmas.Bool.Decides.{nat_tests}
@@ -54,10 +54,15 @@ module _ (x limit : ℕ) where
   each_where P true ns e h = let l : x ∷ [] ≡ ns = cc in subst (Each P) l (h, tt)
   each_where P false ns e h = cc
 
+  few_where : (b : Bool) (ns : List ℕ) → b ≡ nat_le 1 limit → one_of b ≡ Some ns → length ns ≤ limit
+  few_where true ns e d = let l : x ∷ [] ≡ ns = cc in subst (λ z. length z ≤ limit) l (grind (arith, nat_tests))
+  few_where false ns e d = cc
+
 pub word_laws : WordLaws ℕ (Unit {0}) false words
 word_laws = record {
   described_fits = λ world w n x h. h.1;
   unseen = λ world other w n x e h. h;
+  fits_told = λ c w x. (λ h. grind (arith, nat_tests), λ h. grind (arith, nat_tests));
   constant_sound = λ c world w n width h. (refl, h);
   any_sound = λ c world w n width joins h. cc;
   range_sound = λ c world w low high n width joins a b h. cc;
@@ -73,6 +78,7 @@ word_laws = record {
   members_hold = λ c world w limit n ns x width fx e h. holds_where x limit (nat_le 1 limit) n ns e h.0;
   members_ascend = λ c w limit ns x width fx e. ascends_where x limit (nat_le 1 limit) ns e;
   members_fit = λ c w limit ns x width fx e. each_where x limit (λ n. (n < 2 ^ w) × IsTrue (x == n)) (nat_le 1 limit) ns e (fx, number_itself x);
+  members_few = λ c w limit ns x width fx e. few_where x limit (nat_le 1 limit) ns refl e;
   members_none = λ c w limit x width fx. none_where x limit (nat_le 1 limit) refl;
   join_describes = λ c world w n x y width may fx fy h. either (λ z. (n ≡ z) × (n < 2 ^ w)) x y may h;
   join_absorbs = λ c w x y width may fx fy. (number_itself x, same_side x y may);
@@ -119,6 +125,7 @@ note_laws = record {
   widen_falls = λ stamps old new joins a b h. cc;
   rank_height = λ stamps x. omega arith;
   reads_cover = λ m key k s x e h d. inl (record { of_map = refl; key = h; stamp = inl d });
+  reads_name = λ m key x. ((refl, refl), tt);
   reads_nothing = λ m key x e. cc;
   entry_lists = (inl refl, tt);
   at_lists = λ a. (inl refl, tt);

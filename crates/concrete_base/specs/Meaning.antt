@@ -1,5 +1,5 @@
 -- The base of single numbers: every operation is that of the words themselves.
-use Rattle.std.specs.Prelude.{◌≡◌, ℕ, ◌^◌, ◌<◌, Bool, true, false, not, ◌==◌, nat_le, [], ◌∷◌, Some, None, if◌then◌else◌}
+use Rattle.std.specs.Prelude.{◌≡◌, ℕ, ◌^◌, ◌<◌, Bool, true, false, not, ◌==◌, nat_lt, nat_le, [], ◌∷◌, Some, None, if◌then◌else◌}
 use Rattle.word_ops.specs.Op1.{op1_of}
 use Rattle.word_ops.specs.Op2.{op2_of}
 use Rattle.word_ops.specs.Cmp.{cmp_of}
@@ -18,6 +18,7 @@ abbrev pub words : Words ℕ (Unit {0})
 words = record {
   describes = λ world w n x. (n ≡ x) × (n < 2 ^ w);
   fits = λ c w x. x < 2 ^ w;
+  fits_test = λ c w x. nat_lt x (2 ^ w);
   looks = false;
   constant = λ c w v. v;
   any = λ c w. 0;

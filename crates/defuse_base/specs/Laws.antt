@@ -180,6 +180,7 @@ stamp_note_laws = record {
       lacking_fewer stamps old (union old new) m.stamp (λ s l. union_left s old new l) (are_among_at new stamps m.stamp k m.there) m.lacked (listed_from m.stamp (union old new) (union_right m.stamp old new m.there));
   rank_height = λ stamps x. lacking_most stamps x;
   reads_cover = λ m key k s x e h d. inl (record { of_map = refl; key = h; stamp = d });
+  reads_name = λ m key x. ((refl, refl), tt);
   reads_nothing = λ m key x e. cc;
   entry_lists = (inl refl, tt);
   at_lists = λ a. (inl refl, tt);

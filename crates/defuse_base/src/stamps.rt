@@ -62,6 +62,22 @@ impl Hash for Stamps {
 }
 
 impl Stamps {
+    /// The set of stamps that ascend without doubles.
+    pub fn new(items: Vec<Stamped>) -> Stamps
+        requires { AreAscending items.items }
+        ensures { result ≡ items.items }
+    {
+        Stamps { items }
+    }
+
+    /// The stamps, in their order.
+    pub fn into_items(self) -> Vec<Stamped>
+        ensures value { result.items ≡ self }
+        ensures ascending { AreAscending result.items }
+    {
+        self.items
+    }
+
     /// The stamps, in their order.
     pub fn items(&self) -> &[Stamped]
         ensures value { result.now ≡ self.now }

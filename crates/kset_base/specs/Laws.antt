@@ -1,6 +1,6 @@
 -- The laws of sets of at most K numbers.
 use Rattle.std.proofs.Common.{◌≡◌, ℕ, ◌+◌, ◌-◌, ◌^◌, ◌<◌, ◌≤◌, Bool, true, false, List, [], ◌∷◌, ◌++◌, map, length, Option, Some, None, refl, sym, ap, ◌∙◌, subst, arith, IsTrue, ◌↔◌, ◌⊎◌, inl, inr}
-use Rattle.std.specs.Prelude.{◌==◌, nat_lt, nat_le, not, if◌then◌else◌}
+use Rattle.std.specs.Prelude.{◌==◌, ◌&&◌, nat_lt, nat_le, not, if◌then◌else◌}
 use Rattle.std.specs.List.{list_any, list_all, flat_map, range_with_len}
 use Rattle.std.proofs.lemmas.Bool.Decides.{nat_tests}
 use Rattle.std.proofs.lemmas.List.FromFn.{length-range_with_len}
@@ -12,12 +12,12 @@ use Rattle.word_ops.specs.Casts.{zext_of, sext_of, trunc_of}
 use Rattle.word_ops.proofs.Fits.{op1_of_fits, op2_of_fits, zext_of_fits, sext_of_fits, trunc_of_fits}
 use Rattle.base_trait.specs.Algebra.{can_be}
 use Rattle.base_trait.specs.Laws.{Laws, WordLaws}
-use Rattle.base_trait.specs.Lists.{IsAmong, Each, IsAscendingFrom, IsAscending}
+use Rattle.base_trait.specs.Lists.{IsAmong, Each, IsAscendingFrom, IsAscending, ascends_from}
 use Rattle.base_trait.specs.NoNotes.{no_note_laws}
-use Rattle.base_trait.proofs.Lists.{among_left, among_right, among_either, each_from, each_at, among_map, map_among, number_itself, number_told, ascending_lower, ascending_shorter, range_ascends, range_has, range_within}
+use Rattle.base_trait.proofs.Lists.{among_left, among_right, among_either, each_from, each_at, among_map, map_among, number_itself, number_told, ascending_lower, ascending_shorter, ascends_told, all_told, range_ascends, range_has, range_within}
 use Rattle.base_trait.proofs.Tests.{or_sorted, or_left, or_right, and_both, and_parts, at_choice, from_either}
-use Rattle.kset_base.specs.Sets.{placed, set_with, set_of, has, bounded, images, products, union, from_to}
-use Rattle.kset_base.specs.Meaning.{kset, words, Stands, Fits, compared, some_pair, outcome, absorbs_set, the_number, may_be, all_of, size_of, rank_of}
+use Rattle.kset_base.specs.Sets.{placed, set_with, set_of, has, bounded, images, products, union, from_to, IsSet, is_set}
+use Rattle.kset_base.specs.Meaning.{kset, words, Stands, Fits, fits_word, compared, some_pair, outcome, absorbs_set, the_number, may_be, all_of, size_of, rank_of}
 use Rattle.kset_base.specs.Adding.{set_grows, bounded_few}
 
 -- ---- a number in its place
@@ -357,6 +357,47 @@ none_where : (b : Bool) (size limit : ℕ) (xs : List ℕ) → b ≡ nat_le size
 none_where true size limit xs e = (λ h. cc, λ h. absurd (grind (arith, nat_tests)))
 none_where false size limit xs e = (λ h. grind (arith, nat_tests), λ h. refl)
 
+members_within : (w limit : ℕ) (x : Option (List ℕ)) (b : Bool) → b ≡ nat_le (size_of w x) limit → IsTrue b → length (all_of w x) ≤ limit
+members_within w limit None b e h = let long = length-range_with_len 0 (2 ^ w) in grind (arith, nat_tests)
+members_within w limit (Some s) b e h = grind (arith, nat_tests)
+
+few_where : (w limit : ℕ) (ns : List ℕ) (x : Option (List ℕ)) (b : Bool) → b ≡ nat_le (size_of w x) limit → (if b then Some (all_of w x) else None) ≡ Some ns → length ns ≤ limit
+few_where w limit ns x true e d = let same : all_of w x ≡ ns = cc in subst (λ z. length z ≤ limit) same (members_within w limit x true e refl)
+few_where w limit ns x false e d = cc
+
+-- ---- whether a word fits
+below_told : (w : ℕ) (s : List ℕ) → IsTrue (list_all (λ n. nat_lt n (2 ^ w)) s) ↔ Each (λ n. n < 2 ^ w) s
+below_told w s = (
+  λ h. each_from (λ n. n < 2 ^ w) s (λ n k. let below = each_at (λ n. IsTrue (nat_lt n (2 ^ w))) s n ((all_told (λ n. nat_lt n (2 ^ w)) s).0 h) k in grind (arith, nat_tests)),
+  λ h. (all_told (λ n. nat_lt n (2 ^ w)) s).1 (each_from (λ n. IsTrue (nat_lt n (2 ^ w))) s (λ n k. let below = each_at (λ n. n < 2 ^ w) s n h k in grind (arith, nat_tests))),
+)
+
+module _ (K w : ℕ) (s : List ℕ) where
+  abbrev ascends : Bool
+  ascends = ascends_from 0 s
+
+  abbrev below : Bool
+  below = list_all (λ n. nat_lt n (2 ^ w)) s
+
+  set_from : IsTrue (is_set K w s) → IsSet K w s
+  set_from h =
+      let a = and_parts (nat_le 1 (length s)) (nat_le (length s) K && (ascends && below)) h in
+      let b = and_parts (nat_le (length s) K) (ascends && below) a.1 in
+      let c = and_parts ascends below b.1 in
+      let some = a.0 in let few = b.0 in
+      record { some = grind (arith, nat_tests); few = grind (arith, nat_tests); ascending = (ascends_told 0 s).0 c.0; below = (below_told w s).0 c.1 }
+
+  set_to : IsSet K w s → IsTrue (is_set K w s)
+  set_to h =
+      let some = h.some in let few = h.few in
+      and_both (nat_le 1 (length s)) (nat_le (length s) K && (ascends && below)) (grind (arith, nat_tests)) (
+      and_both (nat_le (length s) K) (ascends && below) (grind (arith, nat_tests)) (
+      and_both ascends below ((ascends_told 0 s).1 h.ascending) ((below_told w s).1 h.below)))
+
+fits_told : (K w : ℕ) (x : Option (List ℕ)) → IsTrue (fits_word K w x) ↔ Fits K w x
+fits_told K w None = (λ h. tt, λ h. refl)
+fits_told K w (Some s) = (set_from K w s, set_to K w s)
+
 -- ---- comparisons
 pub outcome_itself : (k : Cmp) (w m n : ℕ) → (b : Bool) → b ≡ cmp_of k w m n → IsTrue (outcome k w b m n)
 outcome_itself k w m n true e = sym e
@@ -388,6 +429,7 @@ pub word_laws : (K : ℕ) → WordLaws (Option (List ℕ)) (Unit {0}) true (word
 word_laws K = record {
   described_fits = λ world w n x h. h.1;
   unseen = λ world other w n x e h. h;
+  fits_told = λ c w x. fits_told K w x;
   constant_sound = λ c world w n width h. (bounded_stands K (n ∷ []) n (inl refl), h);
   any_sound = λ c world w n width joins h. (tt, h);
   range_sound = λ c world w low high n width joins a b h. (from_to_stands K low high n a b, omega arith);
@@ -403,6 +445,7 @@ word_laws K = record {
   members_hold = λ c world w limit n ns x width fx e h. subst (IsAmong n) (given (nat_le (size_of w x) limit) (all_of w x) ns e) (members_stand w n x h.0 h.1);
   members_ascend = λ c w limit ns x width fx e. subst IsAscending (given (nat_le (size_of w x) limit) (all_of w x) ns e) (members_ascend K w x fx);
   members_fit = λ c w limit ns x width fx e. subst (Each (λ n. (n < 2 ^ w) × IsTrue (may_be x n))) (given (nat_le (size_of w x) limit) (all_of w x) ns e) (members_allowed K w x fx);
+  members_few = λ c w limit ns x width fx e. few_where w limit ns x (nat_le (size_of w x) limit) refl e;
   members_none = λ c w limit x width fx. none_where (nat_le (size_of w x) limit) (size_of w x) limit (all_of w x) refl;
   join_describes = λ c world w n x y width may fx fy h. let s = sides h in (from_either (union_left K x y n) (union_right K x y n) s.0, s.1);
   join_absorbs = λ c w x y width may fx fy. (union_absorbs_left K x y, union_absorbs_right K x y);

@@ -10,16 +10,22 @@ use Rattle.base_trait.specs.Algebra.{Algebra, Words}
 use Rattle.base_trait.specs.Lists.{IsAmong}
 use Rattle.base_trait.specs.NoNotes.{no_notes}
 use Rattle.base_trait.specs.declared.tri.Tri.{Tri}
-use Rattle.kset_base.specs.Sets.{has, bounded, images, products, union, from_to, IsSet}
+use Rattle.kset_base.specs.Sets.{has, bounded, images, products, union, from_to, IsSet, is_set}
 
 -- the word stands for the number
 abbrev pub Stands : Option (List ℕ) → ℕ → Type 0
 Stands None n = ⊤
 Stands (Some s) n = IsAmong n s
 
+-- the word is one of w bits
 abbrev pub Fits : ℕ → ℕ → Option (List ℕ) → Type 0
 Fits K w None = ⊤
 Fits K w (Some s) = IsSet K w s
+
+-- whether it is one
+abbrev pub fits_word : ℕ → ℕ → Option (List ℕ) → Bool
+fits_word K w None = true
+fits_word K w (Some s) = is_set K w s
 
 -- some pair of numbers passes the test
 abbrev pub some_pair : (ℕ → ℕ → Bool) → List ℕ → List ℕ → Bool
@@ -69,6 +75,7 @@ abbrev pub words : ℕ → Words (Option (List ℕ)) (Unit {0})
 words K = record {
   describes = λ world w n x. Stands x n × (n < 2 ^ w);
   fits = λ c w x. Fits K w x;
+  fits_test = λ c w x. fits_word K w x;
   looks = false;
   constant = λ c w v. bounded K (v ∷ []);
   any = λ c w. None;

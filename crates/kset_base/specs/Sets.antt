@@ -1,7 +1,7 @@
 -- Sets of at most K numbers, or any. A set is the list of its numbers, ascending without doubles.
-use Rattle.std.specs.Prelude.{ℕ, ◌+◌, ◌-◌, ◌^◌, ◌<◌, ◌≤◌, Bool, List, [], ◌∷◌, map, length, Option, Some, None, ◌==◌, nat_lt, nat_le, if◌then◌else◌}
-use Rattle.std.specs.List.{list_any, flat_map, range_with_len}
-use Rattle.base_trait.specs.Lists.{Each, IsAscending}
+use Rattle.std.specs.Prelude.{ℕ, ◌+◌, ◌-◌, ◌^◌, ◌<◌, ◌≤◌, Bool, List, [], ◌∷◌, map, length, Option, Some, None, ◌&&◌, ◌==◌, nat_lt, nat_le, if◌then◌else◌}
+use Rattle.std.specs.List.{list_any, list_all, flat_map, range_with_len}
+use Rattle.base_trait.specs.Lists.{Each, IsAscending, ascends_from}
 
 -- the number in its place, once
 abbrev pub placed : ℕ → List ℕ → List ℕ
@@ -63,3 +63,7 @@ module _ (K : ℕ) where
     pub few : length s ≤ K
     pub ascending : IsAscending s
     pub below : Each (λ n. n < 2 ^ w) s
+
+  -- whether it is one
+  abbrev pub is_set : ℕ → List ℕ → Bool
+  is_set w s = nat_le 1 (length s) && (nat_le (length s) K && (ascends_from 0 s && list_all (λ n. nat_lt n (2 ^ w)) s))

@@ -1,5 +1,5 @@
 -- The laws of a pair follow from those of its parts.
-use Rattle.std.proofs.Common.{◌≡◌, ℕ, ◌+◌, ◌^◌, ◌<◌, ◌≤◌, Bool, true, false, List, [], ◌∷◌, ◌++◌, Option, Some, None, refl, sym, ap, ◌∙◌, subst, arith, IsTrue, IsSome, ◌↔◌, ◌⊎◌, inl, inr, cond}
+use Rattle.std.proofs.Common.{◌≡◌, ℕ, ◌+◌, ◌^◌, ◌<◌, ◌≤◌, Bool, true, false, List, [], ◌∷◌, ◌++◌, length, Option, Some, None, refl, sym, ap, ◌∙◌, subst, arith, IsTrue, IsSome, ◌↔◌, ◌⊎◌, inl, inr, cond}
 use Rattle.std.specs.Prelude.{◌&&◌, max, if◌then◌else◌}
 use Rattle.std.specs.List.{filter}
 use Rattle.word_ops.specs.declared.kinds.Cmp.{Cmp}
@@ -12,7 +12,7 @@ use Rattle.base_trait.specs.Uses.{AreCovering, Read, Seen, IsKey}
 use Rattle.base_trait.specs.Identity.{IsIdentity}
 use Rattle.base_trait.specs.declared.tri.Tri.{Tri}
 use Rattle.base_trait.specs.declared.uses.Stamped.{Stamped}
-use Rattle.base_trait.proofs.Lists.{among_left, among_right, among_either, are_among_from, are_among_at, each_from, each_at, ascending_lower}
+use Rattle.base_trait.proofs.Lists.{among_left, among_right, among_either, are_among_from, are_among_at, each_from, each_at, ascending_lower, filter_shorter}
 use Rattle.base_trait.proofs.Tests.{or_sorted, neither, and_both, and_parts, not_both}
 use Rattle.paired_base.specs.Meaning.{both_allow, first_of, shared_members, paired_words, paired_notes, paired}
 
@@ -94,6 +94,11 @@ module _ {V W C D : Type 0} (p q : Bool) (A : Words V C) (B : Words W D) (a : Wo
   paired_word_laws = record {
     described_fits = λ world w n x h. a.described_fits world w n x.0 h.0;
     unseen = λ world other w n x e h. let k = neither A.looks B.looks e in (a.unseen world other w n x.0 k.0 h.0, b.unseen world other w n x.1 k.1 h.1);
+    fits_told = λ c w x.
+        let left = a.fits_told c.0 w x.0 in let right = b.fits_told c.1 w x.1 in (
+          λ h. let k = and_parts _ _ h in (left.0 k.0, right.0 k.1),
+          λ h. and_both _ _ (left.1 h.0) (right.1 h.1),
+        );
     constant_sound = λ c world w n width h. (a.constant_sound c.0 world w n width h, b.constant_sound c.1 world w n width h);
     any_sound = λ c world w n width joins h. let j = and_parts p q joins in (a.any_sound c.0 world w n width j.0 h, b.any_sound c.1 world w n width j.1 h);
     range_sound = λ c world w low high n width joins h k l. let j = and_parts p q joins in (a.range_sound c.0 world w low high n width j.0 h k l, b.range_sound c.1 world w low high n width j.1 h k l);
@@ -121,6 +126,9 @@ module _ {V W C D : Type 0} (p q : Bool) (A : Words V C) (B : Words W D) (a : Wo
         let l = filter_only (A.may c.0 w x.0) n ys k in
         let f = each_at (λ n. (n < 2 ^ w) × IsTrue (B.may c.1 w x.1 n)) ys n (b.members_fit c.1 w limit ys x.1 width fx.1 d) l.0 in
         (f.0, and_both _ _ l.1 f.1)));
+    members_few = λ c w limit ns x width fx e. shared_are (λ l. length l ≤ limit) (A.members c.0 w x.0 limit) (B.members c.1 w x.1 limit) (A.may c.0 w x.0) (B.may c.1 w x.1) ns e
+        (λ xs d. let few = a.members_few c.0 w limit xs x.0 width fx.0 d in let less = filter_shorter (B.may c.1 w x.1) xs in omega (arith, few, less))
+        (λ ys d. let few = b.members_few c.1 w limit ys x.1 width fx.1 d in let less = filter_shorter (A.may c.0 w x.0) ys in omega (arith, few, less));
     members_none = λ c w limit x width fx.
         let both = shared_none (A.members c.0 w x.0 limit) (B.members c.1 w x.1 limit) (A.may c.0 w x.0) (B.may c.1 w x.1) in
         let left = a.members_none c.0 w limit x.0 width fx.0 in
@@ -262,6 +270,7 @@ module _ {M N : Type 0} (p q : Bool) (A : Notes M) (B : Notes N) (a : NoteLaws M
         (λ d. ap (B.rank stamps) (b.widen_keeps old.1 new.1 j.1 d));
     rank_height = λ stamps x. let k = a.rank_height stamps x.0 in let l = b.rank_height stamps x.1 in omega (arith, k, l);
     reads_cover = λ m key k s x e h d. covered m key k s x h d (or_sorted A.stamped B.stamped e);
+    reads_name = λ m key x. each_both (λ u. (u.of_map ≡ m) × (u.key ≡ key)) (A.reads m key x.0) (B.reads m key x.1) (a.reads_name m key x.0) (b.reads_name m key x.1);
     reads_nothing = λ m key x e. let k = neither A.stamped B.stamped e in both_empty (A.reads m key x.0) (B.reads m key x.1) (a.reads_nothing m key x.0 k.0) (b.reads_nothing m key x.1 k.1);
     entry_lists = both_within (A.listed A.entry) (B.listed B.entry) _ a.entry_lists b.entry_lists;
     at_lists = λ at. both_within (A.listed (A.at at)) (B.listed (B.at at)) _ (a.at_lists at) (b.at_lists at);

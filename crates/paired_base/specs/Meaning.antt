@@ -24,6 +24,7 @@ module _ {V W C D : Type 0} (A : Words V C) (B : Words W D) where
   paired_words = record {
     describes = λ world w n x. A.describes world w n x.0 × B.describes world w n x.1;
     fits = λ c w x. A.fits c.0 w x.0 × B.fits c.1 w x.1;
+    fits_test = λ c w x. A.fits_test c.0 w x.0 && B.fits_test c.1 w x.1;
     looks = A.looks || B.looks;
     constant = λ c w v. (A.constant c.0 w v, B.constant c.1 w v);
     any = λ c w. (A.any c.0 w, B.any c.1 w);
