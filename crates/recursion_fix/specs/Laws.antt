@@ -1,12 +1,16 @@
 -- What holds of every driver.
-use Rattle.std.specs.Prelude.{◌≡◌, ◌≢◌, ◌↔◌, ℕ, ◌+◌, List, [], ◌∷◌, Option, IsTrue, IfSome}
+use Rattle.std.specs.Prelude.{◌≡◌, ◌≢◌, ◌↔◌, ℕ, ◌+◌, List, [], ◌∷◌, All, Contains, Option, Some, IsTrue, IfSome, IsSomeAnd}
 use Rattle.recursion_fix.specs.declared.asked.Asked.{Asked}
-use Rattle.recursion_fix.specs.declared.asked.Asked.TheVariants.{Turn}
+use Rattle.recursion_fix.specs.declared.asked.Asked.TheVariants.{Turn, Out}
 use Rattle.recursion_fix.specs.declared.policy.Policy.{Policy}
+use Rattle.recursion_fix.specs.declared.policy.Policy.TheVariants.{Widen}
+use Rattle.recursion_fix.specs.Absorbing.{Absorbing, AbsorbingUnder, AbsorptionOrders}
 use Rattle.recursion_fix.specs.Activation.{Activation, Answers, HasTurn, start}
+use Rattle.recursion_fix.specs.Leaves.{IsPart}
 use Rattle.recursion_fix.specs.Meaning.{Meaning, KeepsFit}
 use Rattle.recursion_fix.specs.Measure.{LowersRankUnder}
 use Rattle.recursion_fix.specs.Rule.{Evaluated, IsActivation}
+use Rattle.recursion_fix.specs.Turns.{AreMet, LastAbsorbs, NextFits, OutFits}
 
 -- A driver that stands so asks for these turns one after another, each on its arguments, is given
 -- what they gave, and has this answer to the last of them.
@@ -53,3 +57,26 @@ ActivationsAreSettled A O =
     → HasTurn policy → Gave out next 1 turns → Gave out next 1 others
     → IsActivation m policy args turns answer → IsActivation m policy args others other
     → (turns ≡ others) × (answer ≡ other)
+
+-- Under `Widen` the last turn is on arguments that absorb each turn past the first `unroll`.
+abbrev pub LastArgumentsAbsorb : (A O : Type 0) → Type 0
+LastArgumentsAbsorb A O =
+    (m : Meaning A O) (unroll delay : ℕ) (args : A) (turns : List (Evaluated A O)) (answer : Asked O)
+    → KeepsFit m → Absorbing m → AbsorptionOrders m → IsTrue (m.fits_args args) → All (NextFits m) turns
+    → IsActivation m (Widen unroll delay) args turns answer → LastAbsorbs m unroll turns
+
+-- In an activation that ends with `Out`, its arguments are met, and so are those that any turn asks for.
+abbrev pub ArgumentsAreMet : (A O : Type 0) → Type 0
+ArgumentsAreMet A O =
+    (m : Meaning A O) (policy : Policy) (args : A) (turns : List (Evaluated A O)) (leaves : Option O)
+    → KeepsFit m → AbsorbingUnder m policy → IsTrue (m.fits_args args) → All (NextFits m) turns
+    → IsActivation m policy args turns (Out leaves)
+    → AreMet m turns args
+    × ((turn : Evaluated A O) (next : A) → Contains turns turn → turn.next ≡ Some next → AreMet m turns next)
+
+-- In an activation that ends with `Out`, the leaves of each turn are part of its leaves.
+abbrev pub LeavesArePart : (A O : Type 0) → Type 0
+LeavesArePart A O =
+    (m : Meaning A O) (policy : Policy) (args : A) (turns : List (Evaluated A O)) (leaves : Option O)
+    → KeepsFit m → All (OutFits m) turns → IsActivation m policy args turns (Out leaves)
+    → (turn : Evaluated A O) (x : O) → Contains turns turn → turn.out ≡ Some x → IsSomeAnd leaves (IsPart m x)

@@ -1,5 +1,5 @@
 -- The joins of leaves.
-use Rattle.std.specs.Prelude.{List, Option, None, Some, fold}
+use Rattle.std.specs.Prelude.{List, Option, None, Some, IsTrue, fold}
 use Rattle.recursion_fix.specs.Meaning.{Meaning}
 
 -- the join of leaves, either of which may be missing
@@ -11,3 +11,9 @@ join_leaves m (Some x) (Some y) = Some (m.join_out x y)
 -- the join of the leaves of turns, in their order
 abbrev pub all_leaves : {A O : Type 0} → Meaning A O → List (Option O) → Option O
 all_leaves m outs = fold (join_leaves m) None outs
+
+-- A result is part of itself, and of each join of two results that fit where it is part of one of them.
+pub data IsPart {A O : Type 0} (m : Meaning A O) (x : O) : O → Type 0 where
+  itself : IsPart m x x
+  left : (y z : O) → IsTrue (m.fits_out y) → IsTrue (m.fits_out z) → IsPart m x y → IsPart m x (m.join_out y z)
+  right : (y z : O) → IsTrue (m.fits_out y) → IsTrue (m.fits_out z) → IsPart m x z → IsPart m x (m.join_out y z)

@@ -1,6 +1,6 @@
 //! What holds of every driver.
 
-ghost use Rattle.recursion_fix.specs.Laws.{ActivationsAreSettled, DriversEnd, DriversFollowTheRule};
+ghost use Rattle.recursion_fix.specs.Laws.{ActivationsAreSettled, ArgumentsAreMet, DriversEnd, DriversFollowTheRule, LastArgumentsAbsorb, LeavesArePart};
 
 use crate::Turn;
 
@@ -20,4 +20,25 @@ pub fn drivers_end<T: Turn>()
 /// The rule has at most one list of turns, and one answer, for what turns give.
 pub fn activations_are_settled<T: Turn>()
     ensures { ActivationsAreSettled T.Args T.Out }
+{}
+
+/// Under `Widen` the arguments of the last turn absorb those of each turn past the first `unroll`, and
+/// those that each such turn asks for. Joins and widenings of arguments that fit are to absorb both,
+/// and absorption is to be reflexive and transitive.
+pub fn last_arguments_absorb<T: Turn>()
+    ensures { LastArgumentsAbsorb T.Args T.Out }
+{}
+
+/// Where an activation ends with `Out`, a turn is on its arguments, and whatever a turn asks for, some
+/// turn is on that or on what absorbs it. Under `Widen` joins and widenings of arguments that fit are
+/// to absorb both.
+pub fn arguments_are_met<T: Turn>()
+    ensures { ArgumentsAreMet T.Args T.Out }
+{}
+
+/// Where an activation ends with `Out`, the leaves of each turn are part of its leaves. So what holds
+/// of a turn's leaves, and of a join wherever it holds of one side, holds of them: the lemma
+/// `leaves_hold` of `proofs/Parts.antt`.
+pub fn leaves_are_part<T: Turn>()
+    ensures { LeavesArePart T.Args T.Out }
 {}

@@ -1,7 +1,8 @@
 ghost use Rattle.recursion_fix.specs.Activation.{HasTurn};
 
 use crate::{
-    Asked, Driver, Policy, Turn, activations_are_settled, drivers_end, drivers_follow_the_rule,
+    Asked, Driver, Policy, Turn, activations_are_settled, arguments_are_met, drivers_end,
+    drivers_follow_the_rule, last_arguments_absorb, leaves_are_part,
 };
 use std::alloc::{AllocError, Global};
 use std::process::Abort;
@@ -340,4 +341,7 @@ fn has_laws() {
     drivers_follow_the_rule::<Intervals>();
     drivers_end::<Intervals>();
     activations_are_settled::<Intervals>();
+    last_arguments_absorb::<Intervals>();
+    arguments_are_met::<Intervals>();
+    leaves_are_part::<Intervals>();
 }

@@ -1,0 +1,5 @@
+use Rattle.recursion_fix.proofs.Absorbed.{arguments_are_met}
+use Rattle.recursion_fix.proofs.laws.arguments_are_met.Goals as goal
+
+pub returns : goal.returns
+returns g c = arguments_are_met

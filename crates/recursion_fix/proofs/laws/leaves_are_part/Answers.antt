@@ -1,0 +1,5 @@
+use Rattle.recursion_fix.proofs.Parts.{leaves_are_part}
+use Rattle.recursion_fix.proofs.laws.leaves_are_part.Goals as goal
+
+pub returns : goal.returns
+returns g c = leaves_are_part

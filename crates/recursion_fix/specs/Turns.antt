@@ -1,0 +1,37 @@
+-- What is said of the turns of an activation.
+use Rattle.std.specs.Prelude.{◌≡◌, ◌⊎◌, ℕ, zero, suc, ◌<◌, List, Option, None, Some, Contains, slice_get, IsTrue, IfSome}
+use Rattle.std.specs.List.{last_or}
+use Rattle.recursion_fix.specs.Meaning.{Meaning}
+use Rattle.recursion_fix.specs.Rule.{Evaluated}
+
+-- the turn of a number, if there is one: the first is turn number 1
+abbrev pub turn_at : {A O : Type 0} → List (Evaluated A O) → ℕ → Option (Evaluated A O)
+turn_at turns zero = None
+turn_at turns (suc before) = slice_get turns before
+
+-- The arguments that a turn asks for fit.
+abbrev pub NextFits : {A O : Type 0} → Meaning A O → Evaluated A O → Type 0
+NextFits m turn = IfSome turn.next (λ next. IsTrue (m.fits_args next))
+
+-- The leaves of a turn fit.
+abbrev pub OutFits : {A O : Type 0} → Meaning A O → Evaluated A O → Type 0
+OutFits m turn = IfSome turn.out (λ x. IsTrue (m.fits_out x))
+
+-- Arguments absorb those of a turn, and those that the turn asks for.
+abbrev pub AbsorbsTurn : {A O : Type 0} → Meaning A O → A → Evaluated A O → Type 0
+AbsorbsTurn m args turn = IsTrue (m.absorbs args turn.args) × IfSome turn.next (λ next. IsTrue (m.absorbs args next))
+
+-- The arguments of the last turn fit, and absorb that turn and each one past the first `unroll`.
+pub record LastAbsorbs {A O : Type 0} (m : Meaning A O) (unroll : ℕ) (turns : List (Evaluated A O)) : Type 0 where
+  pub last : Evaluated A O
+  pub is_last : last_or None turns ≡ Some last
+  pub fits : IsTrue (m.fits_args last.args)
+  pub itself : AbsorbsTurn m last.args last
+  pub past : (number : ℕ) (turn : Evaluated A O) → unroll < number → turn_at turns number ≡ Some turn → AbsorbsTurn m last.args turn
+
+-- The arguments of one of the turns fit, and are these or absorb them.
+pub record AreMet {A O : Type 0} (m : Meaning A O) (turns : List (Evaluated A O)) (args : A) : Type 0 where
+  pub turn : Evaluated A O
+  pub is_one : Contains turns turn
+  pub fits : IsTrue (m.fits_args turn.args)
+  pub meets : (turn.args ≡ args) ⊎ IsTrue (m.absorbs turn.args args)
