@@ -50,7 +50,7 @@ pub fn compile(
 {
     let left = candidates(alloc, rows)?;
     let decision = decide(alloc, sig, left, Known::Unknown(shape))?;
-    match first_unnamed(&decision, rows.len() as u32) {
+    match first_unnamed(alloc, &decision, rows.len() as u32)? {
         Some(row) => Err(MatchError::Useless { row }),
         None => Ok(decision),
     }

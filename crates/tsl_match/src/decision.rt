@@ -7,7 +7,7 @@ pub struct Path {
 }
 
 /// A match as tests, one after another.
-#[derive(Debug, Drop)]
+#[derive(Debug)]
 pub enum Decision {
     /// This row is chosen, from 0; each of its variables names the value at a place.
     Row {
@@ -32,4 +32,33 @@ pub enum Decision {
         yes: Box<Decision>,
         no: Box<Decision>,
     },
+}
+
+/// Goes on in a loop where an answer is no, so that many literals take no stack.
+impl Drop for Decision {
+    fn drop(mut self) {
+        loop {
+            match self {
+                Decision::Row {
+                    row: _row,
+                    binds: _binds,
+                } => return,
+                Decision::OnCase {
+                    at: _at,
+                    arms: _arms,
+                } => return,
+                Decision::OnWord {
+                    at: _at,
+                    value: _value,
+                    yes: _yes,
+                    no,
+                } => self = Box::into_inner(no),
+                Decision::OnFlag {
+                    at: _at,
+                    yes: _yes,
+                    no,
+                } => self = Box::into_inner(no),
+            }
+        }
+    }
 }

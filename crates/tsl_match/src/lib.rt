@@ -66,15 +66,16 @@
 //!
 //! Each test goes once through the rows that are left, for each of its answers. A row's literal at
 //! the tested place is compared with the tested number alone, and one at another place with each
-//! number that was tested there. So n rows of one literal each take time in n²: to find a useless
-//! row, too, the tree is gone through once for each row.
+//! number that was tested there. So n rows of one literal each take time in n²: at each literal the
+//! rows that are left are gone through, and the numbers tested before it are copied. One walk over the
+//! tree, which marks the row of each leaf, finds the first useless row.
 //!
-//! Where the test of a word is answered no, the compilation goes on in a loop. It calls itself where
-//! the answer is yes and for each answer of the other tests, all of which settle their position for
-//! every row. So its recursion is no deeper than there are different positions at which some row has
-//! a constructor, a truth value or a literal, and many literals at one position add nothing. The
-//! search for useless rows and the drop of a tree go down the tree by calls, also where the answer
-//! is no.
+//! Where the test of a word is answered no, the compilation, that walk and the drop of a tree go on
+//! in a loop. They call themselves for the answer yes and at the other tests, all of which settle
+//! their position for every row. So their recursion is no deeper than there are different positions
+//! at which some row has a constructor, a truth value or a literal, and many literals at one position
+//! add nothing. The rest calls itself along the nesting of patterns alone, but for the derived
+//! `Debug` of a tree, which goes down by calls also where the answer is no.
 //!
 //! # Sources
 //!

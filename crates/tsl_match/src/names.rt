@@ -1,55 +1,71 @@
 //! Which rows a decision may choose.
 
-ghost use Rattle.std.specs.Prelude.{◌≡◌, ℕ, ◌<◌, true, false, map, MatchOption};
+ghost use Rattle.std.specs.Prelude.{◌≡◌, ℕ, ◌<◌, ◌==◌, ◌||◌, true, false, map, length, slice_index_or, IfOk, MatchOption};
 ghost use Rattle.tsl_match.specs.Trees.{trees};
 ghost use Rattle.tsl_match.specs.Useless.{names, some_names};
 ghost use Rattle.tsl_match.specs.Views.{tree};
 
 use crate::decision::Decision;
+use std::alloc::{AllocError, Global};
 
-/// Whether a decision may choose a row.
-#[cycle(may_choose)]
-fn may_choose(decision: &Decision, row: u32) -> bool
-    ensures { result ≡ names (tree decision.now) row }
+/// Marks a row, where it has a mark.
+fn mark(row: u32, marks: &mut [bool])
+    ensures { (r : ℕ) → r < length marks.old
+        → slice_index_or marks.new r false ≡ (slice_index_or marks.old r false || row == r) }
 {
-    match decision {
-        Decision::Row {
-            row: chosen,
-            binds: _binds,
-        } => *chosen == row,
-        Decision::OnCase { at: _at, arms } => some_may_choose(arms, row),
-        Decision::OnWord {
-            at: _at,
-            value: _value,
-            yes,
-            no,
-        } => may_choose(yes, row) || may_choose(no, row),
-        Decision::OnFlag { at: _at, yes, no } => may_choose(yes, row) || may_choose(no, row),
+    let row = row as usize;
+    if row < marks.len() {
+        marks[row] = true;
     }
 }
 
-#[cycle(may_choose)]
-fn some_may_choose(arms: &[Decision], row: u32) -> bool
-    ensures { result ≡ some_names (trees (map tree arms.now)) row }
+/// Marks each row that a decision may choose, where it has a mark.
+///
+/// It goes on in a loop where an answer is no, and calls itself for the others.
+#[cycle(mark_named)]
+fn mark_named(decision: &Decision, marks: &mut [bool])
+    ensures { (r : ℕ) → r < length marks.old
+        → slice_index_or marks.new r false ≡ (slice_index_or marks.old r false || names (tree decision.now) r) }
 {
-    for arm in arms {
-        if may_choose(arm, row) {
-            return true;
+    let mut rest = decision;
+    loop {
+        match rest {
+            Decision::Row { row, .. } => return mark(*row, marks),
+            Decision::OnCase { arms, .. } => return mark_some_named(arms, marks),
+            Decision::OnWord { yes, no, .. } | Decision::OnFlag { yes, no, .. } => {
+                mark_named(yes, marks);
+                rest = no;
+            }
         }
     }
-    false
+}
+
+#[cycle(mark_named)]
+fn mark_some_named(arms: &[Decision], marks: &mut [bool])
+    ensures { (r : ℕ) → r < length marks.old
+        → slice_index_or marks.new r false ≡ (slice_index_or marks.old r false || some_names (trees (map tree arms.now)) r) }
+{
+    for arm in arms {
+        mark_named(arm, marks);
+    }
 }
 
 /// The first row below `count` that a decision can't choose.
-pub fn first_unnamed(decision: &Decision, count: u32) -> Option<u32>
-    ensures { MatchOption result
+pub fn first_unnamed(
+    alloc: Global,
+    decision: &Decision,
+    count: u32,
+) -> Result<Option<u32>, AllocError>
+    ensures { IfOk result (λ first. MatchOption first
         ((r : ℕ) → r < count → names (tree decision.now) r ≡ true)
-        (λ row. (row < count) × (names (tree decision.now) row ≡ false) × ((r : ℕ) → r < row → names (tree decision.now) r ≡ true)) }
+        (λ row. (row < count) × (names (tree decision.now) row ≡ false) × ((r : ℕ) → r < row → names (tree decision.now) r ≡ true))) }
 {
+    let mut marks = vec![in alloc; false; count as usize]?;
+    mark_named(decision, &mut marks);
     for row in 0..count {
-        if !may_choose(decision, row) {
-            return Some(row);
+        if !marks[row as usize] {
+            return Ok(Some(row));
         }
     }
-    None
+    Ok(None)
 }

@@ -39,7 +39,7 @@ returns-in-Some-clause-refusal c =
     let rows : map candidate c.in_ok-left.left.items ≡ numbered 0 (map pat c.args.rows.now) = search rules in
     let here : IsTree (types c.args.sig.now) (map candidate c.in_ok-left.left.items) (knowledge (Unknown c.args.shape)) (tree c.in_ok-decision.decision) = c.in_ok-decision.ensures in
     rw (known_Unknown c.args.shape) at (rw rows at here) in
-    let h = c.in-Some.ensures in (
+    let h = rw c.in-Some.is at c.in_ok-row.ensures in (
       exhaustive (types c.args.sig.now) c.requires.types c.args.shape c.requires.shape (map pat c.args.rows.now) suit (tree c.in_ok-decision.decision) is,
       rw length-map h.0,
       no_use (types c.args.sig.now) c.requires.types c.args.shape c.requires.shape (map pat c.args.rows.now) suit (tree c.in_ok-decision.decision) c.in-Some.row is h.1,
@@ -71,5 +71,5 @@ returns-in-None-clause-of_use c =
     let rows : map candidate c.in_ok-left.left.items ≡ numbered 0 (map pat c.args.rows.now) = search rules in
     let here : IsTree (types c.args.sig.now) (map candidate c.in_ok-left.left.items) (knowledge (Unknown c.args.shape)) (tree c.in_ok-decision.decision) = c.in_ok-decision.ensures in
     rw (known_Unknown c.args.shape) at (rw rows at here) in
-    let h = c.in-None.ensures in
+    let h = rw c.in-None.is at c.in_ok-row.ensures in
     λ r l. of_use (types c.args.sig.now) c.requires.types c.args.shape c.requires.shape (map pat c.args.rows.now) suit (tree c.in_ok-decision.decision) r is (h r l)
