@@ -10,7 +10,7 @@ use Rattle.recursion_fix.specs.Leaves.{IsPart}
 use Rattle.recursion_fix.specs.Meaning.{Meaning, KeepsFit}
 use Rattle.recursion_fix.specs.Measure.{LowersRankUnder}
 use Rattle.recursion_fix.specs.Rule.{Evaluated, IsActivation}
-use Rattle.recursion_fix.specs.Turns.{AreMet, LastAbsorbs, NextFits, OutFits}
+use Rattle.recursion_fix.specs.Turns.{AreInOrder, AreMet, LastAbsorbs, NextFits, OutFits}
 
 -- A driver that stands so asks for these turns one after another, each on its arguments, is given
 -- what they gave, and has this answer to the last of them.
@@ -57,6 +57,12 @@ ActivationsAreSettled A O =
     → HasTurn policy → Gave out next 1 turns → Gave out next 1 others
     → IsActivation m policy args turns answer → IsActivation m policy args others other
     → (turns ≡ others) × (answer ≡ other)
+
+-- The turns of an activation go on by the rule from number to number.
+abbrev pub TurnsAreInOrder : (A O : Type 0) → Type 0
+TurnsAreInOrder A O =
+    (m : Meaning A O) (policy : Policy) (args : A) (turns : List (Evaluated A O)) (answer : Asked O)
+    → IsActivation m policy args turns answer → AreInOrder m policy args turns answer
 
 -- Under `Widen` the last turn is on arguments that absorb each turn past the first `unroll`.
 abbrev pub LastArgumentsAbsorb : (A O : Type 0) → Type 0

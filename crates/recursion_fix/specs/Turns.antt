@@ -1,13 +1,24 @@
 -- What is said of the turns of an activation.
-use Rattle.std.specs.Prelude.{◌≡◌, ◌⊎◌, ℕ, zero, suc, ◌<◌, List, Option, None, Some, Contains, slice_get, IsTrue, IfSome}
+use Rattle.std.specs.Prelude.{◌≡◌, ◌⊎◌, ℕ, zero, suc, ◌+◌, ◌<◌, List, map, Option, None, Some, Contains, slice_get, IsTrue, IfSome, IsSomeAnd}
 use Rattle.std.specs.List.{last_or}
+use Rattle.recursion_fix.specs.declared.asked.Asked.{Asked}
+use Rattle.recursion_fix.specs.declared.policy.Policy.{Policy}
+use Rattle.recursion_fix.specs.Leaves.{all_leaves}
 use Rattle.recursion_fix.specs.Meaning.{Meaning}
-use Rattle.recursion_fix.specs.Rule.{Evaluated}
+use Rattle.recursion_fix.specs.Rule.{Ends, Evaluated, Follows}
 
 -- the turn of a number, if there is one: the first is turn number 1
 abbrev pub turn_at : {A O : Type 0} → List (Evaluated A O) → ℕ → Option (Evaluated A O)
 turn_at turns zero = None
 turn_at turns (suc before) = slice_get turns before
+
+-- The first turn is on the arguments, each other follows the turn before it, and the last ends the activation.
+pub record AreInOrder {A O : Type 0} (m : Meaning A O) (policy : Policy) (args : A) (turns : List (Evaluated A O)) (answer : Asked O) : Type 0 where
+  pub first : IsSomeAnd (turn_at turns 1) (λ turn. turn.args ≡ args)
+  pub follows : (number : ℕ) (turn later : Evaluated A O) → turn_at turns number ≡ Some turn → turn_at turns (number + 1) ≡ Some later
+      → IsSomeAnd turn.next (λ next. Follows m policy number turn.args next later.args)
+  pub ends : (number : ℕ) (turn : Evaluated A O) → turn_at turns number ≡ Some turn → turn_at turns (number + 1) ≡ None
+      → Ends m policy number turn.args turn.next (all_leaves m (map (λ turn. turn.out) turns)) answer
 
 -- The arguments that a turn asks for fit.
 abbrev pub NextFits : {A O : Type 0} → Meaning A O → Evaluated A O → Type 0

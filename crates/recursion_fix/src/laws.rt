@@ -1,6 +1,6 @@
 //! What holds of every driver.
 
-ghost use Rattle.recursion_fix.specs.Laws.{ActivationsAreSettled, ArgumentsAreMet, DriversEnd, DriversFollowTheRule, LastArgumentsAbsorb, LeavesArePart};
+ghost use Rattle.recursion_fix.specs.Laws.{ActivationsAreSettled, ArgumentsAreMet, DriversEnd, DriversFollowTheRule, LastArgumentsAbsorb, LeavesArePart, TurnsAreInOrder};
 
 use crate::Turn;
 
@@ -22,6 +22,12 @@ pub fn activations_are_settled<T: Turn>()
     ensures { ActivationsAreSettled T.Args T.Out }
 {}
 
+/// The turns of an activation by their numbers: the first is on its arguments, each other follows the one
+/// before it, and the last ends it.
+pub fn turns_are_in_order<T: Turn>()
+    ensures { TurnsAreInOrder T.Args T.Out }
+{}
+
 /// Under `Widen` the arguments of the last turn absorb those of each turn past the first `unroll`, and
 /// those that each such turn asks for. Joins and widenings of arguments that fit are to absorb both,
 /// and absorption is to be reflexive and transitive.
@@ -38,7 +44,8 @@ pub fn arguments_are_met<T: Turn>()
 
 /// Where an activation ends with `Out`, the leaves of each turn are part of its leaves. So what holds
 /// of a turn's leaves, and of a join wherever it holds of one side, holds of them: the lemma
-/// `leaves_hold` of `proofs/Parts.antt`.
+/// `leaves_hold` of `proofs/Parts.antt`. Where a join is its first side alone, as of single numbers, this
+/// says little: there only the last turn has leaves.
 pub fn leaves_are_part<T: Turn>()
     ensures { LeavesArePart T.Args T.Out }
 {}

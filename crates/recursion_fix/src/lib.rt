@@ -70,12 +70,14 @@
 //! the rule has them. The law `drivers_end` says that there is such a list whatever turns give, and
 //! `activations_are_settled` that there is no other.
 //!
-//! Three more laws are for proofs that the result of an activation describes whatever its turns
-//! stand for. `last_arguments_absorb` says that under `Widen` the arguments of the last turn absorb
-//! those of each turn past the first `unroll`. `arguments_are_met` says that whatever a turn asks for,
-//! some turn of an activation that is not too deep is on that or on what absorbs it.
-//! `leaves_are_part` says that the leaves of each such turn are part of the result. The first two ask
-//! that joins and widenings absorb both of what they are made of, the second only under `Widen`.
+//! Four more laws are for proofs that the result of an activation describes whatever its turns
+//! stand for. `turns_are_in_order` says the rule by the numbers of turns. `last_arguments_absorb`
+//! says that under `Widen` the arguments of the last turn absorb those of each turn past the first
+//! `unroll`. `arguments_are_met` says that whatever a turn asks for, some turn of an activation that is
+//! not too deep is on that or on what absorbs it. `leaves_are_part` says that the leaves of each such
+//! turn are part of the result. Two of them ask that joins and widenings absorb both of what they are
+//! made of, `arguments_are_met` only under `Widen`; `last_arguments_absorb` also asks that absorption
+//! is reflexive and transitive. The tests have turns of which all this holds.
 //!
 //! After `AllocError` of `give` nothing is said of the driver, and a body that answers nothing but
 //! this error is not refused by any contract: the tests call each function with ample memory.
@@ -93,7 +95,7 @@ pub use asked::Asked;
 pub use driver::Driver;
 pub use laws::{
     activations_are_settled, arguments_are_met, drivers_end, drivers_follow_the_rule,
-    last_arguments_absorb, leaves_are_part,
+    last_arguments_absorb, leaves_are_part, turns_are_in_order,
 };
 pub use policy::Policy;
 pub use turn::Turn;

@@ -1,8 +1,11 @@
+ghost use Rattle.std.specs.Prelude.{◌≤◌, IfSome, IsTrue};
+ghost use Rattle.recursion_fix.specs.Absorbing.{Absorbing, AbsorptionOrders};
 ghost use Rattle.recursion_fix.specs.Activation.{HasTurn};
+ghost use Rattle.recursion_fix.specs.Meaning.{WideningLowersRank};
 
 use crate::{
     Asked, Driver, Policy, Turn, activations_are_settled, arguments_are_met, drivers_end,
-    drivers_follow_the_rule, last_arguments_absorb, leaves_are_part,
+    drivers_follow_the_rule, last_arguments_absorb, leaves_are_part, turns_are_in_order,
 };
 use std::alloc::{AllocError, Global};
 use std::process::Abort;
@@ -23,6 +26,8 @@ struct Interval {
 struct Intervals;
 
 impl Turn for Intervals {
+    ghost use Rattle.std.proofs.Common.{arith};
+    ghost use Rattle.std.proofs.lemmas.Bool.Decides.{nat_tests};
     ghost use Rattle.std.specs.Prelude.{true, refl, min, max, nat_le, nat_lt, ◌&&◌, ◌==◌, ◌+◌, if◌then◌else◌};
 
     type Args = Interval;
@@ -30,7 +35,7 @@ impl Turn for Intervals {
     type Out = Interval;
 
     ghost meaning = { λ _. record {
-      fits_args = λ _. true;
+      fits_args = λ x. nat_le x.high 99;
       fits_out = λ _. true;
       join_out = λ x y. record { low = min x.low y.low; high = max x.high y.high };
       join_args = λ x y. record { low = min x.low y.low; high = max x.high y.high };
@@ -85,8 +90,8 @@ impl Turn for Intervals {
 
     ghost keeps_fit = { λ _. record {
       join_out = λ _ _ _ _. refl;
-      join_args = λ _ _ _ _. refl;
-      widen_args = λ _ _ _ _. refl;
+      join_args = λ x y p q. Prim.grind (arith, nat_tests);
+      widen_args = λ x y p q. Prim.grind (arith, nat_tests);
     } };
 }
 
@@ -113,6 +118,16 @@ fn out(low: u32, high: u32) -> Asked<Interval> {
     Asked::Out(Some(from_to(low, high)))
 }
 
+/// Whether the numbers are at most the last one.
+fn is_within(x: &Option<Interval>) -> bool
+    ensures { IsTrue result → IfSome x.now (λ x. x.high ≤ 99) }
+{
+    match x {
+        Some(x) => x.high <= TOP,
+        None => true,
+    }
+}
+
 /// Gives a driver what its turns give, and compares the arguments on which it asks for turns, and
 /// its answer: `Turn` where it asks for more turns than are given.
 fn check(
@@ -126,10 +141,12 @@ fn check(
 ) -> Result<(), AllocError>
     requires { HasTurn policy }
 {
+    assert!(rt; args.high <= TOP);
     let mut driver: Driver<Intervals> = Driver::new(args, policy);
     let mut asked_on = Vec::new(alloc);
     let mut answered = Asked::Turn;
     for (out, next) in given {
+        assert!(rt; is_within(next));
         asked_on.push(*driver.args())?;
         match driver.give(alloc, &mut Intervals, *out, *next)? {
             Asked::Turn => {}
@@ -336,11 +353,20 @@ fn joins_the_leaves_of_all_turns(rt: HostRuntime) -> Result<(), Fail> {
     Ok(())
 }
 
+/// What the laws ask of turns holds of these.
+fn intervals_absorb(turns: &Intervals)
+    ensures absorbing { Absorbing (⟦<Intervals as Turn>⟧.meaning turns.now) }
+    ensures orders { AbsorptionOrders (⟦<Intervals as Turn>⟧.meaning turns.now) }
+    ensures falls { WideningLowersRank (⟦<Intervals as Turn>⟧.meaning turns.now) }
+{}
+
 #[test]
 fn has_laws() {
+    intervals_absorb(&Intervals);
     drivers_follow_the_rule::<Intervals>();
     drivers_end::<Intervals>();
     activations_are_settled::<Intervals>();
+    turns_are_in_order::<Intervals>();
     last_arguments_absorb::<Intervals>();
     arguments_are_met::<Intervals>();
     leaves_are_part::<Intervals>();
