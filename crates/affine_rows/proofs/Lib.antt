@@ -1,13 +1,16 @@
 pub mod Closure
 pub mod Dots
 pub mod Entries
+pub mod Equal
 pub mod Forgets
 pub mod Growth
 pub mod Images
 pub mod Kept
 pub mod Leads
+pub mod Least
 pub mod Members
 pub mod Places
+pub mod OneRank
 pub mod Powers
 pub mod Ranks
 pub mod Spans

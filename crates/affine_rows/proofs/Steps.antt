@@ -1,9 +1,8 @@
 -- The steps of an image.
-use Rattle.std.proofs.Common.{◌≡◌, ◌≢◌, ℕ, suc, ◌+◌, ◌<◌, List, [], ◌∷◌, ◌++◌, length, get_or, take, refl, ap, sym, ◌∙◌, subst, arith, Option, Some, None, option_map, slice_get, is_some, not, Bool, true, false}
-use Rattle.affine_rows.specs.declared.forms.Form.{Form}
+use Rattle.std.proofs.Common.{◌≡◌, ◌≢◌, ℕ, suc, ◌+◌, ◌<◌, List, [], ◌∷◌, ◌++◌, length, get_or, take, refl, ap, sym, ◌∙◌, subst, arith, Option, Some, None, slice_get, is_some, not, Bool, true, false}
 use Rattle.affine_rows.specs.Submodule.{Submodule, Adds, unit_row}
 use Rattle.affine_rows.specs.Reduction.{Span}
-use Rattle.affine_rows.specs.Forms.{numbers_of, HasEntry}
+use Rattle.affine_rows.specs.Forms.{HasEntry}
 use Rattle.affine_rows.specs.Values.{form_at, Images, Forgotten}
 use Rattle.affine_rows.proofs.Growth.{greatest}
 use Rattle.affine_rows.proofs.Images.{adds_to, adds_from, images_more, images_none, take_snoc}
@@ -34,26 +33,26 @@ values_step from into new fs i columns r out same item size first cells width ad
     (values_alike from.k fs r out size first cells)
     (added_down from.k into new (take (from.k + 1) out) same adds') (added_up from.k into new (take (from.k + 1) out) same adds'))
 
-no_form : (x : Option Form) (b : Bool) → is_some x ≡ not b → b ≡ true → option_map (λ (f : Form). f.c.items) x ≡ None
+no_form : (x : Option (List ℕ)) (b : Bool) → is_some x ≡ not b → b ≡ true → x ≡ None
 no_form None b e t = refl
 no_form (Some x) true e t = cc
 no_form (Some x) false e t = cc
 
-some_form : (x : Option Form) (b : Bool) → is_some x ≡ not b → b ≡ false → option_map (λ (f : Form). f.c.items) x ≢ None
+some_form : (x : Option (List ℕ)) (b : Bool) → is_some x ≡ not b → b ≡ false → x ≢ None
 some_form None true e t n = cc
 some_form None false e t n = cc
 some_form (Some x) b e t n = cc
 
 -- a cell with a form, and one with none
-pub forget_known : (k cell : ℕ) (fs : List (Option Form)) (x : Option Form) (b : Bool) (old rows : List (List ℕ)) → x ≡ get_or fs cell x → cell < length fs → is_some x ≡ not b → b ≡ false
-    → Forgotten (numbers_of fs) (k + 1) cell old rows → Forgotten (numbers_of fs) (k + 1) (cell + 1) old rows
+pub forget_known : (k cell : ℕ) (fs : List (Option (List ℕ))) (x : Option (List ℕ)) (b : Bool) (old rows : List (List ℕ)) → x ≡ get_or fs cell x → cell < length fs → is_some x ≡ not b → b ≡ false
+    → Forgotten fs (k + 1) cell old rows → Forgotten fs (k + 1) (cell + 1) old rows
 forget_known k cell fs x b old rows is lt e none f =
-    forgotten_known (numbers_of fs) (k + 1) cell old rows (λ n. some_form x b e none (sym (form_read fs cell x is lt) ∙ n)) f
+    forgotten_known fs (k + 1) cell old rows (λ n. some_form x b e none (sym (form_read fs cell x is lt) ∙ n)) f
 
-pub forget_more : (k cell : ℕ) (fs : List (Option Form)) (x : Option Form) (b : Bool) (old : List (List ℕ)) (s t : Submodule) → x ≡ get_or fs cell x → cell < length fs → length fs ≡ k
+pub forget_more : (k cell : ℕ) (fs : List (Option (List ℕ))) (x : Option (List ℕ)) (b : Bool) (old : List (List ℕ)) (s t : Submodule) → x ≡ get_or fs cell x → cell < length fs → length fs ≡ k
     → is_some x ≡ not b → b ≡ true → s.k ≡ k → Adds s (unit_row (s.k + 1) (cell + 1)) t
-    → Forgotten (numbers_of fs) (k + 1) cell old s.rows → Forgotten (numbers_of fs) (k + 1) (cell + 1) old t.rows
+    → Forgotten fs (k + 1) cell old s.rows → Forgotten fs (k + 1) (cell + 1) old t.rows
 forget_more k cell fs x b old s t is lt size e none same adds f =
     let adds' : Adds s (unit_row (k + 1) (cell + 1)) t = subst (λ n. Adds s (unit_row (n + 1) (cell + 1)) t) same adds in
-    forgotten_more (numbers_of fs) (k + 1) cell old s.rows t.rows (omega arith) (form_read fs cell x is lt ∙ no_form x b e none) f
+    forgotten_more fs (k + 1) cell old s.rows t.rows (omega arith) (form_read fs cell x is lt ∙ no_form x b e none) f
     (added_down k s t (unit_row (k + 1) (cell + 1)) same adds') (added_up k s t (unit_row (k + 1) (cell + 1)) same adds')

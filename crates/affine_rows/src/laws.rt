@@ -1,6 +1,13 @@
 //! Laws of the definitions: each contract is a law, stated in specs/Laws.antt, and nothing runs.
 
-ghost use Rattle.affine_rows.specs.Laws.{AppendJoins, ClosedUnderMultiples, ClosedUnderSums, HoldsZero, ImageGrows, RankFalls, RankIsBounded, RowsAreMembers};
+ghost use Rattle.affine_rows.specs.Laws.{AppendJoins, ClosedUnderMultiples, ClosedUnderSums, EqualFormsAreTheSame, HasOneRank, HoldsZero, ImageGrows, MembersAreLeast, RankFalls, RankIsBounded, RelationsHold, RowsAreMembers, RowsWithin};
+
+use super::forms::Form;
+
+/// Equal forms are the same list of numbers, and each form is equal to itself.
+pub fn equal_forms_are_the_same()
+    ensures { EqualFormsAreTheSame ⟦<Form as PartialEq>⟧.eq }
+{}
 
 /// The sum of two members is a member.
 pub fn sums_are_members()
@@ -22,6 +29,28 @@ pub fn rows_are_members()
     ensures { RowsAreMembers }
 {}
 
+/// A property of vectors, of any kind.
+pub trait Property {
+    ghost use Rattle.std.specs.Prelude.{ℕ, List};
+
+    ghost holds: { List ℕ → Type 0 };
+}
+
+/// The members are the least closed set that holds the rows: a closed property of all rows is one of all members.
+pub fn members_are_least<P: Property>()
+    ensures { MembersAreLeast P.holds }
+{}
+
+/// Rows that are members of what others generate generate no more.
+pub fn rows_within()
+    ensures { RowsWithin }
+{}
+
+/// A linear relation over the columns that holds on all rows holds on all members.
+pub fn relations_hold()
+    ensures { RelationsHold }
+{}
+
 /// Two lists of rows generate together the least submodule that holds what each generates.
 pub fn rows_together_join()
     ensures { AppendJoins }
@@ -40,4 +69,9 @@ pub fn rank_falls()
 /// A rank is at most 32 for each column.
 pub fn rank_is_bounded()
     ensures { RankIsBounded }
+{}
+
+/// Each list of rows has a rank, and no other.
+pub fn has_one_rank()
+    ensures { HasOneRank }
 {}

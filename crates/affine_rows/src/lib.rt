@@ -50,6 +50,9 @@
 //!
 //! # What is here
 //!
+//! `Form` is a sum of multiples, of the constant and of each cell, with its value over a vector. Contracts
+//! see it as the list of its numbers: whatever memory two forms hold, they are equal where that list is the same.
+//!
 //! `Rows` is a submodule. `Rows::new` takes all the memory that it will ever need: k is at most 64, and
 //! each column has a place for a row of 65 numbers. No other call takes memory or fails.
 //! Contracts see a `Rows` as `Submodule` of specs/Submodule: k and the rows that generate it, in the order
@@ -57,7 +60,9 @@
 //! by `IsMember`, is what each contract says. specs/Submodule has the values of forms too, specs/Rank the
 //! rank by its members, and specs/Laws the laws that the functions of `laws` ensure. Proofs elsewhere
 //! cite them as lemmas of proofs/Closure (`closed_under_sums`, `closed_under_multiples`, `holds_zero`,
-//! `rows_are_members`, `append_joins`, `image_grows`) and proofs/Ranks (`rank_falls`, `rank_is_bounded`).
+//! `rows_are_members`, `append_joins`, `image_grows`), proofs/Least (`members_are_least`, `rows_within`,
+//! `relations_hold`), proofs/Ranks (`rank_falls`, `rank_is_bounded`), proofs/OneRank (`has_one_rank`) and
+//! proofs/Equal (`equal_forms`).
 //! specs/Reduction and specs/Values are about the kept rows and the steps of an image, for this crate alone.
 #![tactic(auto)]
 

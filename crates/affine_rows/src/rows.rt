@@ -1,7 +1,6 @@
 //! Submodules as their kept rows.
 
 ghost use Rattle.std.specs.Prelude.{◌≡◌, ℕ, ◌+◌, ◌≤◌, ◌<◌, ◌↔◌, IsTrue, IfOk, MatchBool, length, List, [], slice_get, take, Some};
-ghost use Rattle.affine_rows.specs.Forms.{numbers_of};
 ghost use Rattle.affine_rows.specs.Rank.{IsRank};
 ghost use Rattle.affine_rows.specs.Submodule.{Adds, IsImage, IsMember, Submodule, unit_row};
 
@@ -94,7 +93,7 @@ impl Rows {
         requires columns { into.old.k ≡ self.now.k }
         requires new { into.old.rows ≡ [] }
         ensures same { into.new.k ≡ self.now.k }
-        ensures members { (y : List ℕ) → IsMember self.now.k into.new.rows y ↔ IsImage self.now (numbers_of forms.now) y }
+        ensures members { (y : List ℕ) → IsMember self.now.k into.new.rows y ↔ IsImage self.now forms.now y }
     {
         let _few = self.k;
         add_values(self, forms, into);

@@ -1,8 +1,12 @@
 //! Submodules in few columns, with answers worked out by hand, and one of full size.
 
-ghost use Rattle.std.specs.Prelude.{◌≡◌};
+ghost use Rattle.std.specs.Prelude.{◌≡◌, ◌∷◌, []};
+ghost use Rattle.affine_rows.specs.Laws.{MembersAreLeast};
+ghost use Rattle.affine_rows.specs.Submodule.{IsMember};
 
+use super::laws::{Property, members_are_least};
 use super::{Form, Rows};
+use std::hash::{DefaultHasher, Hash, Hasher};
 use std::process::Abort;
 use std::test::Fail;
 
@@ -193,6 +197,36 @@ fn values_of_forms(rt: HostRuntime) -> Result<(), Fail> {
     Ok(())
 }
 
+fn hash_of(form: &Form) -> u64 {
+    let mut state = DefaultHasher::new();
+    form.hash(&mut state);
+    state.finish()
+}
+
+#[test]
+fn equal_forms(rt: HostRuntime) -> Result<(), Fail> {
+    let mut numbers = Vec::with_capacity(rt.alloc(), 16)?;
+    numbers.push(3)?;
+    numbers.push(2)?;
+    let form = Form { c: numbers };
+    let same = Form {
+        c: vec![in rt.alloc(); 3, 2]?,
+    };
+    let other = Form {
+        c: vec![in rt.alloc(); 3, 4]?,
+    };
+    let longer = Form {
+        c: vec![in rt.alloc(); 3, 2, 0]?,
+    };
+    assert!(rt; form == same);
+    assert_eq!(rt; hash_of(&form), hash_of(&same));
+    assert!(rt; form != other);
+    assert!(rt; form != longer);
+    assert_eq!(rt; form.value(&[1, 5]), 13);
+    assert_eq!(rt; other.value(&[1, 0x4000_0000]), 3);
+    Ok(())
+}
+
 /// 2 up to column i, and 1 past it: each row but the first is the one before it and 1 in its column.
 fn stair(i: usize) -> [u32; 65] {
     let mut row = [0; 65];
@@ -214,4 +248,20 @@ fn full_size(rt: HostRuntime) -> Result<(), Fail> {
     assert_eq!(rt; rows.len(), 65);
     assert_eq!(rt; rows.rank(), 1);
     Ok(())
+}
+
+/// The multiples of (2, 6).
+struct Multiple;
+
+impl Property for Multiple {
+    ghost use Rattle.std.specs.Prelude.{◌∷◌, []};
+    ghost use Rattle.affine_rows.specs.Submodule.{IsMember};
+
+    ghost holds = { IsMember 1 ((2 ∷ 6 ∷ []) ∷ []) };
+}
+
+fn least_of_a_property()
+    ensures { MembersAreLeast (IsMember 1 ((2 ∷ 6 ∷ []) ∷ [])) }
+{
+    members_are_least::<Multiple>()
 }
