@@ -34,7 +34,7 @@ pub enum Decision {
     },
 }
 
-/// Goes on in a loop where an answer is no, so that many literals take no stack.
+/// Goes on in a loop where an answer is no, so that many literals of one position take no more stack than one.
 impl Drop for Decision {
     fn drop(mut self) {
         loop {

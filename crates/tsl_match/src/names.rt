@@ -8,7 +8,7 @@ ghost use Rattle.tsl_match.specs.Views.{tree};
 use crate::decision::Decision;
 use std::alloc::{AllocError, Global};
 
-/// Marks a row, where it has a mark.
+/// Marks a row, where there is a mark for it.
 fn mark(row: u32, marks: &mut [bool])
     ensures { (r : ℕ) → r < length marks.old
         → slice_index_or marks.new r false ≡ (slice_index_or marks.old r false || row == r) }
@@ -19,7 +19,7 @@ fn mark(row: u32, marks: &mut [bool])
     }
 }
 
-/// Marks each row that a decision may choose, where it has a mark.
+/// Marks each row that a decision may choose, where there is a mark for it.
 ///
 /// It goes on in a loop where an answer is no, and calls itself for the others.
 #[cycle(mark_named)]
