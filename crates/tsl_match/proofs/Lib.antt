@@ -17,3 +17,4 @@ pub mod Failing
 pub mod Granted
 pub mod Answering
 pub mod Checked
+pub mod OneAnswer

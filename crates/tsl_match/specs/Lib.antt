@@ -13,3 +13,4 @@ pub mod Refusals
 pub mod Questions
 pub mod Compiled
 pub mod Premises
+pub mod Laws

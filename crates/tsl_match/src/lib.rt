@@ -55,8 +55,9 @@
 //! ensures that its tree is the rule's and picks the first row that matches, with its bindings, for
 //! each value of the shape, and by `specs/Compiled.antt` that each refusal comes exactly where it
 //! has its cause: an answer with a tree says that every value meets some row and every row is of
-//! use, and each of the two refusals contradicts that and the other. A body that answers nothing
-//! but `NoMemory` isn't refused by any contract: the tests call `compile` with ample memory.
+//! use, and each of the two refusals contradicts that and the other. The law `rule_is_settled` says that
+//! the rule gives one tree at most, or one example, and not both. A body that answers nothing but
+//! `NoMemory` isn't refused by any contract: the tests call `compile` with ample memory.
 //!
 //! Ranks of types stand for "no type contains itself, directly or through others": a type's fields
 //! are of types of lower rank. For types that are declared before they are used a rank is their
@@ -92,6 +93,7 @@ mod decision;
 mod example;
 mod find_test;
 mod known;
+pub mod laws;
 mod learn;
 mod match_error;
 mod may_match;

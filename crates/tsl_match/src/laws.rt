@@ -1,0 +1,8 @@
+//! Laws of the rule, stated in specs/Laws.antt. Nothing runs.
+
+ghost use Rattle.tsl_match.specs.Laws.{RuleIsSettled};
+
+/// The rule gives at most one tree or one example for the rows that are left, and not both.
+pub fn rule_is_settled()
+    ensures { RuleIsSettled }
+{}
