@@ -4,7 +4,10 @@ ghost use Rattle.std.specs.Prelude.{◌≡◌, ◌∷◌, []};
 ghost use Rattle.affine_rows.specs.Laws.{MembersAreLeast};
 ghost use Rattle.affine_rows.specs.Submodule.{IsMember};
 
-use super::laws::{Property, members_are_least};
+use super::laws::{
+    Property, equal_forms_are_the_same, has_one_rank, members_are_least, relations_hold,
+    rows_within,
+};
 use super::{Form, Rows};
 use std::hash::{DefaultHasher, Hash, Hasher};
 use std::process::Abort;
@@ -260,8 +263,18 @@ impl Property for Multiple {
     ghost holds = { IsMember 1 ((2 ∷ 6 ∷ []) ∷ []) };
 }
 
+/// The law of the least closed set, at this property.
 fn least_of_a_property()
     ensures { MembersAreLeast (IsMember 1 ((2 ∷ 6 ∷ []) ∷ [])) }
 {
     members_are_least::<Multiple>()
+}
+
+#[test]
+fn has_laws() {
+    equal_forms_are_the_same();
+    least_of_a_property();
+    rows_within();
+    relations_hold();
+    has_one_rank();
 }
