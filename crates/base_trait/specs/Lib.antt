@@ -3,5 +3,8 @@ pub mod Identity
 pub mod Laws
 pub mod Lists
 pub mod NoNotes
+pub mod Notes
+pub mod OneStamp
+pub mod PairedNotes
 pub mod Stamps
 pub mod Uses

@@ -1,6 +1,8 @@
 -- Stamps, and lists of them. The entry comes first, then addresses, ascending.
-use Rattle.std.specs.Prelude.{Bool, true, false, List, [], ◌∷◌, ◌==◌, nat_lt, IsTrue, ⊤}
+use Rattle.std.specs.Prelude.{◌≡◌, Bool, true, false, List, [], ◌∷◌, ◌==◌, nat_lt, IsTrue, ⊤}
 use Rattle.std.specs.List.{list_any}
+use Rattle.std.specs.Ordering.{is_lt}
+use Rattle.std.specs.declared.cmp.Ordering.{Ordering}
 use Rattle.base_trait.specs.Lists.{Each}
 use Rattle.base_trait.specs.declared.uses.Stamped.{Stamped}
 use Rattle.base_trait.specs.declared.uses.Stamped.TheVariants.{Entry, At}
@@ -26,3 +28,7 @@ is_listed xs s = list_any (λ x. same_stamp x s) xs
 abbrev pub AreAscending : List Stamped → Type 0
 AreAscending [] = ⊤
 AreAscending (s ∷ ss) = Each (λ t. IsTrue (is_before s t)) ss × AreAscending ss
+
+-- An order of stamps has the entry first, then addresses, ascending.
+abbrev pub AreInOrder : (Stamped → Stamped → Ordering) → Type 0
+AreInOrder compare = (s t : Stamped) → is_lt (compare s t) ≡ is_before s t

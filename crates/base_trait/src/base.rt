@@ -3,11 +3,14 @@
 ghost use Rattle.std.specs.Prelude.{◌≡◌, ◌++◌, ◌^◌, ◌<◌, ◌≤◌, ◌-◌, ℕ, min, IfOk, OnOk, if◌then◌else◌};
 ghost use Rattle.word_ops.specs.Width.{IsWidth};
 ghost use Rattle.base_trait.specs.Algebra.{Algebra};
+ghost use Rattle.base_trait.specs.Notes.{HaveSameCalls};
 ghost use Rattle.base_trait.specs.Identity.{IsIdentity};
 ghost use Rattle.base_trait.specs.Laws.{IsExtension, Laws};
 ghost use Rattle.base_trait.specs.Lists.{IsGrown, items_of};
 ghost use Rattle.base_trait.specs.Uses.{uses_of};
 
+use super::context::Context;
+use super::note::CellNote;
 use super::tri::Tri;
 use super::uses::Log;
 use std::alloc::{AllocError as NoMemory, Global};
@@ -22,10 +25,10 @@ use word_ops::{Cmp, Op1, Op2};
 pub trait Base {
     type Word: Eq + Hash + Debug + Drop;
 
-    type Note: Eq + Hash + Debug + Drop;
+    type Note: Eq + Hash + Debug + Drop + CellNote;
 
     /// What the words of one analysis share.
-    type Ctx: Drop;
+    type Ctx: Drop + Context;
 
     ghost CAP: { ℕ };
 
@@ -34,20 +37,21 @@ pub trait Base {
 
     ghost algebra: { Algebra Self.Word Self.Note Self.Ctx };
 
-    /// The word of one number.
+    /// The word of one number; it describes that number.
     fn constant(alloc: Global, ctx: &Self::Ctx, w: u32, v: u64) -> Result<Self::Word, NoMemory>
         requires width { IsWidth w }
         requires number { v < 2 ^ w }
         ensures value { IfOk result (λ r. r ≡ algebra.words.constant ctx.now w v) }
         ensures fits { IfOk result (λ r. algebra.words.fits ctx.now w r) };
 
-    /// The word of every number; of a base that does not join, 0.
+    /// The word of every number of the width; of a base that does not join, 0.
     fn any(alloc: Global, ctx: &Self::Ctx, w: u32) -> Result<Self::Word, NoMemory>
         requires width { IsWidth w }
         ensures value { IfOk result (λ r. r ≡ algebra.words.any ctx.now w) }
         ensures fits { IfOk result (λ r. algebra.words.fits ctx.now w r) };
 
-    /// A word of the numbers from `low` to `high`; of a base that does not join, `low`.
+    /// A word that describes each number from `low` to `high`, and maybe others: of 5 to 6, an interval has 5 and 6,
+    /// and known bits have 4 to 7. Of a base that does not join it is `low`.
     fn range(
         alloc: Global,
         ctx: &Self::Ctx,
@@ -61,7 +65,8 @@ pub trait Base {
         ensures value { IfOk result (λ r. r ≡ algebra.words.range ctx.now w low high) }
         ensures fits { IfOk result (λ r. algebra.words.fits ctx.now w r) };
 
-    /// An operation on one word.
+    /// An operation on one word: it describes the result on each described number, and maybe others. At 8 bits,
+    /// Neg of `{1, 2}` describes 255 and 254.
     fn op1(
         alloc: Global,
         ctx: &Self::Ctx,
@@ -74,7 +79,8 @@ pub trait Base {
         ensures value { IfOk result (λ r. r ≡ algebra.words.op1 ctx.now op w x.now) }
         ensures fits { IfOk result (λ r. algebra.words.fits ctx.now w r) };
 
-    /// An operation on two words.
+    /// An operation on two words: it describes the result on each two described numbers, and maybe others.
+    /// `{1, 2} + {3}` describes 4 and 5.
     fn op2(
         alloc: Global,
         ctx: &Self::Ctx,
@@ -89,14 +95,15 @@ pub trait Base {
         ensures value { IfOk result (λ r. r ≡ algebra.words.op2 ctx.now op w x.now y.now) }
         ensures fits { IfOk result (λ r. algebra.words.fits ctx.now w r) };
 
-    /// A comparison of two words: which truth values it may have.
+    /// A comparison of two words: each truth value that it has of two described numbers, and maybe the other. Of
+    /// `{1, 9} < {5}` it is both.
     fn cmp(ctx: &Self::Ctx, c: Cmp, w: u32, x: &Self::Word, y: &Self::Word) -> Tri
         requires width { IsWidth w }
         requires left { algebra.words.fits ctx.now w x.now }
         requires right { algebra.words.fits ctx.now w y.now }
         ensures value { result ≡ algebra.words.cmp ctx.now c w x.now y.now };
 
-    /// Zero extension.
+    /// Zero extension: it describes each described number at the greater width.
     fn zext(
         alloc: Global,
         ctx: &Self::Ctx,
@@ -109,7 +116,7 @@ pub trait Base {
         ensures value { IfOk result (λ r. r ≡ algebra.words.zext ctx.now from to x.now) }
         ensures fits { IfOk result (λ r. algebra.words.fits ctx.now to r) };
 
-    /// Sign extension.
+    /// Sign extension: from 4 to 8 bits, a word that describes 8 becomes one that describes 248.
     fn sext(
         alloc: Global,
         ctx: &Self::Ctx,
@@ -122,7 +129,7 @@ pub trait Base {
         ensures value { IfOk result (λ r. r ≡ algebra.words.sext ctx.now from to x.now) }
         ensures fits { IfOk result (λ r. algebra.words.fits ctx.now to r) };
 
-    /// Truncation to the lowest bits.
+    /// Truncation to the lowest bits: from 8 to 4 bits, a word that describes 17 becomes one that describes 1.
     fn trunc(
         alloc: Global,
         ctx: &Self::Ctx,
@@ -135,7 +142,8 @@ pub trait Base {
         ensures value { IfOk result (λ r. r ≡ algebra.words.trunc ctx.now from to x.now) }
         ensures fits { IfOk result (λ r. algebra.words.fits ctx.now to r) };
 
-    /// A word of the numbers of both.
+    /// A word that describes what either describes, and the least that does so as far as `absorbs` can tell. As
+    /// intervals, 1 to 2 and 5 to 6 join to 1 to 6.
     fn join(
         alloc: Global,
         ctx: &Self::Ctx,
@@ -149,7 +157,9 @@ pub trait Base {
         ensures value { IfOk result (λ r. r ≡ algebra.words.join ctx.now w x.now y.now) }
         ensures fits { IfOk result (λ r. algebra.words.fits ctx.now w r) };
 
-    /// A word of the numbers of both, such that no chain of widenings grows for ever.
+    /// A word that describes what either describes, such that no chain of widenings grows for ever: it is the old
+    /// word where that absorbs the new one, and else of a lesser rank. The interval 3 to 5 with 3 to 6 gives 3 to
+    /// the greatest number.
     fn widen(
         alloc: Global,
         ctx: &Self::Ctx,
@@ -163,7 +173,7 @@ pub trait Base {
         ensures value { IfOk result (λ r. r ≡ algebra.words.widen ctx.now w old.now new.now) }
         ensures fits { IfOk result (λ r. algebra.words.fits ctx.now w r) };
 
-    /// Whether `old` takes in all that `new` stands for, as far as the base can tell.
+    /// Whether `old` describes all that `new` does, as far as the base can tell: if so it surely does.
     fn absorbs(ctx: &Self::Ctx, w: u32, old: &Self::Word, new: &Self::Word) -> bool
         requires width { IsWidth w }
         requires left { algebra.words.fits ctx.now w old.now }
@@ -176,19 +186,20 @@ pub trait Base {
         requires word { algebra.words.fits ctx.now w x.now }
         ensures value { result ≡ min (algebra.words.rank ctx.now w x.now) (2 ^ 64 - 1) };
 
-    /// The number of a word that can have no other.
+    /// The number of a word that describes no other, as far as the base can tell.
     fn exact(ctx: &Self::Ctx, w: u32, x: &Self::Word) -> Option<u64>
         requires width { IsWidth w }
         requires word { algebra.words.fits ctx.now w x.now }
         ensures value { result ≡ algebra.words.exact ctx.now w x.now };
 
-    /// Whether the word may be `k`.
+    /// Whether the word may be `k`: true of each number that it describes, and maybe of others.
     fn may(ctx: &Self::Ctx, w: u32, x: &Self::Word, k: u64) -> bool
         requires width { IsWidth w }
         requires word { algebra.words.fits ctx.now w x.now }
         ensures value { result ≡ algebra.words.may ctx.now w x.now k };
 
-    /// The numbers that the word may be, ascending, or none where it has more than `limit` members.
+    /// The numbers that the word may be, ascending, or none where it has more than `limit` members: `{1, 2}` at the
+    /// limit 2 is 1, 2, and at the limit 1 there is no list.
     fn members(
         alloc: Global,
         ctx: &Self::Ctx,
@@ -205,36 +216,58 @@ pub trait Base {
         ensures value { IfOk result (λ r. r ≡ x.now) };
 
     /// The note of a cell that no instruction has written.
-    fn entry_note(alloc: Global) -> Result<Self::Note, NoMemory>
-        ensures value { IfOk result (λ r. r ≡ algebra.notes.entry) };
+    final fn entry_note(alloc: Global) -> Result<Self::Note, NoMemory>
+        ensures value { IfOk result (λ r. r ≡ algebra.notes.entry) }
+    {
+        Self::Note::entry(alloc)
+    }
 
     /// The note of a cell that the instruction at `at` has written.
-    fn stamp_note(alloc: Global, at: u32) -> Result<Self::Note, NoMemory>
-        ensures value { IfOk result (λ r. r ≡ algebra.notes.at at) };
+    final fn stamp_note(alloc: Global, at: u32) -> Result<Self::Note, NoMemory>
+        ensures value { IfOk result (λ r. r ≡ algebra.notes.at at) }
+    {
+        Self::Note::stamp(alloc, at)
+    }
 
     /// A note of the stamps of both.
-    fn join_note(alloc: Global, x: &Self::Note, y: &Self::Note) -> Result<Self::Note, NoMemory>
-        ensures value { IfOk result (λ r. r ≡ algebra.notes.join x.now y.now) };
+    final fn join_note(
+        alloc: Global,
+        x: &Self::Note,
+        y: &Self::Note,
+    ) -> Result<Self::Note, NoMemory>
+        ensures value { IfOk result (λ r. r ≡ algebra.notes.join x.now y.now) }
+    {
+        Self::Note::join(alloc, x, y)
+    }
 
     /// A note of the stamps of both, such that no chain of widenings grows for ever.
-    fn widen_note(alloc: Global, old: &Self::Note, new: &Self::Note) -> Result<Self::Note, NoMemory>
-        ensures value { IfOk result (λ r. r ≡ algebra.notes.widen old.now new.now) };
+    final fn widen_note(
+        alloc: Global,
+        old: &Self::Note,
+        new: &Self::Note,
+    ) -> Result<Self::Note, NoMemory>
+        ensures value { IfOk result (λ r. r ≡ algebra.notes.widen old.now new.now) }
+    {
+        Self::Note::widen(alloc, old, new)
+    }
 
     /// Whether `old` takes in all stamps of `new`.
-    fn absorbs_note(old: &Self::Note, new: &Self::Note) -> bool
-        ensures value { result ≡ algebra.notes.absorbs old.now new.now };
+    final fn absorbs_note(old: &Self::Note, new: &Self::Note) -> bool
+        ensures value { result ≡ algebra.notes.absorbs old.now new.now }
+    {
+        Self::Note::absorbs(old, new)
+    }
 
     /// The same note once more.
-    fn copy_note(alloc: Global, x: &Self::Note) -> Result<Self::Note, NoMemory>
-        ensures value { IfOk result (λ r. r ≡ x.now) };
-
-    /// The same context once more.
-    fn copy_ctx(alloc: Global, ctx: &Self::Ctx) -> Result<Self::Ctx, NoMemory>
-        ensures value { IfOk result (λ r. r ≡ ctx.now) };
+    final fn copy_note(alloc: Global, x: &Self::Note) -> Result<Self::Note, NoMemory>
+        ensures value { IfOk result (λ r. r ≡ x.now) }
+    {
+        Self::Note::copy(alloc, x)
+    }
 
     /// Adds a read of a map at a key, or at any key, to the log. Where memory runs out a front of it
     /// may have been added.
-    fn on_read(
+    final fn on_read(
         alloc: Global,
         log: &mut Log,
         map: u32,
@@ -242,10 +275,23 @@ pub trait Base {
         note: &Self::Note,
     ) -> Result<(), NoMemory>
         ensures value { OnOk result (uses_of log.new ≡ uses_of log.old ++ algebra.notes.reads map key note.now) }
-        ensures kept { IsGrown (uses_of log.old) (uses_of log.new) };
+        ensures kept { IsGrown (uses_of log.old) (uses_of log.new) }
+    {
+        Self::Note::on_read(alloc, log, map, key, note)
+    }
+
+    /// The same context once more.
+    final fn copy_ctx(alloc: Global, ctx: &Self::Ctx) -> Result<Self::Ctx, NoMemory>
+        ensures value { IfOk result (λ r. r ≡ ctx.now) }
+    {
+        Self::Ctx::copy(alloc, ctx)
+    }
 
     /// A base that joins lists at most 256 cells of a map. One that does not has a key for each.
     ghost capacity: { CAP ≡ (if algebra.joins then 256 else 2 ^ 32) };
+
+    /// The calls of notes are those of their type.
+    ghost same_calls: { HaveSameCalls algebra.notes Self.Note.notes };
 
     ghost laws: { Laws Self.Word Self.Note Self.Ctx algebra };
 

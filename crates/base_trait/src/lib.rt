@@ -18,15 +18,24 @@
 //! each chain of widenings ends: an interval [3, 5] that meets [3, 6] becomes [3, 2^w - 1], whose rank is
 //! 1 in place of 2. A note's rank is counted by any list of stamps that has all stamps at hand.
 //!
-//! *What no law says*: how precise an operation is. Each instance says in its own contracts which value
-//! its calls give.
+//! *What the laws leave open*: how precise an operation is. They say it of joins alone: what absorbs both sides
+//! absorbs the join. Each instance says in its contracts which value its calls give, and in laws of its own which
+//! are the best.
+//!
+//! *What is written once.* Notes and contexts have their calls by their types (`CellNote`, `Context`), so no base
+//! repeats them. `dispatch` is the table from the kinds of operations to the functions of an instance.
 #![tactic(auto)]
 
 mod base;
+mod context;
+mod dispatch;
 pub mod laws;
+mod note;
 mod tri;
 mod uses;
 
 pub use base::Base;
+pub use context::Context;
+pub use note::CellNote;
 pub use tri::Tri;
 pub use uses::{Log, Stamped, Use};

@@ -9,11 +9,12 @@ use Rattle.base_trait.specs.Algebra.{can_be}
 use Rattle.base_trait.specs.Identity.{IsIdentity}
 use Rattle.base_trait.specs.Laws.{Laws, WordLaws, NoteLaws, MayJoin}
 use Rattle.base_trait.specs.Lists.{IsAmong, IsAscending, Each}
+use Rattle.base_trait.specs.OneStamp.{one_stamp}
 use Rattle.base_trait.specs.Stamps.{same_stamp}
 use Rattle.base_trait.specs.declared.uses.Stamped.{Stamped}
 use Rattle.base_trait.proofs.Lists.{number_itself, number_told}
 use Rattle.base_trait.proofs.Stamps.{stamp_itself, stamp_told}
-use Rattle.concrete_base.specs.Meaning.{concrete, words, notes, only}
+use Rattle.concrete_base.specs.Meaning.{concrete, words, only}
 
 can_be_itself : (b : Bool) → IsTrue (can_be (only b) b)
 can_be_itself true = refl
@@ -109,7 +110,7 @@ same_side_stamp : (x y : Stamped) → MayJoin false x y → IsTrue (same_stamp x
 same_side_stamp x y (inl e) = cc
 same_side_stamp x y (inr e) = subst (λ z. IsTrue (same_stamp x z)) e (stamp_itself x)
 
-note_laws : NoteLaws Stamped false notes
+note_laws : NoteLaws Stamped false one_stamp
 note_laws = record {
   entry_sound = refl;
   at_sound = λ a. refl;

@@ -4,11 +4,10 @@ use Rattle.word_ops.specs.Op1.{op1_of}
 use Rattle.word_ops.specs.Op2.{op2_of}
 use Rattle.word_ops.specs.Cmp.{cmp_of}
 use Rattle.word_ops.specs.Casts.{zext_of, sext_of, trunc_of}
-use Rattle.base_trait.specs.Algebra.{Algebra, Words, Notes}
-use Rattle.base_trait.specs.Stamps.{same_stamp}
+use Rattle.base_trait.specs.Algebra.{Algebra, Words}
+use Rattle.base_trait.specs.OneStamp.{one_stamp}
 use Rattle.base_trait.specs.declared.tri.Tri.{Tri}
 use Rattle.base_trait.specs.declared.uses.Stamped.{Stamped}
-use Rattle.base_trait.specs.declared.uses.Stamped.TheVariants.{Entry, At}
 
 -- a flag that is this truth value
 abbrev pub only : Bool → Tri
@@ -40,20 +39,5 @@ words = record {
   size = λ c w x. 1;
 }
 
-abbrev pub notes : Notes Stamped
-notes = record {
-  describes = λ s x. s ≡ x;
-  stamped = true;
-  listed = λ x. x ∷ [];
-  entry = Entry;
-  at = λ a. At a;
-  join = λ x y. x;
-  widen = λ old new. old;
-  absorbs = λ old new. same_stamp old new;
-  rank = λ stamps x. 0;
-  height = λ n. 0;
-  reads = λ m key x. record { of_map = m; key = key; stamps = x ∷ [] } ∷ [];
-}
-
 abbrev pub concrete : Algebra ℕ Stamped (Unit {0})
-concrete = record { joins = false; words = words; notes = notes }
+concrete = record { joins = false; words = words; notes = one_stamp }

@@ -3,7 +3,7 @@
 //! the sides are equal.
 #![tactic(auto)]
 
-use base_trait::{Base, Log, Stamped, Tri};
+use base_trait::{Base, Stamped, Tri, dispatch};
 use std::alloc::{AllocError as NoMemory, Global};
 use word_ops::{Cmp, Op1, Op2, cmp, op1, op2, sext, trunc, zext};
 
@@ -17,6 +17,8 @@ impl Base for Concrete {
     ghost use Rattle.word_ops.specs.Casts.{zext_of, sext_of, trunc_of};
     ghost use Rattle.word_ops.specs.Width.{IsWidth};
     ghost use Rattle.base_trait.specs.Laws.{IsExtension};
+    ghost use Rattle.base_trait.specs.Notes.{own_calls};
+    ghost use Rattle.base_trait.specs.OneStamp.{one_stamp};
     ghost use Rattle.std.proofs.Common.{rules};
     ghost use Rattle.std.specs.Cmp.Rules.{comparing};
     ghost use Rattle.concrete_base.specs.Meaning.{concrete};
@@ -34,6 +36,7 @@ impl Base for Concrete {
 
     ghost algebra = { concrete };
 
+    /// The number itself.
     fn constant(_alloc: Global, _ctx: &(), w: u32, v: u64) -> Result<u64, NoMemory>
         requires width { IsWidth w }
         requires number { v < 2 ^ w }
@@ -44,6 +47,7 @@ impl Base for Concrete {
         Ok(v)
     }
 
+    /// 0: no word stands for several numbers.
     fn any(_alloc: Global, _ctx: &(), w: u32) -> Result<u64, NoMemory>
         requires width { IsWidth w }
         ensures value { IfOk result (λ r. r ≡ 0) }
@@ -53,6 +57,7 @@ impl Base for Concrete {
         Ok(0)
     }
 
+    /// The first number.
     fn range(_alloc: Global, _ctx: &(), w: u32, low: u64, high: u64) -> Result<u64, NoMemory>
         requires width { IsWidth w }
         requires order { low ≤ high }
@@ -64,6 +69,7 @@ impl Base for Concrete {
         Ok(low)
     }
 
+    /// The one result: best. At 8 bits, Neg of 1 is 255.
     fn op1(_alloc: Global, _ctx: &(), op: Op1, w: u32, x: &u64) -> Result<u64, NoMemory>
         requires width { IsWidth w }
         requires word { x.now < 2 ^ w }
@@ -71,9 +77,10 @@ impl Base for Concrete {
         ensures fits { IfOk result (λ r. r < 2 ^ w) }
         ensures ok { IsOk result }
     {
-        Ok(op1(op, w, *x))
+        Ok(dispatch!(op (op, w, *x) { _ => op1 }))
     }
 
+    /// The one result: best. At 8 bits, 255 + 2 is 1.
     fn op2(_alloc: Global, _ctx: &(), op: Op2, w: u32, x: &u64, y: &u64) -> Result<u64, NoMemory>
         requires width { IsWidth w }
         requires left { x.now < 2 ^ w }
@@ -82,17 +89,19 @@ impl Base for Concrete {
         ensures fits { IfOk result (λ r. r < 2 ^ w) }
         ensures ok { IsOk result }
     {
-        Ok(op2(op, w, *x, *y))
+        Ok(dispatch!(op (op, w, *x, *y) { _ => op2 }))
     }
 
+    /// Exactly what the comparison gives: never both.
     fn cmp(_ctx: &(), c: Cmp, w: u32, x: &u64, y: &u64) -> Tri {
-        let is = cmp(c, w, *x, *y);
+        let is = dispatch!(c (c, w, *x, *y) { _ => cmp });
         Tri {
             may_true: is,
             may_false: !is,
         }
     }
 
+    /// The same number.
     fn zext(_alloc: Global, _ctx: &(), from: u32, to: u32, x: &u64) -> Result<u64, NoMemory>
         requires widths { IsExtension from to }
         requires word { x.now < 2 ^ from }
@@ -103,6 +112,7 @@ impl Base for Concrete {
         Ok(zext(from, to, *x))
     }
 
+    /// The word of the same signed reading: from 4 to 8 bits, 8 becomes 248.
     fn sext(_alloc: Global, _ctx: &(), from: u32, to: u32, x: &u64) -> Result<u64, NoMemory>
         requires widths { IsExtension from to }
         requires word { x.now < 2 ^ from }
@@ -113,6 +123,7 @@ impl Base for Concrete {
         Ok(sext(from, to, *x))
     }
 
+    /// The lowest bits: from 8 to 4 bits, 17 becomes 1.
     fn trunc(_alloc: Global, _ctx: &(), from: u32, to: u32, x: &u64) -> Result<u64, NoMemory>
         requires widths { IsExtension to from }
         requires word { x.now < 2 ^ from }
@@ -123,6 +134,7 @@ impl Base for Concrete {
         Ok(trunc(from, to, *x))
     }
 
+    /// The first side, which is both where they are equal.
     fn join(_alloc: Global, _ctx: &(), w: u32, x: &u64, y: &u64) -> Result<u64, NoMemory>
         requires width { IsWidth w }
         requires left { x.now < 2 ^ w }
@@ -134,6 +146,7 @@ impl Base for Concrete {
         Ok(*x)
     }
 
+    /// The old side, which is both where they are equal.
     fn widen(_alloc: Global, _ctx: &(), w: u32, old: &u64, new: &u64) -> Result<u64, NoMemory>
         requires width { IsWidth w }
         requires left { old.now < 2 ^ w }
@@ -145,22 +158,27 @@ impl Base for Concrete {
         Ok(*old)
     }
 
+    /// Whether both are one number.
     fn absorbs(_ctx: &(), _w: u32, old: &u64, new: &u64) -> bool {
         *old == *new
     }
 
+    /// 0: nothing is ever widened.
     fn rank(_ctx: &(), _w: u32, _x: &u64) -> u64 {
         0
     }
 
+    /// The number.
     fn exact(_ctx: &(), _w: u32, x: &u64) -> Option<u64> {
         Some(*x)
     }
 
+    /// Whether it is the number.
     fn may(_ctx: &(), _w: u32, x: &u64, k: u64) -> bool {
         *x == k
     }
 
+    /// The number alone; at the limit 0 there is no list.
     fn members(
         alloc: Global,
         _ctx: &(),
@@ -182,45 +200,9 @@ impl Base for Concrete {
         Ok(*x)
     }
 
-    fn entry_note(_alloc: Global) -> Result<Stamped, NoMemory> {
-        Ok(Stamped::Entry)
-    }
-
-    fn stamp_note(_alloc: Global, at: u32) -> Result<Stamped, NoMemory> {
-        Ok(Stamped::At(at))
-    }
-
-    fn join_note(_alloc: Global, x: &Stamped, _y: &Stamped) -> Result<Stamped, NoMemory> {
-        Ok(*x)
-    }
-
-    fn widen_note(_alloc: Global, old: &Stamped, _new: &Stamped) -> Result<Stamped, NoMemory> {
-        Ok(*old)
-    }
-
-    fn absorbs_note(old: &Stamped, new: &Stamped) -> bool {
-        old.is_same(*new)
-    }
-
-    fn copy_note(_alloc: Global, x: &Stamped) -> Result<Stamped, NoMemory> {
-        Ok(*x)
-    }
-
-    fn copy_ctx(_alloc: Global, _ctx: &()) -> Result<(), NoMemory> {
-        Ok(())
-    }
-
-    fn on_read(
-        alloc: Global,
-        log: &mut Log,
-        map: u32,
-        key: Option<u64>,
-        note: &Stamped,
-    ) -> Result<(), NoMemory> {
-        log.record(map, key, vec![in alloc; *note]?)
-    }
-
     ghost capacity = { refl };
+
+    ghost same_calls = { own_calls one_stamp };
 
     ghost laws = { concrete_laws };
 

@@ -1,8 +1,7 @@
 //! The base of definitions and uses.
 
 use super::stamps::Stamps;
-use super::union::{are_among, copied};
-use base_trait::{Base, Log, Stamped, Tri};
+use base_trait::{Base, Tri};
 use kset_base::{KSet, Set};
 use std::alloc::{AllocError as NoMemory, Global};
 use word_ops::{Cmp, Op1, Op2};
@@ -12,8 +11,10 @@ pub struct DefUse;
 
 impl Base for DefUse {
     ghost use Rattle.std.specs.Prelude.{refl};
+    ghost use Rattle.base_trait.specs.Notes.{own_calls};
     ghost use Rattle.defuse_base.specs.Laws.{defuse_laws, same_notes_is};
     ghost use Rattle.defuse_base.specs.Meaning.{defuse};
+    ghost use Rattle.defuse_base.specs.Notes.{stamp_notes};
     ghost use Rattle.kset_base.specs.Same.{same_set_is};
 
     type Word = Set<1>;
@@ -115,48 +116,9 @@ impl Base for DefUse {
         KSet::<1>::copy(alloc, ctx, x)
     }
 
-    fn entry_note(alloc: Global) -> Result<Stamps, NoMemory> {
-        Stamps::one(alloc, Stamped::Entry)
-    }
-
-    fn stamp_note(alloc: Global, at: u32) -> Result<Stamps, NoMemory> {
-        Stamps::one(alloc, Stamped::At(at))
-    }
-
-    /// The union.
-    fn join_note(alloc: Global, x: &Stamps, y: &Stamps) -> Result<Stamps, NoMemory> {
-        Stamps::union(alloc, x, y)
-    }
-
-    /// The union: there are only so many addresses.
-    fn widen_note(alloc: Global, old: &Stamps, new: &Stamps) -> Result<Stamps, NoMemory> {
-        Stamps::union(alloc, old, new)
-    }
-
-    fn absorbs_note(old: &Stamps, new: &Stamps) -> bool {
-        are_among(old.items(), new.items())
-    }
-
-    fn copy_note(alloc: Global, x: &Stamps) -> Result<Stamps, NoMemory> {
-        Stamps::copy(alloc, x)
-    }
-
-    fn copy_ctx(_alloc: Global, _ctx: &()) -> Result<(), NoMemory> {
-        Ok(())
-    }
-
-    /// Adds the use of the note's stamps.
-    fn on_read(
-        alloc: Global,
-        log: &mut Log,
-        map: u32,
-        key: Option<u64>,
-        note: &Stamps,
-    ) -> Result<(), NoMemory> {
-        log.record(map, key, copied(alloc, note.items())?)
-    }
-
     ghost capacity = { refl };
+
+    ghost same_calls = { own_calls stamp_notes };
 
     ghost laws = { defuse_laws };
 

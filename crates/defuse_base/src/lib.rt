@@ -8,6 +8,7 @@
 #![tactic(auto)]
 
 mod base;
+mod notes;
 mod stamps;
 mod union;
 

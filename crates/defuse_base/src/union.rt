@@ -37,7 +37,7 @@ pub(crate) fn copied(alloc: Global, xs: &[Stamped]) -> Result<Vec<Stamped>, NoMe
 fn add(items: &mut Vec<Stamped>, stamp: Stamped) -> Result<(), NoMemory>
     ensures { OnOk result (items.new.items ≡ with_stamp items.old.items stamp) }
 {
-    if !is_among(items, stamp) {
+    if !is_listed(items, stamp) {
         let place = place_of(items, stamp);
         items.insert(place, stamp)?;
     }
@@ -57,7 +57,8 @@ fn place_of(items: &[Stamped], stamp: Stamped) -> usize
     items.len()
 }
 
-fn is_among(items: &[Stamped], stamp: Stamped) -> bool
+/// Whether the list has the stamp.
+fn is_listed(items: &[Stamped], stamp: Stamped) -> bool
     ensures { result ≡ is_listed items.now stamp }
 {
     for x in items {
@@ -69,11 +70,11 @@ fn is_among(items: &[Stamped], stamp: Stamped) -> bool
 }
 
 /// Whether the first list has each stamp of the second.
-pub(crate) fn are_among(items: &[Stamped], others: &[Stamped]) -> bool
+pub(crate) fn has_all(items: &[Stamped], others: &[Stamped]) -> bool
     ensures { result ≡ has_all items.now others.now }
 {
     for x in others {
-        if !is_among(items, *x) {
+        if !is_listed(items, *x) {
             return false;
         }
     }

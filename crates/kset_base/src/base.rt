@@ -2,9 +2,9 @@
 
 use super::changes::Change;
 use super::operations::{both, image, product};
-use super::reading::{all, are_among, compare, copy_of, is_among};
+use super::reading::{all, compare, copy_of, has, has_all};
 use super::set::Set;
-use base_trait::{Base, Log, Tri};
+use base_trait::{Base, Tri, dispatch};
 use std::alloc::{AllocError as NoMemory, Global};
 use word_ops::{Cmp, Op1, Op2};
 
@@ -21,6 +21,8 @@ impl<const K: usize> Base for KSet<K> {
     ghost use Rattle.word_ops.specs.Casts.{zext_of, sext_of, trunc_of};
     ghost use Rattle.word_ops.specs.Width.{IsWidth};
     ghost use Rattle.base_trait.specs.Laws.{IsExtension};
+    ghost use Rattle.base_trait.specs.NoNotes.{no_notes};
+    ghost use Rattle.base_trait.specs.Notes.{own_calls};
     ghost use Rattle.kset_base.specs.Laws.{kset_laws};
     ghost use Rattle.kset_base.specs.Meaning.{absorbs_set, Fits, kset};
     ghost use Rattle.kset_base.specs.Same.{same_set_is};
@@ -46,11 +48,12 @@ impl<const K: usize> Base for KSet<K> {
         ensures fits { IfOk result (λ r. Fits K w r) }
         ensures ok { IsOk result }
     {
-        let mut out = Set::none();
+        let mut out = Set::empty();
         out.add(v);
         Ok(out)
     }
 
+    /// Every number of the width. It is not the full set: of 1 bit, `any` and `{0, 1}` are two words.
     fn any(_alloc: Global, _ctx: &(), w: u32) -> Result<Set<K>, NoMemory>
         requires width { IsWidth w }
         ensures value { IfOk result (λ r. r ≡ None) }
@@ -60,7 +63,7 @@ impl<const K: usize> Base for KSet<K> {
         Ok(Set::any())
     }
 
-    /// The numbers from `low` to `high`, or any where they are more than K.
+    /// The numbers from `low` to `high`, or any where they are more than K: 3 to 5 is `{3, 4, 5}`. Best.
     fn range(_alloc: Global, _ctx: &(), w: u32, low: u64, high: u64) -> Result<Set<K>, NoMemory>
         requires width { IsWidth w }
         requires order { low ≤ high }
@@ -72,7 +75,8 @@ impl<const K: usize> Base for KSet<K> {
         Ok(Set::from_to(low, high))
     }
 
-    /// The set of all results, or any where they are more than K: best among words.
+    /// The set of all results, or any where they are more than K: best among words. At 8 bits, Neg of
+    /// `{1, 2}` is `{254, 255}`.
     fn op1(_alloc: Global, _ctx: &(), op: Op1, w: u32, x: &Set<K>) -> Result<Set<K>, NoMemory>
         requires width { IsWidth w }
         requires word { Fits K w x.now }
@@ -100,14 +104,15 @@ impl<const K: usize> Base for KSet<K> {
         ensures fits { IfOk result (λ r. Fits K w r) }
         ensures ok { IsOk result }
     {
-        Ok(product(op, w, x, y))
+        Ok(dispatch!(op (op, w, x, y) { _ => product }))
     }
 
     /// The truth values of all pairs; of any, both. `{1, 9} < {5}` may be both.
     fn cmp(_ctx: &(), c: Cmp, w: u32, x: &Set<K>, y: &Set<K>) -> Tri {
-        compare(c, w, x, y)
+        dispatch!(c (c, w, x, y) { _ => compare })
     }
 
+    /// The same numbers: best.
     fn zext(_alloc: Global, _ctx: &(), from: u32, to: u32, x: &Set<K>) -> Result<Set<K>, NoMemory>
         requires widths { IsExtension from to }
         requires word { Fits K from x.now }
@@ -118,6 +123,7 @@ impl<const K: usize> Base for KSet<K> {
         Ok(image(Change::Zero { from, to }, x))
     }
 
+    /// The set of all results: best. From 4 to 8 bits, `{7, 8}` becomes `{7, 248}`.
     fn sext(_alloc: Global, _ctx: &(), from: u32, to: u32, x: &Set<K>) -> Result<Set<K>, NoMemory>
         requires widths { IsExtension from to }
         requires word { Fits K from x.now }
@@ -128,6 +134,7 @@ impl<const K: usize> Base for KSet<K> {
         Ok(image(Change::Sign { from, to }, x))
     }
 
+    /// The set of all results: best. From 8 to 4 bits, `{1, 17}` becomes `{1}`.
     fn trunc(_alloc: Global, _ctx: &(), from: u32, to: u32, x: &Set<K>) -> Result<Set<K>, NoMemory>
         requires widths { IsExtension to from }
         requires word { Fits K from x.now }
@@ -138,7 +145,7 @@ impl<const K: usize> Base for KSet<K> {
         Ok(image(Change::Cut { from, to }, x))
     }
 
-    /// The union, or any where it has more than K numbers.
+    /// The union, or any where it has more than K numbers: best. `{1, 2}` and `{2, 5}` join to `{1, 2, 5}`.
     fn join(_alloc: Global, _ctx: &(), w: u32, x: &Set<K>, y: &Set<K>) -> Result<Set<K>, NoMemory>
         requires width { IsWidth w }
         requires left { Fits K w x.now }
@@ -150,7 +157,8 @@ impl<const K: usize> Base for KSet<K> {
         Ok(both(x, y))
     }
 
-    /// The old set where it has the numbers of the new one, else any.
+    /// The old set where it has the numbers of the new one, else any: `{1, 2}` widened with `{2}` stays, and
+    /// with `{3}` it is any.
     fn widen(
         _alloc: Global,
         ctx: &(),
@@ -172,18 +180,21 @@ impl<const K: usize> Base for KSet<K> {
         }
     }
 
+    /// Whether the old set has each number of the new one; any has every number: `{1, 2}` absorbs `{2}`.
     fn absorbs(_ctx: &(), _w: u32, old: &Set<K>, new: &Set<K>) -> bool {
         match (old.listed(), new.listed()) {
             (None, _) => true,
             (Some(_numbers), None) => false,
-            (Some(numbers), Some(others)) => are_among(numbers, others),
+            (Some(numbers), Some(others)) => has_all(numbers, others),
         }
     }
 
+    /// 0 for any, else 1: a set is widened once at most.
     fn rank(_ctx: &(), _w: u32, x: &Set<K>) -> u64 {
         if x.is_any() { 0 } else { 1 }
     }
 
+    /// The number of a set of one.
     fn exact(_ctx: &(), _w: u32, x: &Set<K>) -> Option<u64> {
         match x.listed() {
             Some([number]) => Some(*number),
@@ -191,13 +202,15 @@ impl<const K: usize> Base for KSet<K> {
         }
     }
 
+    /// Whether the set has the number; any may be each.
     fn may(_ctx: &(), _w: u32, x: &Set<K>, k: u64) -> bool {
         match x.listed() {
-            Some(numbers) => is_among(numbers, k),
+            Some(numbers) => has(numbers, k),
             None => true,
         }
     }
 
+    /// The numbers of the set; of any, all of the width. `{1, 2}` has no list at the limit 1.
     fn members(
         alloc: Global,
         _ctx: &(),
@@ -222,45 +235,9 @@ impl<const K: usize> Base for KSet<K> {
         Ok(x.copy())
     }
 
-    fn entry_note(_alloc: Global) -> Result<(), NoMemory> {
-        Ok(())
-    }
-
-    fn stamp_note(_alloc: Global, _at: u32) -> Result<(), NoMemory> {
-        Ok(())
-    }
-
-    fn join_note(_alloc: Global, _x: &(), _y: &()) -> Result<(), NoMemory> {
-        Ok(())
-    }
-
-    fn widen_note(_alloc: Global, _old: &(), _new: &()) -> Result<(), NoMemory> {
-        Ok(())
-    }
-
-    fn absorbs_note(_old: &(), _new: &()) -> bool {
-        true
-    }
-
-    fn copy_note(_alloc: Global, _x: &()) -> Result<(), NoMemory> {
-        Ok(())
-    }
-
-    fn copy_ctx(_alloc: Global, _ctx: &()) -> Result<(), NoMemory> {
-        Ok(())
-    }
-
-    fn on_read(
-        _alloc: Global,
-        _log: &mut Log,
-        _map: u32,
-        _key: Option<u64>,
-        _note: &(),
-    ) -> Result<(), NoMemory> {
-        Ok(())
-    }
-
     ghost capacity = { refl };
+
+    ghost same_calls = { own_calls no_notes };
 
     ghost laws = { kset_laws K };
 

@@ -30,7 +30,7 @@ fn image_of<const K: usize>(change: Change, numbers: &[u64]) -> Set<K>
     requires below { Each (λ n. n < 2 ^ width_before change) numbers.now }
     ensures { result ≡ bounded K (set_of (map (changed change) numbers.now)) }
 {
-    let mut out = Set::none();
+    let mut out = Set::empty();
     for x in numbers {
         out.add(change.of(*x));
     }
@@ -56,7 +56,7 @@ fn product_of<const K: usize>(op: Op2, w: u32, xs: &[u64], ys: &[u64]) -> Set<K>
     requires right { Each (λ n. n < 2 ^ w) ys.now }
     ensures { result ≡ bounded K (set_of (flat_map (λ x. map (op2_of op w x) ys.now) xs.now)) }
 {
-    let mut out = Set::none();
+    let mut out = Set::empty();
     for x in xs {
         add_row(&mut out, op, w, *x, ys);
     }

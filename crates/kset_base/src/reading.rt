@@ -12,7 +12,8 @@ use base_trait::Tri;
 use std::alloc::{AllocError as NoMemory, Global};
 use word_ops::{Cmp, cmp};
 
-pub(crate) fn is_among(numbers: &[u64], n: u64) -> bool
+/// Whether the number is one of these.
+pub(crate) fn has(numbers: &[u64], n: u64) -> bool
     ensures { result ≡ has numbers.now n }
 {
     for x in numbers {
@@ -23,11 +24,12 @@ pub(crate) fn is_among(numbers: &[u64], n: u64) -> bool
     false
 }
 
-pub(crate) fn are_among(numbers: &[u64], others: &[u64]) -> bool
+/// Whether each of the others is one of these.
+pub(crate) fn has_all(numbers: &[u64], others: &[u64]) -> bool
     ensures { result ≡ list_all (has numbers.now) others.now }
 {
     for x in others {
-        if !is_among(numbers, *x) {
+        if !has(numbers, *x) {
             return false;
         }
     }

@@ -2,6 +2,7 @@
 
 ghost use Rattle.std.specs.Prelude.{◌≡◌, ◌≤◌, [], List, length, Some, None, is_none, IfSome, IfNone};
 ghost use Rattle.std.specs.List.{insert};
+ghost use Rattle.base_trait.specs.Lists.{IsAscending};
 ghost use Rattle.kset_base.specs.Same.{same_numbers};
 ghost use Rattle.kset_base.specs.Sets.{add, add_all, bounded, from_to, items_or_none, placed, set_with};
 
@@ -9,8 +10,7 @@ use arrayvec::ArrayVec;
 use std::hash::{Hash, Hasher};
 use std::marker::Model;
 
-/// At most `K` numbers, or any. A set that the base gives is not empty, and its numbers ascend
-/// without doubles.
+/// At most `K` numbers, ascending without doubles, or any. A set that the base gives is not empty.
 #[derive(Debug, Drop)]
 pub struct Set<const K: usize> {
     items: Option<ArrayVec<u64, K>>,
@@ -19,10 +19,14 @@ pub struct Set<const K: usize> {
 impl<const K: usize> Model for Set<K> {
     ghost use Rattle.std.specs.Prelude.{ℕ, List, Option, option_map};
     ghost use Rattle.arrayvec.specs.ArrayVec.{ArrayVec};
+    ghost use Rattle.base_trait.specs.Lists.{IsAscending};
+    ghost use Rattle.kset_base.specs.Sets.{items_or_none};
 
     ghost Value = { Option (List ℕ) };
 
     ghost view = { λ s. option_map (λ v. v.items) s.items };
+
+    ghost invariant = { λ s. IsAscending (items_or_none (option_map (λ v. v.items) s.items)) };
 
     ghost inverse = { λ s. record { items = option_map (λ xs. record { items = xs }) s } };
 }
@@ -74,7 +78,9 @@ impl<const K: usize> Set<K> {
 
     /// The numbers, ascending; none where it may be any.
     pub fn items(&self) -> &[u64]
-        ensures { result.now ≡ items_or_none self.now }
+        ensures value { result.now ≡ items_or_none self.now }
+        ensures ascending { IsAscending result.now }
+        ensures few { length result.now ≤ K }
     {
         match &self.items {
             Some(items) => items.as_slice(),
@@ -90,7 +96,7 @@ impl<const K: usize> Set<K> {
     }
 
     /// The set of no number.
-    pub(crate) fn none() -> Set<K>
+    pub(crate) fn empty() -> Set<K>
         ensures { result ≡ Some [] }
     {
         Set {
@@ -101,6 +107,7 @@ impl<const K: usize> Set<K> {
     /// The numbers of the set, where it is not any.
     pub(crate) fn listed(&self) -> Option<&[u64]>
         ensures some { IfSome result (λ s. (self.now ≡ Some s.now) × (length s.now ≤ K)) }
+        ensures ascending { IfSome result (λ s. IsAscending s.now) }
         ensures none { IfNone result (self.now ≡ None) }
     {
         match &self.items {

@@ -14,7 +14,8 @@ use Rattle.base_trait.specs.declared.tri.Tri.{Tri}
 use Rattle.base_trait.specs.declared.uses.Stamped.{Stamped}
 use Rattle.base_trait.proofs.Lists.{among_left, among_right, among_either, are_among_from, are_among_at, each_from, each_at, ascending_lower, filter_shorter}
 use Rattle.base_trait.proofs.Tests.{or_sorted, neither, and_both, and_parts, not_both}
-use Rattle.paired_base.specs.Meaning.{both_allow, first_of, shared_members, paired_words, paired_notes, paired}
+use Rattle.base_trait.specs.PairedNotes.{paired_notes}
+use Rattle.paired_base.specs.Meaning.{both_allow, first_of, shared_members, paired_words, paired}
 
 both_can : (t u : Tri) (b : Bool) → IsTrue (can_be t b) → IsTrue (can_be u b) → IsTrue (can_be (both_allow t u) b)
 both_can t u true h k = and_both t.may_true u.may_true h k

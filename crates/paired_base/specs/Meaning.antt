@@ -1,7 +1,8 @@
 -- Two bases side by side: each operation acts on both parts.
-use Rattle.std.specs.Prelude.{ℕ, ◌+◌, min, Bool, ◌&&◌, ◌||◌, List, ◌++◌, Option, Some, None}
+use Rattle.std.specs.Prelude.{ℕ, ◌+◌, min, Bool, ◌&&◌, ◌||◌, List, Option, Some, None}
 use Rattle.std.specs.List.{filter}
-use Rattle.base_trait.specs.Algebra.{Algebra, Words, Notes}
+use Rattle.base_trait.specs.Algebra.{Algebra, Words}
+use Rattle.base_trait.specs.PairedNotes.{paired_notes}
 use Rattle.base_trait.specs.declared.tri.Tri.{Tri}
 
 -- a flag may be what both allow
@@ -44,22 +45,6 @@ module _ {V W C D : Type 0} (A : Words V C) (B : Words W D) where
     may = λ c w x k. A.may c.0 w x.0 k && B.may c.1 w x.1 k;
     members = λ c w x limit. shared_members (A.members c.0 w x.0 limit) (A.may c.0 w x.0) (B.members c.1 w x.1 limit) (B.may c.1 w x.1);
     size = λ c w x. min (A.size c.0 w x.0) (B.size c.1 w x.1);
-  }
-
-module _ {M N : Type 0} (A : Notes M) (B : Notes N) where
-  abbrev pub paired_notes : Notes (M × N)
-  paired_notes = record {
-    describes = λ s x. A.describes s x.0 × B.describes s x.1;
-    stamped = A.stamped || B.stamped;
-    listed = λ x. A.listed x.0 ++ B.listed x.1;
-    entry = (A.entry, B.entry);
-    at = λ a. (A.at a, B.at a);
-    join = λ x y. (A.join x.0 y.0, B.join x.1 y.1);
-    widen = λ old new. (A.widen old.0 new.0, B.widen old.1 new.1);
-    absorbs = λ old new. A.absorbs old.0 new.0 && B.absorbs old.1 new.1;
-    rank = λ stamps x. A.rank stamps x.0 + B.rank stamps x.1;
-    height = λ n. A.height n + B.height n;
-    reads = λ m key x. A.reads m key x.0 ++ B.reads m key x.1;
   }
 
 abbrev pub paired : {V W M N C D : Type 0} → Algebra V M C → Algebra W N D → Algebra (V × W) (M × N) (C × D)

@@ -1,7 +1,7 @@
 //! The base of pairs.
 
 use super::members::allowed;
-use base_trait::{Base, Log, Tri};
+use base_trait::{Base, Tri};
 use std::alloc::{AllocError as NoMemory, Global};
 use std::marker::PhantomData;
 use word_ops::{Cmp, Op1, Op2};
@@ -13,6 +13,7 @@ pub struct Paired<A: Base, B: Base> {
 
 impl<A: Base, B: Base> Base for Paired<A, B> {
     ghost use Rattle.std.specs.Prelude.{ℕ, max};
+    ghost use Rattle.base_trait.specs.PairedNotes.{paired_calls};
     ghost use Rattle.paired_base.specs.Laws.{paired_laws, same_pairs, paired_capacity};
     ghost use Rattle.paired_base.specs.Meaning.{paired};
 
@@ -28,6 +29,7 @@ impl<A: Base, B: Base> Base for Paired<A, B> {
 
     ghost algebra = { paired A.algebra B.algebra };
 
+    /// The number in both parts.
     fn constant(alloc: Global, ctx: &Self::Ctx, w: u32, v: u64) -> Result<Self::Word, NoMemory> {
         Ok((
             A::constant(alloc, &ctx.0, w, v)?,
@@ -35,10 +37,12 @@ impl<A: Base, B: Base> Base for Paired<A, B> {
         ))
     }
 
+    /// Any in both parts.
     fn any(alloc: Global, ctx: &Self::Ctx, w: u32) -> Result<Self::Word, NoMemory> {
         Ok((A::any(alloc, &ctx.0, w)?, B::any(alloc, &ctx.1, w)?))
     }
 
+    /// The ranges of both parts. A set of at most 2 with a set of at most 1 has 3 to 4 as `{3, 4}` and any.
     fn range(
         alloc: Global,
         ctx: &Self::Ctx,
@@ -52,6 +56,7 @@ impl<A: Base, B: Base> Base for Paired<A, B> {
         ))
     }
 
+    /// Both parts, each by itself: a number is described where both describe it.
     fn op1(
         alloc: Global,
         ctx: &Self::Ctx,
@@ -65,6 +70,7 @@ impl<A: Base, B: Base> Base for Paired<A, B> {
         ))
     }
 
+    /// Both parts, each by itself: `({1, 2}, any)` and `({3}, {4})` add up to `({4, 5}, any)`.
     fn op2(
         alloc: Global,
         ctx: &Self::Ctx,
@@ -79,7 +85,7 @@ impl<A: Base, B: Base> Base for Paired<A, B> {
         ))
     }
 
-    /// What both parts allow.
+    /// What both parts allow: `({1}, any)` is surely below `({2}, any)`.
     fn cmp(ctx: &Self::Ctx, c: Cmp, w: u32, x: &Self::Word, y: &Self::Word) -> Tri {
         let first = A::cmp(&ctx.0, c, w, &x.0, &y.0);
         let second = B::cmp(&ctx.1, c, w, &x.1, &y.1);
@@ -89,6 +95,7 @@ impl<A: Base, B: Base> Base for Paired<A, B> {
         }
     }
 
+    /// Both parts.
     fn zext(
         alloc: Global,
         ctx: &Self::Ctx,
@@ -102,6 +109,7 @@ impl<A: Base, B: Base> Base for Paired<A, B> {
         ))
     }
 
+    /// Both parts.
     fn sext(
         alloc: Global,
         ctx: &Self::Ctx,
@@ -115,6 +123,7 @@ impl<A: Base, B: Base> Base for Paired<A, B> {
         ))
     }
 
+    /// Both parts.
     fn trunc(
         alloc: Global,
         ctx: &Self::Ctx,
@@ -128,6 +137,7 @@ impl<A: Base, B: Base> Base for Paired<A, B> {
         ))
     }
 
+    /// The joins of both parts.
     fn join(
         alloc: Global,
         ctx: &Self::Ctx,
@@ -141,6 +151,7 @@ impl<A: Base, B: Base> Base for Paired<A, B> {
         ))
     }
 
+    /// The widenings of both parts: where the pair grows, the rank of one part falls.
     fn widen(
         alloc: Global,
         ctx: &Self::Ctx,
@@ -154,10 +165,12 @@ impl<A: Base, B: Base> Base for Paired<A, B> {
         ))
     }
 
+    /// Whether both parts absorb.
     fn absorbs(ctx: &Self::Ctx, w: u32, old: &Self::Word, new: &Self::Word) -> bool {
         A::absorbs(&ctx.0, w, &old.0, &new.0) && B::absorbs(&ctx.1, w, &old.1, &new.1)
     }
 
+    /// The sum of both ranks.
     fn rank(ctx: &Self::Ctx, w: u32, x: &Self::Word) -> u64 {
         A::rank(&ctx.0, w, &x.0).saturating_add(B::rank(&ctx.1, w, &x.1))
     }
@@ -170,6 +183,7 @@ impl<A: Base, B: Base> Base for Paired<A, B> {
         }
     }
 
+    /// What both parts allow.
     fn may(ctx: &Self::Ctx, w: u32, x: &Self::Word, k: u64) -> bool {
         A::may(&ctx.0, w, &x.0, k) && B::may(&ctx.1, w, &x.1, k)
     }
@@ -195,57 +209,9 @@ impl<A: Base, B: Base> Base for Paired<A, B> {
         Ok((A::copy(alloc, &ctx.0, &x.0)?, B::copy(alloc, &ctx.1, &x.1)?))
     }
 
-    fn entry_note(alloc: Global) -> Result<Self::Note, NoMemory> {
-        Ok((A::entry_note(alloc)?, B::entry_note(alloc)?))
-    }
-
-    fn stamp_note(alloc: Global, at: u32) -> Result<Self::Note, NoMemory> {
-        Ok((A::stamp_note(alloc, at)?, B::stamp_note(alloc, at)?))
-    }
-
-    fn join_note(alloc: Global, x: &Self::Note, y: &Self::Note) -> Result<Self::Note, NoMemory> {
-        Ok((
-            A::join_note(alloc, &x.0, &y.0)?,
-            B::join_note(alloc, &x.1, &y.1)?,
-        ))
-    }
-
-    fn widen_note(
-        alloc: Global,
-        old: &Self::Note,
-        new: &Self::Note,
-    ) -> Result<Self::Note, NoMemory> {
-        Ok((
-            A::widen_note(alloc, &old.0, &new.0)?,
-            B::widen_note(alloc, &old.1, &new.1)?,
-        ))
-    }
-
-    fn absorbs_note(old: &Self::Note, new: &Self::Note) -> bool {
-        A::absorbs_note(&old.0, &new.0) && B::absorbs_note(&old.1, &new.1)
-    }
-
-    fn copy_note(alloc: Global, x: &Self::Note) -> Result<Self::Note, NoMemory> {
-        Ok((A::copy_note(alloc, &x.0)?, B::copy_note(alloc, &x.1)?))
-    }
-
-    fn copy_ctx(alloc: Global, ctx: &Self::Ctx) -> Result<Self::Ctx, NoMemory> {
-        Ok((A::copy_ctx(alloc, &ctx.0)?, B::copy_ctx(alloc, &ctx.1)?))
-    }
-
-    /// What the first part adds, then what the second adds.
-    fn on_read(
-        alloc: Global,
-        log: &mut Log,
-        map: u32,
-        key: Option<u64>,
-        note: &Self::Note,
-    ) -> Result<(), NoMemory> {
-        A::on_read(alloc, log, map, key, &note.0)?;
-        B::on_read(alloc, log, map, key, &note.1)
-    }
-
     ghost capacity = { paired_capacity A.CAP B.CAP A.algebra.joins B.algebra.joins A.capacity B.capacity };
+
+    ghost same_calls = { paired_calls A.algebra.notes A.Note.notes B.algebra.notes B.Note.notes A.same_calls B.same_calls };
 
     ghost laws = { paired_laws A.algebra B.algebra A.laws B.laws };
 

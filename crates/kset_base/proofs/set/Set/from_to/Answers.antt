@@ -1,5 +1,8 @@
-use Rattle.std.proofs.Common.{◌+◌, ◌∷◌, [], ◌++◌, ap, sym, ◌∙◌, rules, arith, length}
+use Rattle.std.proofs.Common.{◌+◌, ◌∷◌, [], ◌++◌, ap, sym, subst, ◌∙◌, rules, arith, length}
 use Rattle.std.proofs.lemmas.List.FromFn.{length-range_with_len}
+use Rattle.base_trait.specs.Lists.{IsAscending}
+use Rattle.base_trait.proofs.Lists.{ascending_lower, range_ascends}
+use Rattle.std.specs.List.{range_with_len}
 use Rattle.kset_base.specs.Adding.{range_more}
 use Rattle.kset_base.proofs.set.Set.from_to.Goals as goal
 
@@ -10,3 +13,8 @@ push-requires g c =
 
 pub loop-i-preserved : goal.loop-i-preserved
 loop-i-preserved g c = c.push.ensures.items ∙ ap (λ l. l ++ (c.args.low + c.loop-i.i) ∷ []) c.loop-i.invariant ∙ sym (range_more c.args.low c.loop-i.i)
+
+pub invariant_of-result : goal.invariant_of-result
+invariant_of-result g c =
+    let numbers = range_with_len c.args.low c.loop-i.i in
+    subst IsAscending (sym c.loop-i.invariant) (ascending_lower c.args.low 0 numbers (omega arith) (range_ascends c.args.low c.loop-i.i))

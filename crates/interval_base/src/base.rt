@@ -1,0 +1,212 @@
+//! The base of intervals.
+
+use super::compare::compare;
+use super::join::join;
+use super::members::{exact, members};
+use super::operations::{op1, op2};
+use super::range::Range;
+use super::sext::sext;
+use super::trunc::trunc;
+use super::widen::{rank, widen};
+use base_trait::{Base, Tri};
+use std::alloc::{AllocError as NoMemory, Global};
+use word_ops::{Cmp, Op1, Op2};
+
+/// An interval of numbers; of definitions nothing is told. But for lists of members it takes no memory.
+pub struct Interval;
+
+impl Base for Interval {
+    ghost use Rattle.std.specs.Prelude.{◌≡◌, ◌<◌, ◌≤◌, ◌^◌, IfOk, IsOk, refl};
+    ghost use Rattle.std.proofs.Common.{rules};
+    ghost use Rattle.std.specs.Cmp.Rules.{comparing};
+    ghost use Rattle.word_ops.specs.Width.{IsWidth};
+    ghost use Rattle.base_trait.specs.Laws.{IsExtension};
+    ghost use Rattle.base_trait.specs.Notes.{own_calls};
+    ghost use Rattle.base_trait.specs.NoNotes.{no_notes};
+    ghost use Rattle.interval_base.specs.Join.{join_of};
+    ghost use Rattle.interval_base.specs.Laws.{interval_laws};
+    ghost use Rattle.interval_base.specs.Meaning.{interval};
+    ghost use Rattle.interval_base.specs.Operations.{op1_range, op2_range};
+    ghost use Rattle.interval_base.specs.Range.{all, Fits, from_to, one};
+    ghost use Rattle.interval_base.specs.Sext.{sext_of};
+    ghost use Rattle.interval_base.specs.Trunc.{trunc_of};
+    ghost use Rattle.interval_base.specs.Widen.{widen_of};
+
+    type Word = Range;
+
+    type Note = ();
+
+    type Ctx = ();
+
+    const CAP: u64 = 256;
+
+    ghost CAP = { 256 };
+
+    ghost algebra = { interval };
+
+    fn constant(_alloc: Global, _ctx: &(), w: u32, v: u64) -> Result<Range, NoMemory>
+        requires width { IsWidth w }
+        requires number { v < 2 ^ w }
+        ensures value { IfOk result (λ r. r ≡ one v) }
+        ensures fits { IfOk result (λ r. Fits w r) }
+        ensures ok { IsOk result }
+    {
+        Ok(Range::one(v))
+    }
+
+    fn any(_alloc: Global, _ctx: &(), w: u32) -> Result<Range, NoMemory>
+        requires width { IsWidth w }
+        ensures value { IfOk result (λ r. r ≡ all w) }
+        ensures fits { IfOk result (λ r. Fits w r) }
+        ensures ok { IsOk result }
+    {
+        Ok(Range::all(w))
+    }
+
+    fn range(_alloc: Global, _ctx: &(), w: u32, low: u64, high: u64) -> Result<Range, NoMemory>
+        requires width { IsWidth w }
+        requires order { low ≤ high }
+        requires number { high < 2 ^ w }
+        ensures value { IfOk result (λ r. r ≡ from_to low high) }
+        ensures fits { IfOk result (λ r. Fits w r) }
+        ensures ok { IsOk result }
+    {
+        Ok(Range::from_to(low, high))
+    }
+
+    /// The least interval of the results.
+    fn op1(_alloc: Global, _ctx: &(), op: Op1, w: u32, x: &Range) -> Result<Range, NoMemory>
+        requires width { IsWidth w }
+        requires word { Fits w x.now }
+        ensures value { IfOk result (λ r. r ≡ op1_range op w x.now) }
+        ensures fits { IfOk result (λ r. Fits w r) }
+        ensures ok { IsOk result }
+    {
+        Ok(op1(op, w, *x))
+    }
+
+    /// An interval that holds each result; of two single numbers the result alone. Of sums and differences it is the
+    /// least.
+    fn op2(
+        _alloc: Global,
+        _ctx: &(),
+        op: Op2,
+        w: u32,
+        x: &Range,
+        y: &Range,
+    ) -> Result<Range, NoMemory>
+        requires width { IsWidth w }
+        requires left { Fits w x.now }
+        requires right { Fits w y.now }
+        ensures value { IfOk result (λ r. r ≡ op2_range op w x.now y.now) }
+        ensures fits { IfOk result (λ r. Fits w r) }
+        ensures ok { IsOk result }
+    {
+        Ok(op2(op, w, *x, *y))
+    }
+
+    /// Exactly the truth values of all pairs. `[1, 9] < [5, 5]` may be both.
+    fn cmp(_ctx: &(), c: Cmp, w: u32, x: &Range, y: &Range) -> Tri {
+        compare(c, w, *x, *y)
+    }
+
+    /// The same numbers.
+    fn zext(_alloc: Global, _ctx: &(), from: u32, to: u32, x: &Range) -> Result<Range, NoMemory>
+        requires widths { IsExtension from to }
+        requires word { Fits from x.now }
+        ensures value { IfOk result (λ r. r ≡ x.now) }
+        ensures fits { IfOk result (λ r. Fits to r) }
+        ensures ok { IsOk result }
+    {
+        Ok(*x)
+    }
+
+    /// The least interval of the results.
+    fn sext(_alloc: Global, _ctx: &(), from: u32, to: u32, x: &Range) -> Result<Range, NoMemory>
+        requires widths { IsExtension from to }
+        requires word { Fits from x.now }
+        ensures value { IfOk result (λ r. r ≡ sext_of from to x.now) }
+        ensures fits { IfOk result (λ r. Fits to r) }
+        ensures ok { IsOk result }
+    {
+        Ok(sext(from, to, *x))
+    }
+
+    /// The least interval of the results.
+    fn trunc(_alloc: Global, _ctx: &(), from: u32, to: u32, x: &Range) -> Result<Range, NoMemory>
+        requires widths { IsExtension to from }
+        requires word { Fits from x.now }
+        ensures value { IfOk result (λ r. r ≡ trunc_of to x.now) }
+        ensures fits { IfOk result (λ r. Fits to r) }
+        ensures ok { IsOk result }
+    {
+        Ok(trunc(to, *x))
+    }
+
+    /// The hull.
+    fn join(_alloc: Global, _ctx: &(), w: u32, x: &Range, y: &Range) -> Result<Range, NoMemory>
+        requires width { IsWidth w }
+        requires left { Fits w x.now }
+        requires right { Fits w y.now }
+        ensures value { IfOk result (λ r. r ≡ join_of x.now y.now) }
+        ensures fits { IfOk result (λ r. Fits w r) }
+        ensures ok { IsOk result }
+    {
+        Ok(join(*x, *y))
+    }
+
+    /// Keeps each old end that the new interval does not pass.
+    fn widen(_alloc: Global, _ctx: &(), w: u32, old: &Range, new: &Range) -> Result<Range, NoMemory>
+        requires width { IsWidth w }
+        requires left { Fits w old.now }
+        requires right { Fits w new.now }
+        ensures value { IfOk result (λ r. r ≡ widen_of w old.now new.now) }
+        ensures fits { IfOk result (λ r. Fits w r) }
+        ensures ok { IsOk result }
+    {
+        Ok(widen(w, *old, *new))
+    }
+
+    fn absorbs(_ctx: &(), _w: u32, old: &Range, new: &Range) -> bool {
+        old.takes_in(*new)
+    }
+
+    fn rank(_ctx: &(), w: u32, x: &Range) -> u64 {
+        rank(w, *x)
+    }
+
+    fn exact(_ctx: &(), _w: u32, x: &Range) -> Option<u64> {
+        exact(*x)
+    }
+
+    fn may(_ctx: &(), _w: u32, x: &Range, k: u64) -> bool {
+        x.has(k)
+    }
+
+    fn members(
+        alloc: Global,
+        _ctx: &(),
+        _w: u32,
+        x: &Range,
+        limit: u32,
+    ) -> Result<Option<Vec<u64>>, NoMemory> {
+        members(alloc, *x, limit)
+    }
+
+    fn copy(_alloc: Global, _ctx: &(), x: &Range) -> Result<Range, NoMemory>
+        ensures value { IfOk result (λ r. r ≡ x.now) }
+        ensures ok { IsOk result }
+    {
+        Ok(*x)
+    }
+
+    ghost capacity = { refl };
+
+    ghost same_calls = { own_calls no_notes };
+
+    ghost laws = { interval_laws };
+
+    ghost same_words = { λ x y e. Prim.search (comparing, rules) };
+
+    ghost same_notes = { λ x y e. Prim.search (comparing, rules) };
+}

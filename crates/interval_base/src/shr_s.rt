@@ -1,0 +1,25 @@
+//! Right shifts, with copies of the sign bit.
+
+ghost use Rattle.std.specs.Prelude.{◌≡◌};
+ghost use Rattle.interval_base.specs.ShrS.{shr_s_of};
+ghost use Rattle.interval_base.specs.Range.{Fits};
+ghost use Rattle.word_ops.specs.Width.{IsWidth};
+
+use super::range::Range;
+use super::signs::crosses;
+use word_ops::{Op2, op2};
+
+/// By one number: from end to end, where both ends have one sign bit; else any. In 8 bits [128, 192] by 1 is
+/// [192, 224].
+pub(crate) fn shr_s(w: u32, x: Range, y: Range) -> Range
+    requires width { IsWidth w }
+    requires left { Fits w x }
+    requires right { Fits w y }
+    ensures { result ≡ shr_s_of w x y }
+{
+    if y.is_one() && !crosses(w, x) {
+        Range::from_to(op2(Op2::ShrS, w, x.lo, y.lo), op2(Op2::ShrS, w, x.hi, y.lo))
+    } else {
+        Range::all(w)
+    }
+}
