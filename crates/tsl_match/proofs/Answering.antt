@@ -4,8 +4,8 @@ use Rattle.tsl_match.specs.declared.shape.Shape.{Shape}
 use Rattle.tsl_match.specs.Patterns.{Pat}
 use Rattle.tsl_match.specs.Shapes.{Types, AreTypes, IsShape}
 use Rattle.tsl_match.specs.Picks.{numbered}
-use Rattle.tsl_match.specs.Trees.{Tree}
-use Rattle.tsl_match.specs.Useless.{names}
+use Rattle.tsl_match.specs.Decisions.{Tree}
+use Rattle.tsl_match.specs.Names.{names}
 use Rattle.tsl_match.specs.Knowledge.{unknown}
 use Rattle.tsl_match.specs.Rule.{Fails}
 use Rattle.tsl_match.specs.Compiled.{IsTreeOf, PicksTheFirst, IsExhaustive, IsOfUse, IsUnmatched, IsRefusal}

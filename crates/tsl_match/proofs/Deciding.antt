@@ -2,7 +2,7 @@
 use Rattle.std.proofs.Common.{◌≡◌, ℕ, ◌+◌, ◌<◌, Some, None, List, [], ◌∷◌, ◌++◌, length, get_or, map, take, drop, slice_get, Vec, Global, refl, sym, ap, ◌∙◌}
 use Rattle.std.proofs.lemmas.List.{take-append-drop, drop-map, take_more, map-append}
 use Rattle.std.specs.List.{take-map}
-use Rattle.tsl_match.specs.declared.known.Known.{Known}
+use Rattle.tsl_match.specs.declared.knowledge.Known.{Known}
 use Rattle.tsl_match.specs.declared.candidate.Candidate.{Candidate}
 use Rattle.tsl_match.specs.declared.match_error.MatchError.{MatchError}
 use Rattle.tsl_match.specs.declared.step.Question.{Question}
@@ -10,14 +10,14 @@ use Rattle.tsl_match.specs.declared.step.Step.TheVariants.{Asked}
 use Rattle.tsl_match.specs.Values.{Place}
 use Rattle.tsl_match.specs.Shapes.{Types}
 use Rattle.tsl_match.specs.Picks.{Row}
-use Rattle.tsl_match.specs.Trees.{Tree, no_tree, tree_then, on_word}
+use Rattle.tsl_match.specs.Decisions.{Tree, no_tree, tree_then, on_word}
 use Rattle.tsl_match.specs.Knowledge.{Knowledge, word_known, others, put}
 use Rattle.tsl_match.specs.Rule.{Test, word_test, still, outcomes, IsTree}
-use Rattle.tsl_match.specs.Questions.{AsksFirst, AsksWord, MayShow, IsStep}
+use Rattle.tsl_match.specs.Steps.{AsksFirst, AsksWord, MayShow, IsStep}
 use Rattle.tsl_match.specs.Refusals.{FailsWith}
 use Rattle.tsl_match.specs.Limits.{InLimits, RowsInLimits, TypesInLimits, CanAll}
 use Rattle.tsl_match.specs.Views.{tree, knowledge, candidate}
-use Rattle.tsl_match.proofs.Steps.{drop_here}
+use Rattle.tsl_match.proofs.Loops.{drop_here}
 use Rattle.tsl_match.proofs.Opens.{first_opens}
 use Rattle.tsl_match.proofs.Weight.{total, falls}
 use Rattle.tsl_match.proofs.Kept.{put_limits, test_limits, shows_limits, shown, still_limits, still_can}

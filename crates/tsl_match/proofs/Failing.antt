@@ -8,8 +8,8 @@ use Rattle.tsl_match.specs.Patterns.{Pat, Pats, word_is, case_is, pat_then}
 use Rattle.tsl_match.specs.Shapes.{Types, fields_of, cases_of, HasShape, HaveShapes, Suits, AllSuit, AreTypes, IsShape}
 use Rattle.tsl_match.specs.Meets.{meets, bindings}
 use Rattle.tsl_match.specs.Picks.{Row, Choice, first_match, picks, arm_at, case_at, word_branch, flag_branch}
-use Rattle.tsl_match.specs.Trees.{Tree, Trees, row, on_case, on_word, on_flag, no_tree, tree_then}
-use Rattle.tsl_match.specs.Useless.{names, some_names}
+use Rattle.tsl_match.specs.Decisions.{Tree, Trees, row, on_case, on_word, on_flag, no_tree, tree_then}
+use Rattle.tsl_match.specs.Names.{names, some_names}
 use Rattle.tsl_match.specs.Knowledge.{Knowledge, Parts, flag_known, word_known, others, case_known, part_then, unknowns, put, put_part}
 use Rattle.tsl_match.specs.Rule.{Test, flag_test, word_test, case_test, can_match, all_can_match, is_among, first_test, still, made_known, IsTree, AreTrees, Fails, no_row, after_test}
 use Rattle.tsl_match.specs.Limits.{TypesInLimits, CanAll}

@@ -9,9 +9,9 @@ use Rattle.tsl_match.specs.Shapes.{Types, Suits, AllSuit, AreTypes, IsShape, Are
 use Rattle.tsl_match.specs.Picks.{Row, numbered}
 use Rattle.tsl_match.specs.Knowledge.{Knowledge, unknown}
 use Rattle.tsl_match.specs.Rule.{can_match}
-use Rattle.tsl_match.specs.declared.known.Known.{Unknown, fold-roll-Known}
-use Rattle.tsl_match.specs.declared.known.Known.TheOpen.{Known-F}
-use Rattle.tsl_match.specs.declared.known.Known.TheVariants.{rolls-Unknown}
+use Rattle.tsl_match.specs.declared.knowledge.Known.{Unknown, fold-roll-Known}
+use Rattle.tsl_match.specs.declared.knowledge.Known.TheOpen.{Known-F}
+use Rattle.tsl_match.specs.declared.knowledge.Known.TheVariants.{rolls-Unknown}
 use Rattle.tsl_match.specs.Views.{pat, knowledge, known_step}
 use Rattle.tsl_match.specs.Limits.{ShapeInLimits, ShapesInLimits, TypesInLimits, PatInLimits, PatsInLimits, RowsInLimits, CanAll}
 use Rattle.tsl_match.proofs.Soundness.{RowsSuit}

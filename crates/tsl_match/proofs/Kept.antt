@@ -10,7 +10,7 @@ use Rattle.tsl_match.specs.Picks.{Row}
 use Rattle.tsl_match.specs.Knowledge.{Knowledge, Parts, unknown, case_known, no_part, part_then, unknowns, put, put_part}
 use Rattle.tsl_match.specs.Rule.{Test, flag_test, word_test, case_test, can_match, still, outcomes, made_known}
 use Rattle.tsl_match.specs.Limits.{InLimits, AllInLimits, RowsInLimits, PatInLimits, ShapesInLimits, TypesInLimits, CanAll, parts_len}
-use Rattle.tsl_match.proofs.Steps.{parts_len-parts}
+use Rattle.tsl_match.proofs.Loops.{parts_len-parts}
 use Rattle.tsl_match.proofs.Opens.{Before, Shows, Opens, OpensIn}
 
 put_len : (ks : Parts) (i : ℕ) (at : Place) (o : Knowledge) → parts_len (put_part ks i at o) ≡ parts_len ks

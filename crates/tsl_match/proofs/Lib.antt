@@ -1,5 +1,5 @@
-pub mod Steps
-pub mod Learned
+pub mod Loops
+pub mod Changed
 pub mod Opens
 pub mod Weight
 pub mod Truth
@@ -18,3 +18,5 @@ pub mod Granted
 pub mod Answering
 pub mod Checked
 pub mod OneAnswer
+pub mod Decided
+pub mod Enough

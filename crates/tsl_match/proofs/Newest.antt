@@ -7,7 +7,7 @@ use Rattle.tsl_match.specs.Picks.{Row}
 use Rattle.tsl_match.specs.Knowledge.{Knowledge, Parts, others, case_known, part_then, put, put_part}
 use Rattle.tsl_match.specs.Rule.{word_test, is_among, can_match, all_can_match, still}
 use Rattle.tsl_match.specs.Limits.{CanAll}
-use Rattle.tsl_match.specs.Questions.{AsksFirst}
+use Rattle.tsl_match.specs.Steps.{AsksFirst}
 use Rattle.tsl_match.proofs.Truth.{and_left, and_right, not_true}
 use Rattle.tsl_match.proofs.Opens.{Before, Opens, OpensIn, first_opens}
 

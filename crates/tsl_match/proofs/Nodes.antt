@@ -5,10 +5,10 @@ use Rattle.tsl_match.specs.declared.match_error.MatchError.TheVariants.{NotExhau
 use Rattle.tsl_match.specs.Values.{Place}
 use Rattle.tsl_match.specs.Shapes.{Types}
 use Rattle.tsl_match.specs.Picks.{Row}
-use Rattle.tsl_match.specs.Trees.{Tree, Trees, trees, on_case, on_word, on_flag}
+use Rattle.tsl_match.specs.Decisions.{Tree, Trees, trees, on_case, on_word, on_flag}
 use Rattle.tsl_match.specs.Knowledge.{Knowledge, word_known, others, put}
 use Rattle.tsl_match.specs.Rule.{Test, flag_test, word_test, case_test, still, outcomes, IsTree, AreTrees, after_test}
-use Rattle.tsl_match.specs.Questions.{AsksFirst, asked_first}
+use Rattle.tsl_match.specs.Steps.{AsksFirst, asked_first}
 use Rattle.tsl_match.specs.Refusals.{FailsWith}
 use Rattle.tsl_match.specs.Views.{pat}
 

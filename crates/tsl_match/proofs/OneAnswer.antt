@@ -6,7 +6,7 @@ use Rattle.tsl_match.specs.Patterns.{Pat}
 use Rattle.tsl_match.specs.Picks.{Row}
 use Rattle.tsl_match.specs.Rule.{Found, Test, flag_test, word_test, case_test, first_test, still, made_known, outcomes, example, IsTree, AreTrees, Fails, no_row, after_test}
 use Rattle.tsl_match.specs.Shapes.{Types, cases_of}
-use Rattle.tsl_match.specs.Trees.{Tree, Trees, row, on_case, on_word, on_flag, no_tree, tree_then}
+use Rattle.tsl_match.specs.Decisions.{Tree, Trees, row, on_case, on_word, on_flag, no_tree, tree_then}
 use Rattle.tsl_match.specs.Values.{Place}
 
 -- ---- what two answers of one search agree on

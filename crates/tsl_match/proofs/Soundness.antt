@@ -7,7 +7,7 @@ use Rattle.tsl_match.specs.Values.{Value, Values, Place, flag, word, made, thing
 use Rattle.tsl_match.specs.Shapes.{Types, fields_of, cases_of, HasShape, HaveShapes, Suits}
 use Rattle.tsl_match.specs.Meets.{meets, bindings}
 use Rattle.tsl_match.specs.Picks.{Row, Choice, first_match, picks, arm_at, case_at, flag_branch}
-use Rattle.tsl_match.specs.Trees.{Tree, Trees, row, on_case, on_word, on_flag, no_tree, tree_then}
+use Rattle.tsl_match.specs.Decisions.{Tree, Trees, row, on_case, on_word, on_flag, no_tree, tree_then}
 use Rattle.tsl_match.specs.Knowledge.{Knowledge, flag_known, word_known, others, case_known, unknowns, put}
 use Rattle.tsl_match.specs.Rule.{Test, flag_test, word_test, case_test, can_match, first_test, still, made_known, IsTree, AreTrees}
 use Rattle.tsl_match.specs.Limits.{TypesInLimits, CanAll}

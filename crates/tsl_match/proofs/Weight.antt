@@ -9,19 +9,9 @@ use Rattle.tsl_match.specs.Shapes.{Types}
 use Rattle.tsl_match.specs.Picks.{Row}
 use Rattle.tsl_match.specs.Knowledge.{Knowledge, Parts, unknown, flag_known, word_known, others, case_known, part_then, unknowns, put, put_part}
 use Rattle.tsl_match.specs.Rule.{Test, flag_test, word_test, case_test, is_among, can_match, all_can_match, still}
+use Rattle.tsl_match.specs.Answers.{size, sizes}
 use Rattle.tsl_match.proofs.Truth.{and_left, and_right, not_true, among_last}
 use Rattle.tsl_match.proofs.Opens.{Before, Asks, Shows, Opens, OpensIn}
-
-abbrev mutual
-  pub size : Pat → ℕ
-  size (flag_is b) = 1
-  size (word_is n) = 1
-  size (case_is c ps) = suc (sizes ps)
-  size _ = 0
-
-  pub sizes : Pats → ℕ
-  sizes no_pat = 0
-  sizes (pat_then p ps) = size p + sizes ps
 
 abbrev mutual
   -- how many positions of a pattern may still be tested
@@ -37,7 +27,7 @@ abbrev mutual
   weights (pat_then p ps) (part_then k ks) = weight p k + weights ps ks
   weights _ _ = 0
 
-weight_unknown : (p : Pat) (s : Shape) → weight p (unknown s) ≤ size p
+pub weight_unknown : (p : Pat) (s : Shape) → weight p (unknown s) ≤ size p
 weight_unknown any s = omega arith
 weight_unknown (bind n) s = omega arith
 weight_unknown (flag_is b) s = omega arith

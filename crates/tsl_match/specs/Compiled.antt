@@ -1,6 +1,7 @@
 -- What compiling a match answers.
-use Rattle.std.specs.Prelude.{◌≡◌, ℕ, ◌<◌, true, Option, Some, None, List, length}
+use Rattle.std.specs.Prelude.{◌≡◌, ℕ, ◌<◌, true, Option, Some, None, Result, Ok, Err, List, length}
 use Rattle.tsl_match.specs.declared.shape.Shape.{Shape}
+use Rattle.tsl_match.specs.declared.decision.Decision.{Decision}
 use Rattle.tsl_match.specs.declared.match_error.MatchError.{MatchError}
 use Rattle.tsl_match.specs.declared.match_error.MatchError.TheVariants.{NotExhaustive, Useless, NoMemory}
 use Rattle.tsl_match.specs.Values.{Value, Place}
@@ -8,10 +9,11 @@ use Rattle.tsl_match.specs.Patterns.{Pat}
 use Rattle.tsl_match.specs.Shapes.{Types, HasShape}
 use Rattle.tsl_match.specs.Meets.{meets}
 use Rattle.tsl_match.specs.Picks.{Choice, numbered, first_match, picks}
-use Rattle.tsl_match.specs.Trees.{Tree}
+use Rattle.tsl_match.specs.Decisions.{Tree}
 use Rattle.tsl_match.specs.Knowledge.{unknown}
 use Rattle.tsl_match.specs.Rule.{IsTree, Fails}
-use Rattle.tsl_match.specs.Views.{pat}
+use Rattle.tsl_match.specs.Answers.{MatchAnswer, decision, not_exhaustive, useless}
+use Rattle.tsl_match.specs.Views.{pat, tree}
 
 module _ (types : Types) (shape : Shape) (rows : List Pat) where
   -- the first of the rows, by its number from 0, that a value meets
@@ -46,3 +48,10 @@ module _ (types : Types) (shape : Shape) (rows : List Pat) where
   IsRefusal (Useless r) =
       IsExhaustive × (r < length rows) × (¬ IsOfUse r) × ((q : ℕ) → q < r → IsOfUse q)
   IsRefusal NoMemory = Unit {0}
+
+-- What a call answers is what the match leads to, or memory ran out.
+abbrev pub Answers : Result Decision MatchError → MatchAnswer → Type 0
+Answers (Ok d) a = a ≡ decision (tree d)
+Answers (Err (NotExhaustive p)) a = a ≡ not_exhaustive (pat p)
+Answers (Err (Useless r)) a = a ≡ useless r
+Answers (Err NoMemory) a = Unit {0}

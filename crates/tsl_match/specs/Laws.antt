@@ -1,11 +1,13 @@
 -- Laws of the rule.
-use Rattle.std.specs.Prelude.{◌≡◌, List}
-use Rattle.tsl_match.specs.Knowledge.{Knowledge}
+use Rattle.std.specs.Prelude.{◌≡◌, ℕ, suc, List}
+use Rattle.tsl_match.specs.declared.shape.Shape.{Shape}
+use Rattle.tsl_match.specs.Knowledge.{Knowledge, unknown}
 use Rattle.tsl_match.specs.Patterns.{Pat}
-use Rattle.tsl_match.specs.Picks.{Row}
+use Rattle.tsl_match.specs.Picks.{Row, numbered}
 use Rattle.tsl_match.specs.Rule.{IsTree, Fails}
+use Rattle.tsl_match.specs.Answers.{tree, fails, deeper, decided, all_sizes}
 use Rattle.tsl_match.specs.Shapes.{Types}
-use Rattle.tsl_match.specs.Trees.{Tree}
+use Rattle.tsl_match.specs.Decisions.{Tree}
 
 -- For the rows that are left, by what is known, the rule gives one answer.
 pub record IsSettled (types : Types) (rows : List Row) (k : Knowledge) : Type 0 where
@@ -19,3 +21,9 @@ pub record IsSettled (types : Types) (rows : List Row) (k : Knowledge) : Type 0 
 -- The rule gives one answer for any types, rows and knowledge.
 abbrev pub RuleIsSettled : Type 0
 RuleIsSettled = (types : Types) (rows : List Row) (k : Knowledge) → IsSettled types rows k
+
+-- What `decided` gives at any depth is the rule's, and it looks deep enough for all tests of a match.
+pub record DecidedIsTheRules : Type 0 where
+  pub a_tree : (types : Types) (n : ℕ) (rows : List Row) (k : Knowledge) (t : Tree) → decided types n rows k ≡ tree t → IsTree types rows k t
+  pub an_example : (types : Types) (n : ℕ) (rows : List Row) (k : Knowledge) (p : Pat) → decided types n rows k ≡ fails p → Fails types rows k p
+  pub enough : (types : Types) (shape : Shape) (rows : List Pat) → ¬ decided types (suc (all_sizes rows)) (numbered 0 rows) (unknown shape) ≡ deeper

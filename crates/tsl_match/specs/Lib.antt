@@ -1,6 +1,6 @@
 pub mod Patterns
 pub mod Values
-pub mod Trees
+pub mod Decisions
 pub mod Knowledge
 pub mod Views
 pub mod Shapes
@@ -8,9 +8,10 @@ pub mod Meets
 pub mod Picks
 pub mod Rule
 pub mod Limits
-pub mod Useless
+pub mod Names
 pub mod Refusals
-pub mod Questions
+pub mod Steps
+pub mod Answers
 pub mod Compiled
 pub mod Premises
 pub mod Laws

@@ -3,7 +3,7 @@ use Rattle.std.specs.Prelude.{ℕ, zero, suc, ◌+◌, ◌==◌, true, false, Op
 use Rattle.tsl_match.specs.Values.{Value, Place, flag, word, made, value_at}
 use Rattle.tsl_match.specs.Patterns.{Pat}
 use Rattle.tsl_match.specs.Meets.{meets, bindings}
-use Rattle.tsl_match.specs.Trees.{Tree, Trees, row, on_case, on_word, on_flag, no_tree, tree_then}
+use Rattle.tsl_match.specs.Decisions.{Tree, Trees, row, on_case, on_word, on_flag, no_tree, tree_then}
 
 -- a row's number and pattern
 abbrev pub Row : Type 0

@@ -8,7 +8,7 @@ use Rattle.tsl_match.specs.Patterns.{Pat, Pats, any, flag_is, word_is, case_is, 
 use Rattle.tsl_match.specs.Shapes.{Types, cases_of}
 use Rattle.tsl_match.specs.Meets.{same_flag, bindings}
 use Rattle.tsl_match.specs.Picks.{Row}
-use Rattle.tsl_match.specs.Trees.{Tree, Trees, row, on_case, on_word, on_flag, no_tree, tree_then}
+use Rattle.tsl_match.specs.Decisions.{Tree, Trees, row, on_case, on_word, on_flag, no_tree, tree_then}
 use Rattle.tsl_match.specs.Knowledge.{Knowledge, Parts, unknown, flag_known, word_known, others, case_known, no_part, part_then, unknowns, put}
 
 abbrev pub is_among : ℕ → List ℕ → Bool

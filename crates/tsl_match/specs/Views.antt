@@ -6,11 +6,11 @@ use Rattle.tsl_match.specs.declared.pattern.Pattern.TheOpen.{Pattern-F}
 use Rattle.tsl_match.specs.declared.decision.Path.{Path}
 use Rattle.tsl_match.specs.declared.decision.Decision.{Decision, fold-Decision}
 use Rattle.tsl_match.specs.declared.decision.Decision.TheOpen.{Decision-F}
-use Rattle.tsl_match.specs.declared.known.Known.{Known, fold-Known}
-use Rattle.tsl_match.specs.declared.known.Known.TheOpen.{Known-F}
-use Rattle.tsl_match.specs.declared.known.Test.{Test}
-use Rattle.tsl_match.specs.declared.known.Test.TheVariants.{Flag, Word, Case}
-use Rattle.tsl_match.specs.declared.known.Found.{Found}
+use Rattle.tsl_match.specs.declared.knowledge.Known.{Known, fold-Known}
+use Rattle.tsl_match.specs.declared.knowledge.Known.TheOpen.{Known-F}
+use Rattle.tsl_match.specs.declared.knowledge.Test.{Test}
+use Rattle.tsl_match.specs.declared.knowledge.Test.TheVariants.{Flag, Word, Case}
+use Rattle.tsl_match.specs.declared.knowledge.Found.{Found}
 use Rattle.tsl_match.specs.declared.candidate.Candidate.{Candidate}
 use Rattle.tsl_match.specs.declared.step.Question.{Question}
 use Rattle.tsl_match.specs.Values.{Place}
@@ -18,7 +18,7 @@ use Rattle.tsl_match.specs.Picks.{Row}
 use Rattle.tsl_match.specs.Rule.{Test as Asked, Found as FoundAt, flag_test, word_test, case_test}
 use Rattle.tsl_match.specs.Shapes.{Types}
 use Rattle.tsl_match.specs.Patterns.{Pat, pats, any, bind, flag_is, word_is, case_is}
-use Rattle.tsl_match.specs.Trees.{Tree, trees, row, on_case, on_word, on_flag}
+use Rattle.tsl_match.specs.Decisions.{Tree, trees, row, on_case, on_word, on_flag}
 use Rattle.tsl_match.specs.Knowledge.{Knowledge, parts, unknown, flag_known, word_known, others, case_known}
 
 abbrev pub types : Sig → Types

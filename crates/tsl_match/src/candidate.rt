@@ -6,10 +6,10 @@ ghost use Rattle.tsl_match.specs.Knowledge.{others, put};
 ghost use Rattle.tsl_match.specs.Rule.{still};
 ghost use Rattle.tsl_match.specs.Views.{pat, knowledge, candidate};
 
-use crate::known::Known;
-use crate::learn::learn;
-use crate::may_match::may_match;
+use crate::can_match::can_match;
+use crate::knowledge::Known;
 use crate::pattern::Pattern;
+use crate::put::put;
 use std::alloc::{AllocError, Global};
 
 /// A row that is left.
@@ -35,7 +35,7 @@ pub fn candidates<'a>(alloc: Global, rows: &'a [Pattern]) -> Result<Vec<Candidat
 }
 
 /// The rows that can still match, in their order.
-pub fn keep_matching<'a>(
+pub fn still<'a>(
     alloc: Global,
     left: &[Candidate<'a>],
     known: &Known,
@@ -45,7 +45,7 @@ pub fn keep_matching<'a>(
 {
     let mut out = Vec::new(alloc);
     for row in left {
-        if may_match(row.pattern, known) {
+        if can_match(row.pattern, known) {
             out.push(*row)?;
         }
     }
@@ -54,7 +54,7 @@ pub fn keep_matching<'a>(
 
 /// The rows that can match where the word at a place isn't this number, whatever else was tested
 /// there before. Whether a row can match doesn't ask for the word's width.
-pub fn keep_others<'a>(
+pub fn still_others<'a>(
     alloc: Global,
     left: &[Candidate<'a>],
     known: &Known,
@@ -68,6 +68,6 @@ pub fn keep_others<'a>(
         width: 64,
         tested: vec![in alloc; value]?,
     };
-    let next = learn(alloc, known, at, &newest)?;
-    keep_matching(alloc, left, &next)
+    let next = put(alloc, known, at, &newest)?;
+    still(alloc, left, &next)
 }

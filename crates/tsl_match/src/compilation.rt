@@ -2,27 +2,28 @@
 
 ghost use Rattle.std.specs.Prelude.{◌≡◌, ℕ, ◌<◌, ◌≤◌, ◌^◌, [], ◌∷◌, map, length, All, IfOk, IfErr, OnOk, MatchResult};
 ghost use Rattle.tsl_match.specs.Shapes.{AreTypes, IsShape, Suits};
-ghost use Rattle.tsl_match.specs.Compiled.{IsTreeOf, PicksTheFirst, IsExhaustive, IsOfUse, IsRefusal};
+ghost use Rattle.tsl_match.specs.Compiled.{IsTreeOf, PicksTheFirst, IsExhaustive, IsOfUse, IsRefusal, Answers};
+ghost use Rattle.tsl_match.specs.Answers.{match_answer};
 ghost use Rattle.tsl_match.specs.Meets.{bindings};
-ghost use Rattle.tsl_match.specs.Trees.{row, trees};
+ghost use Rattle.tsl_match.specs.Decisions.{row, trees};
 ghost use Rattle.tsl_match.specs.Knowledge.{put};
-ghost use Rattle.tsl_match.specs.Questions.{AsksFirst, AsksFor, AsksWord, MayShow, IsStep};
+ghost use Rattle.tsl_match.specs.Steps.{AsksFirst, AsksFor, AsksWord, MayShow, IsStep};
 ghost use Rattle.tsl_match.specs.Limits.{CanAll, InLimits, PatInLimits, RowsInLimits, TypesInLimits};
 ghost use Rattle.tsl_match.specs.Rule.{still, IsTree, AreTrees};
 ghost use Rattle.tsl_match.specs.Refusals.{FailsWith};
 ghost use Rattle.tsl_match.specs.Views.{types, pat, tree, knowledge, candidate, test};
 
-use crate::binding::bind_all;
-use crate::candidate::{Candidate, candidates, keep_matching, keep_others};
+use crate::bindings::bindings;
+use crate::candidate::{Candidate, candidates, still, still_others};
 use crate::decision::{Decision, Path};
-use crate::example::as_pattern;
-use crate::find_test::find_test;
-use crate::known::{Found, Known, Test};
-use crate::learn::learn;
+use crate::example::example;
+use crate::first_test::first_test;
+use crate::knowledge::{Found, Known, Test};
 use crate::match_error::MatchError;
 use crate::names::first_unnamed;
-use crate::outcomes::answers;
+use crate::outcomes::outcomes;
 use crate::pattern::Pattern;
+use crate::put::put;
 use crate::shape::{Shape, Sig};
 use crate::step::{Question, Step, ask_first};
 use std::alloc::{AllocError, Global};
@@ -47,6 +48,7 @@ pub fn compile(
     ensures exhaustive { OnOk result (IsExhaustive (types sig.now) shape (map pat rows.now)) }
     ensures of_use { OnOk result ((r : ℕ) → r < length rows.now → IsOfUse (types sig.now) shape (map pat rows.now) r) }
     ensures refusal { IfErr result (IsRefusal (types sig.now) shape (map pat rows.now)) }
+    ensures answer { Answers result (match_answer (types sig.now) shape (map pat rows.now)) }
 {
     let left = candidates(alloc, rows)?;
     let decision = decide(alloc, sig, left, Known::Unknown(shape))?;
@@ -109,7 +111,7 @@ fn first_step<'a>(
 {
     let Some(first) = left.first() else {
         return Err(MatchError::NotExhaustive {
-            example: as_pattern(alloc, known)?,
+            example: example(alloc, known)?,
         });
     };
     let Some(
@@ -117,7 +119,7 @@ fn first_step<'a>(
             at: found,
             test: asked,
         },
-    ) = find_test(alloc, first.pattern, known)?
+    ) = first_test(alloc, first.pattern, known)?
     else {
         return Ok(Step::Settled(chosen(alloc, *first)?));
     };
@@ -144,7 +146,7 @@ fn step_by<'a>(
         (IsStep (types sig.now) (map candidate left.now) (knowledge known.now))
         (FailsWith (types sig.now) (map candidate left.now) (knowledge known.now)) }
 {
-    let outcomes = answers(alloc, sig, &asked)?;
+    let outcomes = outcomes(alloc, sig, &asked)?;
     match asked {
         Test::Word {
             width: _width,
@@ -184,8 +186,8 @@ fn step_by_word<'a>(
         (FailsWith (types sig.now) (map candidate left.now) (knowledge known.now)) }
 {
     let yes = after(alloc, sig, left, known, at.steps.as_slice(), &outcomes[0])?;
-    let next = learn(alloc, known, at.steps.as_slice(), &outcomes[1])?;
-    let still_left = keep_others(alloc, left, known, at.steps.as_slice(), value)?;
+    let next = put(alloc, known, at.steps.as_slice(), &outcomes[1])?;
+    let still_left = still_others(alloc, left, known, at.steps.as_slice(), value)?;
     Ok(Step::Asked {
         question: Question { at, value, yes },
         left: still_left,
@@ -238,8 +240,8 @@ fn after(
         (λ d. IsTree (types sig.now) (still (map candidate left.now) next) next (tree d))
         (FailsWith (types sig.now) (still (map candidate left.now) next) next) }
 {
-    let next = learn(alloc, known, at, there)?;
-    let still_left = keep_matching(alloc, left, &next)?;
+    let next = put(alloc, known, at, there)?;
+    let still_left = still(alloc, left, &next)?;
     decide(alloc, sig, still_left, next)
 }
 
@@ -249,7 +251,7 @@ fn chosen(alloc: Global, first: Candidate) -> Result<Decision, AllocError>
     ensures { IfOk result (λ d. tree d ≡ row first.entry.number (bindings [] (pat first.entry.pattern.now))) }
 {
     let mut binds = Vec::new(alloc);
-    bind_all(alloc, &[], first.pattern, &mut binds)?;
+    bindings(alloc, &[], first.pattern, &mut binds)?;
     Ok(Decision::Row {
         row: first.number,
         binds,

@@ -6,41 +6,41 @@ ghost use Rattle.tsl_match.specs.Knowledge.{parts as known_parts};
 ghost use Rattle.tsl_match.specs.Rule.{example, examples, least_other};
 ghost use Rattle.tsl_match.specs.Views.{pat, knowledge};
 
-use crate::known::Known;
+use crate::knowledge::Known;
 use crate::pattern::Pattern;
 use std::alloc::{AllocError, Global};
 
 /// The pattern of what is known; a word of which some numbers were tested is the least other.
-#[cycle(as_pattern)]
-pub fn as_pattern(alloc: Global, known: &Known) -> Result<Pattern, AllocError>
+#[cycle(example)]
+pub fn example(alloc: Global, known: &Known) -> Result<Pattern, AllocError>
     ensures { IfOk result (λ r. pat r ≡ example (knowledge known.now)) }
 {
     match known {
         Known::Unknown(_shape) => Ok(Pattern::Any),
         Known::Flag(value) => Ok(Pattern::Flag(*value)),
         Known::Word(value) => Ok(Pattern::Word(*value)),
-        Known::Others { width: _w, tested } => Ok(Pattern::Word(least_untested(tested))),
+        Known::Others { width: _w, tested } => Ok(Pattern::Word(least_other(tested))),
         Known::Made { case, parts } => Ok(Pattern::Case {
             case: *case,
-            parts: as_patterns(alloc, parts)?,
+            parts: examples(alloc, parts)?,
         }),
     }
 }
 
-#[cycle(as_pattern)]
-fn as_patterns(alloc: Global, fields: &[Known]) -> Result<Vec<Pattern>, AllocError>
+#[cycle(example)]
+fn examples(alloc: Global, fields: &[Known]) -> Result<Vec<Pattern>, AllocError>
     ensures { IfOk result
         (λ r. pats (map pat r.items) ≡ examples (known_parts (map knowledge fields.now))) }
 {
     let mut out = Vec::new(alloc);
     for field in fields {
-        out.push(as_pattern(alloc, field)?)?;
+        out.push(example(alloc, field)?)?;
     }
     Ok(out)
 }
 
 /// The least number that isn't among these.
-fn least_untested(tested: &[u64]) -> u64
+fn least_other(tested: &[u64]) -> u64
     ensures { result ≡ least_other tested.now }
 {
     for n in 0..tested.len() as u64 {

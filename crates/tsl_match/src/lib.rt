@@ -86,20 +86,20 @@
 //! useless rows and examples of values that aren't matched.
 #![tactic(auto)]
 
-mod binding;
+mod bindings;
+mod can_match;
 mod candidate;
 mod compilation;
 mod decision;
 mod example;
-mod find_test;
-mod known;
+mod first_test;
+mod knowledge;
 pub mod laws;
-mod learn;
 mod match_error;
-mod may_match;
 mod names;
 mod outcomes;
 mod pattern;
+mod put;
 mod shape;
 mod step;
 

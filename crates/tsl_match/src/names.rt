@@ -1,8 +1,8 @@
 //! Which rows a decision may choose.
 
 ghost use Rattle.std.specs.Prelude.{◌≡◌, ℕ, ◌<◌, ◌==◌, ◌||◌, true, false, map, length, slice_index_or, IfOk, MatchOption};
-ghost use Rattle.tsl_match.specs.Trees.{trees};
-ghost use Rattle.tsl_match.specs.Useless.{names, some_names};
+ghost use Rattle.tsl_match.specs.Decisions.{trees};
+ghost use Rattle.tsl_match.specs.Names.{names, some_names};
 ghost use Rattle.tsl_match.specs.Views.{tree};
 
 use crate::decision::Decision;

@@ -6,12 +6,12 @@ ghost use Rattle.tsl_match.specs.Knowledge.{unknown};
 ghost use Rattle.tsl_match.specs.Rule.{outcomes, made_known};
 ghost use Rattle.tsl_match.specs.Views.{types, knowledge, test};
 
-use crate::known::{Known, Test};
+use crate::knowledge::{Known, Test};
 use crate::shape::{Shape, Sig};
 use std::alloc::{AllocError, Global};
 
 /// What is known of the tested value after each answer, in the order of a decision's branches.
-pub fn answers(alloc: Global, sig: &Sig, asked: &Test) -> Result<Vec<Known>, AllocError>
+pub fn outcomes(alloc: Global, sig: &Sig, asked: &Test) -> Result<Vec<Known>, AllocError>
     requires { (t : ℕ) → length (cases_of (types sig.now) t) < 2 ^ 32 }
     ensures { IfOk result (λ r. map knowledge r.items ≡ outcomes (types sig.now) (test asked.now)) }
 {
@@ -31,7 +31,7 @@ pub fn answers(alloc: Global, sig: &Sig, asked: &Test) -> Result<Vec<Known>, All
             two(alloc, Known::Word(*value), others)
         }
         Test::Case(t) => match sig.datas.get(*t as usize) {
-            Some(cases) => made(alloc, cases),
+            Some(cases) => made_known(alloc, cases),
             None => Ok(Vec::new(alloc)),
         },
     }
@@ -48,7 +48,7 @@ fn two(alloc: Global, first: Known, second: Known) -> Result<Vec<Known>, AllocEr
 }
 
 /// Each of these constructors, as what is known.
-fn made(alloc: Global, cases: &[Vec<Shape>]) -> Result<Vec<Known>, AllocError>
+fn made_known(alloc: Global, cases: &[Vec<Shape>]) -> Result<Vec<Known>, AllocError>
     requires { length cases.now < 2 ^ 32 }
     ensures { IfOk result (λ r. map knowledge r.items ≡ made_known 0 (map (λ c. c.items) cases.now)) }
 {

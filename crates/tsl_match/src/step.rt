@@ -1,13 +1,13 @@
 //! Steps of the compilation.
 
 ghost use Rattle.std.specs.Prelude.{◌≡◌, map, IfOk};
-ghost use Rattle.tsl_match.specs.Trees.{on_word};
-ghost use Rattle.tsl_match.specs.Questions.{asked_first};
+ghost use Rattle.tsl_match.specs.Decisions.{on_word};
+ghost use Rattle.tsl_match.specs.Steps.{asked_first};
 ghost use Rattle.tsl_match.specs.Views.{tree, question};
 
 use crate::candidate::Candidate;
 use crate::decision::{Decision, Path};
-use crate::known::Known;
+use crate::knowledge::Known;
 use std::alloc::{AllocError, Global};
 
 /// Whether the word at a place is a number, and what follows where it is.

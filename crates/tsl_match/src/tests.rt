@@ -7,7 +7,7 @@ use std::test::Fail;
 
 /// Types: 0 is a choice of nothing, a truth value or a byte and a truth value; 1 a pair of truth
 /// values; 2 a pair of type 1 and a byte; 3 a pair of type 2 and a bit; 4 has three constructors
-/// without fields.
+/// without fields; 5 has a truth value, a byte and a truth value.
 fn declared(alloc: Global) -> Result<Sig, AllocError> {
     let none = Vec::new(alloc);
     let one = vec![in alloc; Shape::Bool]?;
@@ -17,8 +17,10 @@ fn declared(alloc: Global) -> Result<Sig, AllocError> {
     let inner = vec![in alloc; vec![in alloc; Shape::Data(1), Shape::Word(8)]?]?;
     let outer = vec![in alloc; vec![in alloc; Shape::Data(2), Shape::Word(1)]?]?;
     let colours = vec![in alloc; Vec::new(alloc), Vec::new(alloc), Vec::new(alloc)]?;
+    let fields = vec![in alloc; Shape::Bool, Shape::Word(8), Shape::Bool]?;
+    let triple = vec![in alloc; fields]?;
     Ok(Sig {
-        datas: vec![in alloc; choice, flags, inner, outer, colours]?,
+        datas: vec![in alloc; choice, flags, inner, outer, colours, triple]?,
     })
 }
 
@@ -40,6 +42,19 @@ fn case2(alloc: Global, case: u32, first: Pattern, second: Pattern) -> Result<Pa
     Ok(Pattern::Case {
         case,
         parts: vec![in alloc; first, second]?,
+    })
+}
+
+/// A value of type 5.
+fn triple(
+    alloc: Global,
+    first: Pattern,
+    second: Pattern,
+    third: Pattern,
+) -> Result<Pattern, AllocError> {
+    Ok(Pattern::Case {
+        case: 0,
+        parts: vec![in alloc; first, second, third]?,
     })
 }
 
@@ -238,6 +253,30 @@ fn answers_follow_the_rule(rt: HostRuntime) -> Result<(), Fail> {
     Ok(())
 }
 
+/// The second field first, then the third, and the first for the row that names it.
+#[test]
+fn three_fields(rt: HostRuntime) -> Result<(), Fail> {
+    let a = rt.alloc();
+    let sig = declared(a)?;
+    let third_false = triple(a, Pattern::Any, Pattern::Word(5), Pattern::Flag(false))?;
+    let first_true = triple(a, Pattern::Flag(true), Pattern::Any, Pattern::Bind(4))?;
+    let rows = vec![in a; third_false, first_true, Pattern::Bind(3)]?;
+    let found = answer(a, &sig, Shape::Data(5), &rows)?;
+    assert_eq!(rt;
+        found.as_str(),
+        "(case  (/0.1=5 (flag /0.2 (flag /0.0 1 4@/0.2 2 3@) 0) (flag /0.0 1 4@/0.2 2 3@)))"
+    );
+    let first_true = triple(a, Pattern::Flag(true), Pattern::Any, Pattern::Any)?;
+    let second_0 = triple(a, Pattern::Any, Pattern::Word(0), Pattern::Any)?;
+    let rows = vec![in a; first_true, second_0]?;
+    let found = answer(a, &sig, Shape::Data(5), &rows)?;
+    assert_eq!(rt;
+        found.as_str(),
+        "unmatched Case { case: 0, parts: [Flag(false), Word(1), Any] }"
+    );
+    Ok(())
+}
+
 /// A type of 200 constructors without fields, and a row for each.
 #[test]
 fn two_hundred_rows(rt: HostRuntime) -> Result<(), Fail> {
@@ -257,6 +296,14 @@ fn two_hundred_rows(rt: HostRuntime) -> Result<(), Fail> {
     assert!(rt; found.as_str().starts_with("(case  0 1 2 3"));
     assert!(rt; found.as_str().ends_with(" 198 199)"));
     Ok(())
+}
+
+/// A row without variables.
+fn leaf(alloc: Global, row: u32) -> Decision {
+    Decision::Row {
+        row,
+        binds: Vec::new(alloc),
+    }
 }
 
 /// The row of the leaf where each answer is no.
@@ -298,5 +345,22 @@ fn many_literals(rt: HostRuntime) -> Result<(), Fail> {
     rows.push(Pattern::Any)?;
     let found = compiled_last_row(a, &sig, Shape::Word(32), &rows);
     assert_eq!(rt; found, Some(8000));
+    Ok(())
+}
+
+/// A decision of more questions, one below the other, than there is stack for.
+#[test]
+fn long_decisions_are_dropped(rt: HostRuntime) -> Result<(), Fail> {
+    let a = rt.alloc();
+    let mut decision = leaf(a, 0);
+    for n in 0..400_000u64 {
+        decision = Decision::OnWord {
+            at: Path { steps: Vec::new(a) },
+            value: n,
+            yes: Box::new(a, leaf(a, 1))?,
+            no: Box::new(a, decision)?,
+        };
+    }
+    assert_eq!(rt; last_row(&decision), Some(0));
     Ok(())
 }

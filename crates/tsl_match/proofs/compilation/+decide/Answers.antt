@@ -2,10 +2,10 @@ use Rattle.std.proofs.Common.{◌≡◌, ◌+◌, ◌<◌, [], ◌∷◌, ◌++�
 use Rattle.std.proofs.lemmas.Result.{err_from_is_err_and}
 use Rattle.std.proofs.lemmas.List.{map-append, length-map}
 use Rattle.tsl_match.specs.declared.step.Step.TheVariants.{Asked}
-use Rattle.tsl_match.specs.Trees.{trees}
+use Rattle.tsl_match.specs.Decisions.{trees}
 use Rattle.tsl_match.specs.Knowledge.{others, put}
 use Rattle.tsl_match.specs.Rule.{flag_test, still, outcomes, example, IsTree, no_row}
-use Rattle.tsl_match.specs.Questions.{IsStep, AsksWord, MayShow}
+use Rattle.tsl_match.specs.Steps.{IsStep, AsksWord, MayShow}
 use Rattle.tsl_match.specs.Refusals.{FailsWith}
 use Rattle.tsl_match.specs.Views.{types, tree, knowledge, candidate, pat, question}
 use Rattle.tsl_match.proofs.Weight.{total}
@@ -92,7 +92,7 @@ decide-loop-questions-preserved t c =
 pub first_step-returns-in_default : goal.first_step-returns-in_default
 first_step-returns-in_default t c =
     let rows = no_rows c.args.left.now c.in_default.ensures.value in
-    let is : pat c.in_ok-as_pattern.field-0 ≡ example (knowledge c.args.known.now) = search rules in
+    let is : pat c.in_ok-example.field-0 ≡ example (knowledge c.args.known.now) = search rules in
     rw (rows, is) (no_row (knowledge c.args.known.now))
 
 pub step_by-fork-requires : goal.step_by-fork-requires

@@ -1,8 +1,8 @@
 use Rattle.std.proofs.Common.{◌+◌, ◌*◌, ◌≤◌, map, take}
 use Rattle.tsl_match.specs.declared.match_error.MatchError.{MatchError}
-use Rattle.tsl_match.specs.Trees.{Tree, trees}
+use Rattle.tsl_match.specs.Decisions.{Tree, trees}
 use Rattle.tsl_match.specs.Rule.{IsTree, AreTrees}
-use Rattle.tsl_match.specs.Questions.{asked_first}
+use Rattle.tsl_match.specs.Steps.{asked_first}
 use Rattle.tsl_match.specs.Refusals.{FailsWith}
 use Rattle.tsl_match.specs.Limits.{RowsInLimits, InLimits, CanAll}
 use Rattle.tsl_match.specs.Views.{types, tree, knowledge, candidate, question}

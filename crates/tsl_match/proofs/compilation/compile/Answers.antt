@@ -1,7 +1,7 @@
 use Rattle.std.proofs.Common.{◌≡◌, map, rules}
 use Rattle.std.proofs.lemmas.Result.{err_from_is_err_and}
 use Rattle.std.proofs.lemmas.List.{length-map}
-use Rattle.tsl_match.specs.declared.known.Known.{Unknown}
+use Rattle.tsl_match.specs.declared.knowledge.Known.{Unknown}
 use Rattle.tsl_match.specs.Picks.{numbered}
 use Rattle.tsl_match.specs.Rule.{IsTree}
 use Rattle.tsl_match.specs.Refusals.{FailsWith}
@@ -9,6 +9,7 @@ use Rattle.tsl_match.specs.Compiled.{IsTreeOf}
 use Rattle.tsl_match.specs.Views.{types, pat, tree, knowledge, candidate}
 use Rattle.tsl_match.proofs.Granted.{types_limits, rows_suit, rows_limits, can_all_unknown, known_Unknown}
 use Rattle.tsl_match.proofs.Answering.{picks_first, exhaustive, of_use, no_use, refused}
+use Rattle.tsl_match.proofs.Enough.{answer_tree, answer_useless, answer_refused}
 use Rattle.tsl_match.proofs.compilation.compile.Goals as goal
 
 pub decide-requires-clause-sig : goal.decide-requires-clause-sig
@@ -73,3 +74,29 @@ returns-in-None-clause-of_use c =
     rw (known_Unknown c.args.shape) at (rw rows at here) in
     let h = rw c.in-None.is at c.in_ok-row.ensures in
     λ r l. of_use (types c.args.sig.now) c.requires.types c.args.shape c.requires.shape (map pat c.args.rows.now) suit (tree c.in_ok-decision.decision) r is (h r l)
+
+pub returns-in_err-decision-clause-answer : goal.returns-in_err-decision-clause-answer
+returns-in_err-decision-clause-answer c =
+    let rows : map candidate c.in_ok-left.left.items ≡ numbered 0 (map pat c.args.rows.now) = search rules in
+    let p = err_from_is_err_and c.from_residual-in_err-decision.result c.from_residual-in_err-decision.ensures.1 in
+    let deeper : FailsWith (types c.args.sig.now) (map candidate c.in_ok-left.left.items) (knowledge (Unknown c.args.shape)) c.in_err-decision.field-0.0 = c.in_err-decision.ensures in
+    let fails = rw (known_Unknown c.args.shape) at (rw rows at deeper) in
+    rw (p.1, p.2) (answer_refused (types c.args.sig.now) c.args.shape (map pat c.args.rows.now) c.in_err-decision.field-0.0 fails)
+
+pub returns-in-Some-clause-answer : goal.returns-in-Some-clause-answer
+returns-in-Some-clause-answer c =
+    let is : IsTreeOf (types c.args.sig.now) c.args.shape (map pat c.args.rows.now) (tree c.in_ok-decision.decision) =
+    let rows : map candidate c.in_ok-left.left.items ≡ numbered 0 (map pat c.args.rows.now) = search rules in
+    let here : IsTree (types c.args.sig.now) (map candidate c.in_ok-left.left.items) (knowledge (Unknown c.args.shape)) (tree c.in_ok-decision.decision) = c.in_ok-decision.ensures in
+    rw (known_Unknown c.args.shape) at (rw rows at here) in
+    let h = rw c.in-Some.is at c.in_ok-row.ensures in
+    answer_useless (types c.args.sig.now) c.args.shape (map pat c.args.rows.now) (tree c.in_ok-decision.decision) c.in-Some.row is (rw length-map h.0) h.1 h.2
+
+pub returns-in-None-clause-answer : goal.returns-in-None-clause-answer
+returns-in-None-clause-answer c =
+    let is : IsTreeOf (types c.args.sig.now) c.args.shape (map pat c.args.rows.now) (tree c.in_ok-decision.decision) =
+    let rows : map candidate c.in_ok-left.left.items ≡ numbered 0 (map pat c.args.rows.now) = search rules in
+    let here : IsTree (types c.args.sig.now) (map candidate c.in_ok-left.left.items) (knowledge (Unknown c.args.shape)) (tree c.in_ok-decision.decision) = c.in_ok-decision.ensures in
+    rw (known_Unknown c.args.shape) at (rw rows at here) in
+    let h = rw c.in-None.is at c.in_ok-row.ensures in
+    answer_tree (types c.args.sig.now) c.args.shape (map pat c.args.rows.now) (tree c.in_ok-decision.decision) is (λ r l. h r (rw length-map at l))

@@ -1,8 +1,8 @@
 use Rattle.std.proofs.Common.{◌≡◌, ℕ, ◌<◌, ◌≤◌, ◌||◌, false, length, map, drop, slice_index_or}
 use Rattle.tsl_match.specs.declared.decision.Decision.{size-Decision}
-use Rattle.tsl_match.specs.Trees.{trees}
+use Rattle.tsl_match.specs.Decisions.{trees}
 use Rattle.tsl_match.specs.Views.{tree}
-use Rattle.tsl_match.specs.Useless.{names, some_names}
+use Rattle.tsl_match.specs.Names.{names, some_names}
 use Rattle.tsl_match.proofs.names.+mark_named.Given as goal
 
 abbrev pub invariant-mark_named-loop-rest : goal.invariant-mark_named-loop-rest

@@ -1,6 +1,6 @@
 use Rattle.std.proofs.Common.{◌≡◌, ℕ, ◌<◌, true}
 use Rattle.tsl_match.specs.Views.{tree}
-use Rattle.tsl_match.specs.Useless.{names}
+use Rattle.tsl_match.specs.Names.{names}
 use Rattle.tsl_match.proofs.names.first_unnamed.Given as goal
 
 abbrev pub invariant-loop-row : goal.invariant-loop-row

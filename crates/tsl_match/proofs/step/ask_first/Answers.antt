@@ -1,7 +1,7 @@
 use Rattle.std.proofs.Common.{◌≡◌, [], ◌∷◌, ◌++◌, map, rules, sym, ap, ◌∙◌}
 use Rattle.std.proofs.lemmas.List.{map-append}
-use Rattle.tsl_match.specs.Trees.{on_word}
-use Rattle.tsl_match.specs.Questions.{asked_first}
+use Rattle.tsl_match.specs.Decisions.{on_word}
+use Rattle.tsl_match.specs.Steps.{asked_first}
 use Rattle.tsl_match.specs.Views.{tree, question}
 use Rattle.tsl_match.proofs.Nodes.{asked_last}
 use Rattle.tsl_match.proofs.step.ask_first.Goals as goal

@@ -1,5 +1,5 @@
 use Rattle.std.proofs.Common.{◌≡◌, map, length}
-use Rattle.tsl_match.specs.Questions.{asked_first}
+use Rattle.tsl_match.specs.Steps.{asked_first}
 use Rattle.tsl_match.specs.Views.{tree, question}
 use Rattle.tsl_match.proofs.step.ask_first.Given as goal
 

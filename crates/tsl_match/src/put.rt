@@ -1,0 +1,84 @@
+//! What is known after a test.
+
+ghost use Rattle.std.specs.Prelude.{◌≡◌, map, IfOk};
+ghost use Rattle.tsl_match.specs.Knowledge.{parts as known_parts, put, put_part};
+ghost use Rattle.tsl_match.specs.Views.{knowledge};
+
+use crate::knowledge::Known;
+use std::alloc::{AllocError, Global};
+
+/// The same once more.
+#[cycle(copy)]
+fn copy(alloc: Global, known: &Known) -> Result<Known, AllocError>
+    ensures { IfOk result (λ r. knowledge r ≡ knowledge known.now) }
+{
+    match known {
+        Known::Unknown(shape) => Ok(Known::Unknown(*shape)),
+        Known::Flag(value) => Ok(Known::Flag(*value)),
+        Known::Word(value) => Ok(Known::Word(*value)),
+        Known::Others { width, tested } => Ok(Known::Others {
+            width: *width,
+            tested: Vec::from_slice(alloc, tested)?,
+        }),
+        Known::Made { case, parts } => Ok(Known::Made {
+            case: *case,
+            parts: copies(alloc, parts)?,
+        }),
+    }
+}
+
+#[cycle(copy)]
+fn copies(alloc: Global, parts: &[Known]) -> Result<Vec<Known>, AllocError>
+    ensures { IfOk result (λ r. map knowledge r.items ≡ map knowledge parts.now) }
+{
+    let mut out = Vec::new(alloc);
+    for part in parts {
+        out.push(copy(alloc, part)?)?;
+    }
+    Ok(out)
+}
+
+/// What is known once `there` is known at a place.
+#[cycle(put)]
+pub fn put(
+    alloc: Global,
+    known: &Known,
+    at: &[(u32, u32)],
+    there: &Known,
+) -> Result<Known, AllocError>
+    ensures { IfOk result (λ r. knowledge r ≡ put (knowledge known.now) at.now (knowledge there.now)) }
+{
+    let Some((step, rest)) = at.split_first() else {
+        return copy(alloc, there);
+    };
+    match known {
+        Known::Made { case, parts } => Ok(Known::Made {
+            case: *case,
+            parts: put_part(alloc, parts, step.1, rest, there)?,
+        }),
+        _ => copy(alloc, known),
+    }
+}
+
+/// The same of the fields of a constructor, where `at` is a place in field `field`.
+#[cycle(put)]
+fn put_part(
+    alloc: Global,
+    parts: &[Known],
+    field: u32,
+    at: &[(u32, u32)],
+    there: &Known,
+) -> Result<Vec<Known>, AllocError>
+    ensures { IfOk result
+        (λ r. known_parts (map knowledge r.items) ≡ put_part (known_parts (map knowledge parts.now)) field at.now (knowledge there.now)) }
+{
+    let mut out = Vec::new(alloc);
+    for (i, part) in parts.iter().enumerate() {
+        if i == field as usize {
+            out.push(put(alloc, part, at, there)?)?;
+        } else {
+            out.push(copy(alloc, part)?)?;
+        }
+    }
+    Ok(out)
+}
