@@ -1,9 +1,0 @@
-mod Calls
-mod Digits
-mod Exists
-mod Numbers
-mod OneLine
-mod Owing
-mod Sources
-mod Unique
-mod WordLists

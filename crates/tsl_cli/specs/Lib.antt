@@ -1,15 +1,1 @@
-pub mod Answering
-pub mod Call
-pub mod Calling
-pub mod Commands
-pub mod Laws
-pub mod Lines
-pub mod Numbers
-pub mod OneLine
-pub mod Output
-pub mod Owed
-pub mod Reading
-pub mod Refusals
-pub mod Sources
-pub mod Statuses
-pub mod Words
+pub mod Codes

@@ -1,26 +1,16 @@
-//! The program: it answers what its words ask for.
+//! The program: it answers what its words ask for. All that it does is in `tsl_run`; here are the words, the files, standard
+//! output and the exit status, which is proved to be that of the run (`exit_code`).
 #![tactic(auto)]
 
-mod answer;
-mod call;
-mod laws;
-mod lines;
-mod number;
-mod refusal;
-mod run;
-mod source;
-mod spec_fault;
-mod status;
-#[cfg(test)]
-mod tests;
-mod words;
+ghost use Rattle.std.specs.Prelude.{◌≡◌};
+ghost use Rattle.tsl_cli.specs.Codes.{code_of};
 
-use status::Status;
 use std::io::ErrorKind;
 use std::process::ExitCode;
 use std::rt::Env;
 use std::{env, io};
 use tsl_io::{FileInputs, StdSink};
+use tsl_run::{Status, run};
 
 /// The exit status where an argument is no text.
 const NOT_TEXT: u8 = 70;
@@ -30,17 +20,26 @@ fn arguments(rt: &(impl Env + AllocGlobal)) -> io::Result<Vec<String>> {
     Ok(env::args(rt)?.skip(1).collect(rt.alloc())?)
 }
 
+/// The exit status of a run, or of a program without words.
+fn exit_code(ended: Result<Status, ErrorKind>) -> u8
+    ensures { result ≡ code_of ended }
+{
+    match ended {
+        Ok(status) => status.code(),
+        Err(ErrorKind::OutOfMemory) => Status::NoMemory.code(),
+        Err(_) => NOT_TEXT,
+    }
+}
+
 fn main(rt: HostRuntime) -> ExitCode {
-    let code = match arguments(&rt) {
-        Ok(words) => run::run(
+    let ended = match arguments(&rt) {
+        Ok(words) => Ok(run(
             rt.alloc(),
             &words,
             &mut FileInputs::new(&rt),
             &mut StdSink::new(&rt),
-        )
-        .code(),
-        Err(error) if error.kind() == ErrorKind::OutOfMemory => Status::NoMemory.code(),
-        Err(_) => NOT_TEXT,
+        )),
+        Err(error) => Err(error.kind()),
     };
-    ExitCode::from(code)
+    ExitCode::from(exit_code(ended))
 }

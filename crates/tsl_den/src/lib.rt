@@ -16,6 +16,3 @@ pub use functions::{function_named, parameters};
 pub use laws::accepted_functions_have_values;
 pub use limits::{INT32_WIDTH, MOST_FUNCTIONS, MOST_PARAMETERS, MOST_WIDTH};
 pub use rules::first_form;
-
-#[cfg(test)]
-mod tests;

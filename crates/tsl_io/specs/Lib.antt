@@ -2,9 +2,11 @@ pub mod Append
 pub mod FailingCalls
 pub mod Faults
 pub mod FileList
+pub mod InputState
 pub mod MemInputs
 pub mod MemSink
 pub mod NamedFiles
-pub mod Sink
+pub mod SinkState
+pub mod SureInputs
 pub mod SureSink
 pub mod WholeRead

@@ -1,5 +1,8 @@
 -- How inputs in memory stand.
-use Rattle.std.specs.Prelude.{ℕ}
+use Rattle.std.specs.Prelude.{true, ◌==◌, is_some, length}
+use Rattle.tsl_io.specs.FailingCalls.{sure_names}
+use Rattle.tsl_io.specs.InputState.{InputState}
+use Rattle.tsl_io.specs.NamedFiles.{held_in, open_in, left_in}
 use Rattle.tsl_io.specs.declared.failing_calls.FailingCalls.{FailingCalls}
 use Rattle.tsl_io.specs.declared.mem_inputs.MemInputs.{MemInputs}
 use Rattle.tsl_io.specs.declared.named_files.NamedFiles.{NamedFiles}
@@ -12,6 +15,13 @@ files_of inputs = inputs.files
 abbrev pub calls_of : MemInputs → FailingCalls
 calls_of inputs = inputs.calls
 
--- how many faults were counted
-abbrev pub faults_of : MemInputs → ℕ
-faults_of inputs = inputs.faults
+abbrev pub state_of : MemInputs → InputState
+state_of inputs = record {
+  tells = true;
+  held = held_in inputs.files;
+  is_open = is_some (open_in inputs.files);
+  left = left_in inputs.files;
+  faults = inputs.faults;
+  sure = sure_names inputs.calls (held_in inputs.files);
+  is_open_sure = length inputs.calls.fail.items == 0;
+}

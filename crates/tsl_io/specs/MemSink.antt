@@ -1,6 +1,7 @@
 -- How a sink in memory stands.
-use Rattle.std.specs.Prelude.{ℕ, Vec}
+use Rattle.std.specs.Prelude.{ℕ, Vec, true}
 use Rattle.std.specs.declared.alloc.Global.{Global}
+use Rattle.tsl_io.specs.SinkState.{SinkState}
 use Rattle.tsl_io.specs.declared.failing_calls.FailingCalls.{FailingCalls}
 use Rattle.tsl_io.specs.declared.mem_sink.MemSink.{MemSink}
 
@@ -16,6 +17,6 @@ calls_of sink = sink.calls
 abbrev pub most_of : MemSink → ℕ
 most_of sink = sink.most
 
--- how many faults were counted
-abbrev pub faults_of : MemSink → ℕ
-faults_of sink = sink.faults
+-- no bytes are sure to be taken
+abbrev pub state_of : MemSink → SinkState
+state_of sink = record { tells = true; written = sink.bytes.items; faults = sink.faults; room = 0 }

@@ -1,11 +1,13 @@
 //! The files of the file system as inputs.
 //!
-//! No contract can tell what a file holds, so a body that found every file empty would be proved as well. What
-//! real files give is shown by a test, and by the stored run of the program.
+//! `read_front` does the work, and its contract says which bytes of a reader it hands on. What a file gives
+//! to its reader no contract can tell: that is shown by a test, and by the stored run of the program.
 
-ghost use Rattle.std.specs.Prelude.{◌≡◌, false, [], None, is_some};
+ghost use Rattle.std.specs.Prelude.{◌≡◌, ◌<◌, ◌≤◌, false, [], None, is_some, length, IfOk, OnOk, OnErr};
 ghost use Rattle.std.specs.Bool.{IsFalse};
+ghost use Rattle.std.specs.Io.KnownBytes.{ReadConsumes};
 ghost use Rattle.std.proofs.Common.{rules};
+ghost use Rattle.tsl_io.specs.Faults.{RoseByOne};
 
 use crate::whole_read::PIECE;
 use crate::{Failed, Inputs};
@@ -24,8 +26,8 @@ pub struct FileInputs<'a, R: Files> {
 impl<'a, R: Files> FileInputs<'a, R> {
     /// The files that `rt` reaches, none of them open.
     pub fn new(rt: &'a R) -> FileInputs<'a, R>
-        ensures closed { IsFalse (⟦<FileInputs<'a, R> as Inputs>⟧.is_open result) }
-        ensures faults { ⟦<FileInputs<'a, R> as Inputs>⟧.faults result ≡ 0 }
+        ensures closed { IsFalse (⟦<FileInputs<'a, R> as Inputs>⟧.state result).is_open }
+        ensures faults { (⟦<FileInputs<'a, R> as Inputs>⟧.state result).faults ≡ 0 }
     {
         FileInputs {
             rt,
@@ -36,19 +38,15 @@ impl<'a, R: Files> FileInputs<'a, R> {
 }
 
 impl<R: Files> Inputs for FileInputs<'_, R> {
-    ghost tells = { λ _. false };
-
-    ghost held = { λ _ _. None };
-
-    ghost is_open = { λ inputs. is_some inputs.file };
-
-    ghost left = { λ _. [] };
-
-    ghost faults = { λ inputs. inputs.faults };
-
-    ghost sure = { λ _ _. false };
-
-    ghost is_open_sure = { λ _. false };
+    ghost state = { λ inputs. record {
+      tells = false;
+      held = λ _. None;
+      is_open = is_some inputs.file;
+      left = [];
+      faults = inputs.faults;
+      sure = λ _. false;
+      is_open_sure = false;
+    } };
 
     ghost sure_is_held = { Prim.search rules };
 
@@ -65,18 +63,32 @@ impl<R: Files> Inputs for FileInputs<'_, R> {
         let Some(file) = &mut self.file else {
             unreachable!()
         };
-        // What a failed read leaves in the bytes that it was lent is not known, so these are its own.
-        let mut piece = [0u8; PIECE];
-        let lent = buf.len().min(PIECE);
-        match file.read(&mut piece[..lent]) {
-            Ok(count) => {
-                buf[..count].copy_from_slice(&piece[..count]);
-                Ok(count)
-            }
-            Err(_) => {
-                self.faults = self.faults.saturating_add(1);
-                Err(Failed)
-            }
+        read_front(file, buf, &mut self.faults)
+    }
+}
+
+/// Reads a piece of what the reader has left into the front of `buf`, and answers how many bytes it has. Where this
+/// fails a fault is counted, and `buf` is as it was.
+fn read_front<R: Read>(reader: &mut R, buf: &mut [u8], faults: &mut u64) -> Result<usize, Failed>
+    requires { 0 < length buf.old }
+    ensures within { IfOk result (λ count. count ≤ length buf.new) }
+    ensures bytes { ReadConsumes (R.remaining reader.old) (R.remaining reader.new) result buf.new }
+    ensures faults { faults.old ≤ faults.new }
+    ensures no_fault { OnOk result (faults.new ≡ faults.old) }
+    ensures fault { OnErr result (RoseByOne faults.old faults.new) }
+    ensures unchanged { OnErr result (buf.new ≡ buf.old) }
+{
+    // What a failed read leaves in the bytes that it was lent is not known, so these are its own.
+    let mut piece = [0u8; PIECE];
+    let lent = buf.len().min(PIECE);
+    match reader.read(&mut piece[..lent]) {
+        Ok(count) => {
+            buf[..count].copy_from_slice(&piece[..count]);
+            Ok(count)
+        }
+        Err(_) => {
+            *faults = faults.saturating_add(1);
+            Err(Failed)
         }
     }
 }

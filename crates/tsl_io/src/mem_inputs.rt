@@ -1,12 +1,13 @@
 //! Inputs in memory that fail where they are told to.
 
-ghost use Rattle.std.specs.Prelude.{◌≡◌, ◌==◌, ◌↔◌, ◌⊎◌, ◌<◌, ◌≤◌, ◌++◌, [], if◌then◌else◌, true, None, is_some, is_ok, min, take, IfOk, OnErr, IsErr, IsTrue, length, unwrap_or, IsOkAnd};
+ghost use Rattle.std.specs.Prelude.{◌≡◌, ◌↔◌, ◌⊎◌, ◌<◌, ◌≤◌, ◌++◌, [], if◌then◌else◌, None, is_some, is_ok, min, take, IfOk, OnErr, IsErr, IsTrue, length, IsOkAnd};
 ghost use Rattle.std.specs.Bool.{IsFalse};
 ghost use Rattle.tsl_io.specs.FileList.{first_file};
 ghost use Rattle.tsl_io.specs.FailingCalls.{FailsNext, GoesOn, sure_names};
-ghost use Rattle.tsl_io.specs.MemInputs.{files_of, calls_of, faults_of};
-ghost use Rattle.tsl_io.specs.NamedFiles.{held_in, open_in, left_in};
 ghost use Rattle.tsl_io.specs.Faults.{counted};
+ghost use Rattle.tsl_io.specs.InputState.{InputsKept, StillOpen};
+ghost use Rattle.tsl_io.specs.MemInputs.{files_of, calls_of, state_of};
+ghost use Rattle.tsl_io.specs.NamedFiles.{held_in, open_in, left_in};
 ghost use Rattle.std.proofs.Common.{rules};
 
 use crate::failing_calls::FailingCalls;
@@ -31,12 +32,12 @@ impl MemInputs {
         files: Vec<(String, Vec<u8>)>,
         fail: Vec<u32>,
     ) -> Result<MemInputs, AllocError>
-        ensures tells { IsOkAnd result (λ inputs. IsTrue (⟦<MemInputs as Inputs>⟧.tells inputs)) }
-        ensures held { IsOkAnd result (λ inputs. ⟦<MemInputs as Inputs>⟧.held inputs ≡ first_file files.items) }
-        ensures sure { IsOkAnd result (λ inputs. ⟦<MemInputs as Inputs>⟧.sure inputs ≡ sure_names (calls_of inputs) (first_file files.items)) }
+        ensures tells { IsOkAnd result (λ inputs. IsTrue (⟦<MemInputs as Inputs>⟧.state inputs).tells) }
+        ensures held { IsOkAnd result (λ inputs. (⟦<MemInputs as Inputs>⟧.state inputs).held ≡ first_file files.items) }
+        ensures sure { IsOkAnd result (λ inputs. (⟦<MemInputs as Inputs>⟧.state inputs).sure ≡ sure_names (calls_of inputs) (first_file files.items)) }
         ensures calls { IsOkAnd result (λ inputs. calls_of inputs ≡ record { fail = fail; next = 0 }) }
-        ensures closed { IsOkAnd result (λ inputs. IsFalse (⟦<MemInputs as Inputs>⟧.is_open inputs)) }
-        ensures faults { IsOkAnd result (λ inputs. ⟦<MemInputs as Inputs>⟧.faults inputs ≡ 0) }
+        ensures closed { IsOkAnd result (λ inputs. IsFalse (⟦<MemInputs as Inputs>⟧.state inputs).is_open) }
+        ensures faults { IsOkAnd result (λ inputs. (⟦<MemInputs as Inputs>⟧.state inputs).faults ≡ 0) }
     {
         Ok(MemInputs {
             files: NamedFiles::new(files),
@@ -47,8 +48,8 @@ impl MemInputs {
 
     // Counts a fault, and answers it.
     fn count_fault(&mut self) -> Failed
-        ensures counts { self.new ≡ record self.old { faults = counted (faults_of self.old) } }
-        ensures faults { faults_of self.old ≤ faults_of self.new }
+        ensures counts { self.new ≡ record self.old { faults = counted (state_of self.old).faults } }
+        ensures faults { (state_of self.old).faults ≤ (state_of self.new).faults }
     {
         self.faults = self.faults.saturating_add(1);
         Failed
@@ -56,19 +57,7 @@ impl MemInputs {
 }
 
 impl Inputs for MemInputs {
-    ghost tells = { λ _. true };
-
-    ghost held = { λ inputs. held_in (files_of inputs) };
-
-    ghost is_open = { λ inputs. is_some (open_in (files_of inputs)) };
-
-    ghost left = { λ inputs. left_in (files_of inputs) };
-
-    ghost faults = { λ inputs. faults_of inputs };
-
-    ghost sure = { λ inputs. sure_names (calls_of inputs) (held_in (files_of inputs)) };
-
-    ghost is_open_sure = { λ inputs. length (calls_of inputs).fail.items == 0 };
+    ghost state = { state_of };
 
     ghost sure_is_held = { λ inputs name told sure. Prim.search rules };
 
@@ -76,11 +65,9 @@ impl Inputs for MemInputs {
         // It fails exactly where it is told to, and at a name that is not held.
         ensures fails { IsErr result ↔ (FailsNext (calls_of self.old) ⊎ (held_in (files_of self.old) name.now ≡ None)) }
         ensures opened { open_in (files_of self.new) ≡ (if is_ok result then held_in (files_of self.old) name.now else None) }
-        ensures counts { faults_of self.new ≡ (if is_ok result then faults_of self.old else counted (faults_of self.old)) }
-        ensures faults { faults_of self.old ≤ faults_of self.new }
+        ensures counts { (state_of self.new).faults ≡ (if is_ok result then (state_of self.old).faults else counted (state_of self.old).faults) }
 
-        ensures held { held_in (files_of self.new) ≡ held_in (files_of self.old) }
-        ensures sure { sure_names (calls_of self.new) (held_in (files_of self.new)) ≡ sure_names (calls_of self.old) (held_in (files_of self.old)) }
+        ensures kept { InputsKept (state_of self.old) (state_of self.new) }
         ensures goes_on { GoesOn (calls_of self.old) (calls_of self.new) }
     {
         if self.calls.next_fails() {
@@ -104,12 +91,10 @@ impl Inputs for MemInputs {
         ensures end { IfOk result (λ count. (count ≡ 0) ↔ (left_in (files_of self.old) ≡ [])) }
         ensures none_taken { OnErr result (left_in (files_of self.new) ≡ left_in (files_of self.old)) }
         ensures unchanged { OnErr result (buf.new ≡ buf.old) }
-        ensures still_open { IsTrue (is_some (open_in (files_of self.new))) }
-        ensures counts { faults_of self.new ≡ (if is_ok result then faults_of self.old else counted (faults_of self.old)) }
-        ensures faults { faults_of self.old ≤ faults_of self.new }
+        ensures counts { (state_of self.new).faults ≡ (if is_ok result then (state_of self.old).faults else counted (state_of self.old).faults) }
 
-        ensures held { held_in (files_of self.new) ≡ held_in (files_of self.old) }
-        ensures sure { sure_names (calls_of self.new) (held_in (files_of self.new)) ≡ sure_names (calls_of self.old) (held_in (files_of self.old)) }
+        ensures kept { InputsKept (state_of self.old) (state_of self.new) }
+        ensures still_open { StillOpen (state_of self.old) (state_of self.new) }
         ensures goes_on { GoesOn (calls_of self.old) (calls_of self.new) }
     {
         if self.calls.next_fails() {

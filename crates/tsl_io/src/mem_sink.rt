@@ -1,11 +1,11 @@
 //! A sink in memory that fails where it is told to.
 
-ghost use Rattle.std.specs.Prelude.{◌≡◌, ◌↔◌, ◌+◌, ◌<◌, ◌≤◌, ◌++◌, true, [], length, min, take, IfOk, OnErr, IsErr, IsTrue};
+ghost use Rattle.std.specs.Prelude.{◌≡◌, ◌↔◌, ◌+◌, ◌<◌, ◌≤◌, [], length, min, take, IfOk, OnOk, OnErr, IsErr, IsTrue};
 ghost use Rattle.tsl_io.specs.Append.{spare_of};
 ghost use Rattle.tsl_io.specs.FailingCalls.{FailsNext, GoesOn};
-ghost use Rattle.tsl_io.specs.Faults.{Rose};
-ghost use Rattle.tsl_io.specs.MemSink.{buffer_of, calls_of, faults_of, most_of};
-ghost use Rattle.tsl_io.specs.Sink.{taken};
+ghost use Rattle.tsl_io.specs.Faults.{RoseByOne};
+ghost use Rattle.tsl_io.specs.MemSink.{buffer_of, calls_of, most_of, state_of};
+ghost use Rattle.tsl_io.specs.SinkState.{SinkKept, Appends, taken};
 
 use crate::append::append_within;
 use crate::failing_calls::FailingCalls;
@@ -30,12 +30,12 @@ impl MemSink {
     /// An empty sink. The calls with the numbers `fail` are to fail, and the others take at most
     /// `most` bytes each.
     pub fn new(alloc: Global, fail: Vec<u32>, most: usize) -> Result<MemSink, AllocError>
-        ensures tells { IfOk result (λ sink. IsTrue (⟦<MemSink as Sink>⟧.tells sink)) }
-        ensures written { IfOk result (λ sink. ⟦<MemSink as Sink>⟧.written sink ≡ []) }
+        ensures tells { IfOk result (λ sink. IsTrue (⟦<MemSink as Sink>⟧.state sink).tells) }
+        ensures written { IfOk result (λ sink. (⟦<MemSink as Sink>⟧.state sink).written ≡ []) }
         ensures calls { IfOk result (λ sink. calls_of sink ≡ record { fail = fail; next = 0 }) }
         ensures most { IfOk result (λ sink. most_of sink ≡ most) }
         ensures spare { IfOk result (λ sink. spare_of (buffer_of sink) ≡ 16_777_216) }
-        ensures faults { IfOk result (λ sink. ⟦<MemSink as Sink>⟧.faults sink ≡ 0) }
+        ensures faults { IfOk result (λ sink. (⟦<MemSink as Sink>⟧.state sink).faults ≡ 0) }
     {
         Ok(MemSink {
             bytes: Vec::with_capacity(alloc, CAPACITY)?,
@@ -47,34 +47,31 @@ impl MemSink {
 
     /// The bytes written so far.
     pub fn bytes(&self) -> &[u8]
-        ensures { result.now ≡ ⟦<MemSink as Sink>⟧.written self.now }
+        ensures { result.now ≡ (⟦<MemSink as Sink>⟧.state self.now).written }
     {
         self.bytes.as_slice()
     }
 }
 
 impl Sink for MemSink {
-    ghost tells = { λ _. true };
-
-    ghost written = { λ sink. (buffer_of sink).items };
-
-    ghost faults = { λ sink. faults_of sink };
-
-    ghost room = { λ _. 0 };
+    ghost state = { state_of };
 
     fn write(&mut self, bytes: &[u8]) -> Result<usize, Failed>
         // It fails exactly where it is told to, and takes what it may and has memory for elsewhere.
         ensures fails { IsErr result ↔ FailsNext (calls_of self.old) }
         ensures count { IfOk result (λ count. count ≡ min (min (length bytes.now) (most_of self.old)) (spare_of (buffer_of self.old))) }
-        ensures written { (buffer_of self.new).items ≡ (buffer_of self.old).items ++ take (taken result) bytes.now }
+        ensures written { Appends (state_of self.old) (state_of self.new) (take (taken result) bytes.now) }
         ensures spare { spare_of (buffer_of self.old) ≤ spare_of (buffer_of self.new) + taken result }
 
-        // A fault is counted where it fails or takes none of some bytes, and nowhere else.
-        ensures failed { OnErr result (Rose (faults_of self.old) (faults_of self.new)) }
-        ensures none_taken { 0 < length bytes.now → taken result ≡ 0 → Rose (faults_of self.old) (faults_of self.new) }
-        ensures some_taken { 0 < taken result → faults_of self.new ≡ faults_of self.old }
-        ensures faults { faults_of self.old ≤ faults_of self.new }
+        // A fault is where it fails, or takes none of some bytes; elsewhere none is counted.
+        ensures failed { OnErr result (RoseByOne (state_of self.old).faults (state_of self.new).faults) }
+        ensures none_taken { 0 < length bytes.now → result ≡ Ok 0
+            → RoseByOne (state_of self.old).faults (state_of self.new).faults }
+        ensures some_taken { 0 < taken result → (state_of self.new).faults ≡ (state_of self.old).faults }
+        ensures no_bytes { length bytes.now ≡ 0
+            → OnOk result ((state_of self.new).faults ≡ (state_of self.old).faults) }
 
+        ensures kept { SinkKept (state_of self.old) (state_of self.new) }
         ensures most { most_of self.new ≡ most_of self.old }
         ensures goes_on { GoesOn (calls_of self.old) (calls_of self.new) }
     {

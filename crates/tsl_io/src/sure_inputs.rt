@@ -1,9 +1,9 @@
 //! Inputs in memory that do not fail.
 
-ghost use Rattle.std.specs.Prelude.{◌≡◌, true, [], is_some, unwrap_or, IsOkAnd, IsTrue};
+ghost use Rattle.std.specs.Prelude.{◌≡◌, IsOkAnd, IsTrue};
 ghost use Rattle.std.specs.Bool.{IsFalse};
 ghost use Rattle.tsl_io.specs.FileList.{first_file, is_held};
-ghost use Rattle.tsl_io.specs.NamedFiles.{held_in, open_in};
+ghost use Rattle.tsl_io.specs.SureInputs.{state_of};
 
 use crate::named_files::NamedFiles;
 use crate::{Failed, Inputs};
@@ -19,11 +19,11 @@ pub struct SureInputs {
 impl SureInputs {
     /// These files by their names, of which the first of a name counts.
     pub fn new(_alloc: Global, files: Vec<(String, Vec<u8>)>) -> Result<SureInputs, AllocError>
-        ensures tells { IsOkAnd result (λ inputs. IsTrue (⟦<SureInputs as Inputs>⟧.tells inputs)) }
-        ensures held { IsOkAnd result (λ inputs. ⟦<SureInputs as Inputs>⟧.held inputs ≡ first_file files.items) }
-        ensures sure { IsOkAnd result (λ inputs. ⟦<SureInputs as Inputs>⟧.sure inputs ≡ is_held (first_file files.items)) }
-        ensures closed { IsOkAnd result (λ inputs. IsFalse (⟦<SureInputs as Inputs>⟧.is_open inputs)) }
-        ensures faults { IsOkAnd result (λ inputs. ⟦<SureInputs as Inputs>⟧.faults inputs ≡ 0) }
+        ensures tells { IsOkAnd result (λ inputs. IsTrue (⟦<SureInputs as Inputs>⟧.state inputs).tells) }
+        ensures held { IsOkAnd result (λ inputs. (⟦<SureInputs as Inputs>⟧.state inputs).held ≡ first_file files.items) }
+        ensures sure { IsOkAnd result (λ inputs. (⟦<SureInputs as Inputs>⟧.state inputs).sure ≡ is_held (first_file files.items)) }
+        ensures closed { IsOkAnd result (λ inputs. IsFalse (⟦<SureInputs as Inputs>⟧.state inputs).is_open) }
+        ensures faults { IsOkAnd result (λ inputs. (⟦<SureInputs as Inputs>⟧.state inputs).faults ≡ 0) }
     {
         Ok(SureInputs {
             files: NamedFiles::new(files),
@@ -33,19 +33,7 @@ impl SureInputs {
 }
 
 impl Inputs for SureInputs {
-    ghost tells = { λ _. true };
-
-    ghost held = { λ inputs. held_in inputs.files };
-
-    ghost is_open = { λ inputs. is_some (open_in inputs.files) };
-
-    ghost left = { λ inputs. unwrap_or (open_in inputs.files) [] };
-
-    ghost faults = { λ inputs. inputs.faults };
-
-    ghost sure = { λ inputs. is_held (held_in inputs.files) };
-
-    ghost is_open_sure = { λ _. true };
+    ghost state = { state_of };
 
     ghost sure_is_held = { λ inputs name told sure. sure };
 

@@ -1,10 +1,10 @@
 //! A sink in memory that does not fail.
 
-ghost use Rattle.std.specs.Prelude.{◌≡◌, ◌+◌, ◌<◌, ◌≤◌, ◌++◌, true, [], length, min, take, IfOk, IsTrue};
+ghost use Rattle.std.specs.Prelude.{◌≡◌, ◌+◌, ◌<◌, ◌≤◌, [], length, min, take, IfOk, OnOk, IsTrue};
 ghost use Rattle.tsl_io.specs.Append.{spare_of};
-ghost use Rattle.tsl_io.specs.Faults.{Rose};
-ghost use Rattle.tsl_io.specs.SureSink.{buffer_of, faults_of};
-ghost use Rattle.tsl_io.specs.Sink.{taken};
+ghost use Rattle.tsl_io.specs.Faults.{RoseByOne};
+ghost use Rattle.tsl_io.specs.SureSink.{buffer_of, state_of};
+ghost use Rattle.tsl_io.specs.SinkState.{SinkKept, Appends, taken};
 
 use crate::append::append_within;
 use crate::{Failed, Sink};
@@ -24,10 +24,10 @@ pub struct SureSink {
 impl SureSink {
     /// An empty sink.
     pub fn new(alloc: Global) -> Result<SureSink, AllocError>
-        ensures tells { IfOk result (λ sink. IsTrue (⟦<SureSink as Sink>⟧.tells sink)) }
-        ensures written { IfOk result (λ sink. ⟦<SureSink as Sink>⟧.written sink ≡ []) }
-        ensures room { IfOk result (λ sink. ⟦<SureSink as Sink>⟧.room sink ≡ 67_108_864) }
-        ensures faults { IfOk result (λ sink. ⟦<SureSink as Sink>⟧.faults sink ≡ 0) }
+        ensures tells { IfOk result (λ sink. IsTrue (⟦<SureSink as Sink>⟧.state sink).tells) }
+        ensures written { IfOk result (λ sink. (⟦<SureSink as Sink>⟧.state sink).written ≡ []) }
+        ensures room { IfOk result (λ sink. (⟦<SureSink as Sink>⟧.state sink).room ≡ 67_108_864) }
+        ensures faults { IfOk result (λ sink. (⟦<SureSink as Sink>⟧.state sink).faults ≡ 0) }
     {
         Ok(SureSink {
             bytes: Vec::with_capacity(alloc, CAPACITY)?,
@@ -37,31 +37,29 @@ impl SureSink {
 
     /// The bytes written so far.
     pub fn bytes(&self) -> &[u8]
-        ensures { result.now ≡ ⟦<SureSink as Sink>⟧.written self.now }
+        ensures { result.now ≡ (⟦<SureSink as Sink>⟧.state self.now).written }
     {
         self.bytes.as_slice()
     }
 }
 
 impl Sink for SureSink {
-    ghost tells = { λ _. true };
-
-    ghost written = { λ sink. (buffer_of sink).items };
-
-    ghost faults = { λ sink. faults_of sink };
-
-    ghost room = { λ sink. spare_of (buffer_of sink) };
+    ghost state = { state_of };
 
     fn write(&mut self, bytes: &[u8]) -> Result<usize, Failed>
         // It takes all that it has memory for.
         ensures count { result ≡ Ok (min (length bytes.now) (spare_of (buffer_of self.old))) }
-        ensures written { (buffer_of self.new).items ≡ (buffer_of self.old).items ++ take (taken result) bytes.now }
+        ensures written { Appends (state_of self.old) (state_of self.new) (take (taken result) bytes.now) }
         ensures spare { spare_of (buffer_of self.old) ≤ spare_of (buffer_of self.new) + taken result }
 
-        // A fault is counted where it takes none of some bytes, and nowhere else.
-        ensures none_taken { 0 < length bytes.now → taken result ≡ 0 → Rose (faults_of self.old) (faults_of self.new) }
-        ensures some_taken { 0 < taken result → faults_of self.new ≡ faults_of self.old }
-        ensures faults { faults_of self.old ≤ faults_of self.new }
+        // A fault is where it takes none of some bytes; elsewhere none is counted.
+        ensures none_taken { 0 < length bytes.now → result ≡ Ok 0
+            → RoseByOne (state_of self.old).faults (state_of self.new).faults }
+        ensures some_taken { 0 < taken result → (state_of self.new).faults ≡ (state_of self.old).faults }
+        ensures no_bytes { length bytes.now ≡ 0
+            → OnOk result ((state_of self.new).faults ≡ (state_of self.old).faults) }
+
+        ensures kept { SinkKept (state_of self.old) (state_of self.new) }
     {
         let count = append_within(&mut self.bytes, bytes);
         if count == 0 && !bytes.is_empty() {

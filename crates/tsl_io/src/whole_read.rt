@@ -1,7 +1,8 @@
 //! A named input as a whole.
 
 ghost use Rattle.std.specs.Prelude.{◌≡◌, ◌≢◌, ◌↔◌, ◌+◌, ◌^◌, ◌<◌, ◌≤◌, ◌++◌, [], length, vec_len, drop, IsTrue, IfOk, OnOk, IfSome, IsSomeAnd, IsErrOf};
-ghost use Rattle.tsl_io.specs.Faults.{Rose};
+ghost use Rattle.tsl_io.specs.Faults.{RoseByOne};
+ghost use Rattle.tsl_io.specs.InputState.{InputsKept, StillOpen};
 ghost use Rattle.tsl_io.specs.WholeRead.{whole_of, Answers, TakesAtMost};
 ghost use Rattle.tsl_io.specs.declared.whole_read.ReadError.TheVariants.{NoMemory};
 
@@ -41,25 +42,26 @@ fn append_piece<I: Inputs>(
     bytes: &mut Vec<u8>,
     most: usize,
 ) -> Result<usize, ReadError>
-    requires open { IsTrue (I.is_open inputs.old) }
+    requires open { IsTrue (I.state inputs.old).is_open }
     requires nonempty { 0 < most }
 
-    ensures tells { I.tells inputs.new ≡ I.tells inputs.old }
-    ensures held { I.held inputs.new ≡ I.held inputs.old }
-    ensures sure { I.sure inputs.new ≡ I.sure inputs.old }
-    ensures faults { I.faults inputs.old ≤ I.faults inputs.new }
+    ensures kept { InputsKept (I.state inputs.old) (I.state inputs.new) }
 
-    ensures still_open { IsTrue (I.is_open inputs.new) }
-    ensures still_sure { I.is_open_sure inputs.new ≡ I.is_open_sure inputs.old }
+    ensures still_open { StillOpen (I.state inputs.old) (I.state inputs.new) }
     ensures within { IfOk result (λ count. count ≤ most) }
     ensures len { IfOk result (λ count. vec_len bytes.new ≡ vec_len bytes.old + count) }
-    ensures appended { IsTrue (I.tells inputs.old) → OnOk result (bytes.new.items ++ I.left inputs.new ≡ bytes.old.items ++ I.left inputs.old) }
-    ensures end { IsTrue (I.tells inputs.old) → IfOk result (λ count. (count ≡ 0) ↔ (I.left inputs.old ≡ [])) }
-    ensures taken { IsTrue (I.tells inputs.old) → TakesAtMost most (I.left inputs.old) (I.left inputs.new) }
+    ensures appended { IsTrue (I.state inputs.old).tells
+        → OnOk result (bytes.new.items ++ (I.state inputs.new).left ≡ bytes.old.items ++ (I.state inputs.old).left) }
+    ensures end { IsTrue (I.state inputs.old).tells
+        → IfOk result (λ count. (count ≡ 0) ↔ ((I.state inputs.old).left ≡ [])) }
+    ensures taken { IsTrue (I.state inputs.old).tells
+        → TakesAtMost most (I.state inputs.old).left (I.state inputs.new).left }
 
-    ensures fault { IsErrOf result ReadError.ReadFault → Rose (I.faults inputs.old) (I.faults inputs.new) }
-    ensures no_fault { result ≢ Err ReadError.ReadFault → I.faults inputs.new ≡ I.faults inputs.old }
-    ensures sure_reads { IsTrue (I.is_open_sure inputs.old) → result ≢ Err ReadError.ReadFault }
+    ensures fault { IsErrOf result ReadError.ReadFault
+        → RoseByOne (I.state inputs.old).faults (I.state inputs.new).faults }
+    ensures no_fault { result ≢ Err ReadError.ReadFault
+        → (I.state inputs.new).faults ≡ (I.state inputs.old).faults }
+    ensures sure_reads { IsTrue (I.state inputs.old).is_open_sure → result ≢ Err ReadError.ReadFault }
     ensures not_too_long { result ≢ Err ReadError.TooLong }
 {
     let mut piece = [0u8; PIECE];
@@ -75,25 +77,28 @@ fn append_piece<I: Inputs>(
 
 // Reads the open input to its end, or one byte past the cap.
 fn read_opened<I: Inputs>(alloc: Global, inputs: &mut I, cap: u32) -> Result<Vec<u8>, ReadError>
-    requires open { IsTrue (I.is_open inputs.old) }
+    requires open { IsTrue (I.state inputs.old).is_open }
     requires small { cap < 2 ^ 31 }
 
-    ensures tells { I.tells inputs.new ≡ I.tells inputs.old }
-    ensures held { I.held inputs.new ≡ I.held inputs.old }
-    ensures sure { I.sure inputs.new ≡ I.sure inputs.old }
-    ensures faults { I.faults inputs.old ≤ I.faults inputs.new }
+    ensures kept { InputsKept (I.state inputs.old) (I.state inputs.new) }
 
-    ensures still_open { IsTrue (I.is_open inputs.new) }
+    ensures still_open { StillOpen (I.state inputs.old) (I.state inputs.new) }
     ensures within_cap { IfOk result (λ bytes. length bytes.items ≤ cap) }
-    ensures whole { IsTrue (I.tells inputs.old) → IfOk result (λ bytes. bytes.items ≡ I.left inputs.old) }
-    ensures ended { IsTrue (I.tells inputs.old) → OnOk result (I.left inputs.new ≡ []) }
-    ensures too_long { IsTrue (I.tells inputs.old) → IsErrOf result ReadError.TooLong → cap < length (I.left inputs.old) }
-    ensures one_past { IsTrue (I.tells inputs.old) → IsErrOf result ReadError.TooLong → I.left inputs.new ≡ drop (cap + 1) (I.left inputs.old) }
-    ensures taken { IsTrue (I.tells inputs.old) → TakesAtMost (cap + 1) (I.left inputs.old) (I.left inputs.new) }
+    ensures whole { IsTrue (I.state inputs.old).tells
+        → IfOk result (λ bytes. bytes.items ≡ (I.state inputs.old).left) }
+    ensures ended { IsTrue (I.state inputs.old).tells → OnOk result ((I.state inputs.new).left ≡ []) }
+    ensures too_long { IsTrue (I.state inputs.old).tells → IsErrOf result ReadError.TooLong
+        → cap < length (I.state inputs.old).left }
+    ensures one_past { IsTrue (I.state inputs.old).tells → IsErrOf result ReadError.TooLong
+        → (I.state inputs.new).left ≡ drop (cap + 1) (I.state inputs.old).left }
+    ensures taken { IsTrue (I.state inputs.old).tells
+        → TakesAtMost (cap + 1) (I.state inputs.old).left (I.state inputs.new).left }
 
-    ensures fault { IsErrOf result ReadError.ReadFault → Rose (I.faults inputs.old) (I.faults inputs.new) }
-    ensures no_fault { result ≢ Err ReadError.ReadFault → I.faults inputs.new ≡ I.faults inputs.old }
-    ensures sure_reads { IsTrue (I.is_open_sure inputs.old) → result ≢ Err ReadError.ReadFault }
+    ensures fault { IsErrOf result ReadError.ReadFault
+        → RoseByOne (I.state inputs.old).faults (I.state inputs.new).faults }
+    ensures no_fault { result ≢ Err ReadError.ReadFault
+        → (I.state inputs.new).faults ≡ (I.state inputs.old).faults }
+    ensures sure_reads { IsTrue (I.state inputs.old).is_open_sure → result ≢ Err ReadError.ReadFault }
 {
     let limit = cap as usize + 1;
     let mut bytes = Vec::new(alloc);
@@ -116,28 +121,33 @@ pub fn read_whole<I: Inputs>(
 ) -> Result<Vec<u8>, ReadError>
     requires { cap < 2 ^ 31 }
 
-    ensures tells { I.tells inputs.new ≡ I.tells inputs.old }
-    ensures held { I.held inputs.new ≡ I.held inputs.old }
-    ensures sure { I.sure inputs.new ≡ I.sure inputs.old }
-    ensures faults { I.faults inputs.old ≤ I.faults inputs.new }
+    ensures kept { InputsKept (I.state inputs.old) (I.state inputs.new) }
 
     // The answer is all that the name holds, read to its end. Longer contents are too long, and
     // nothing else is.
-    ensures answer { IsTrue (I.tells inputs.old) → Answers result (whole_of cap (I.held inputs.old name.now)) }
-    ensures whole { IsTrue (I.tells inputs.old) → IfOk result (λ bytes. I.held inputs.old name.now ≡ Some bytes.items) }
+    ensures answer { IsTrue (I.state inputs.old).tells
+        → Answers result (whole_of cap ((I.state inputs.old).held name.now)) }
+    ensures whole { IsTrue (I.state inputs.old).tells
+        → IfOk result (λ bytes. (I.state inputs.old).held name.now ≡ Some bytes.items) }
     ensures within_cap { IfOk result (λ bytes. length bytes.items ≤ cap) }
-    ensures too_long { IsTrue (I.tells inputs.old) → IsErrOf result ReadError.TooLong → IsSomeAnd (I.held inputs.old name.now) (λ bytes. cap < length bytes) }
+    ensures too_long { IsTrue (I.state inputs.old).tells → IsErrOf result ReadError.TooLong
+        → IsSomeAnd ((I.state inputs.old).held name.now) (λ bytes. cap < length bytes) }
 
     // A fault has its cause in this call.
-    ensures fault { IsErrOf result ReadError.ReadFault → Rose (I.faults inputs.old) (I.faults inputs.new) }
-    ensures no_fault { result ≢ Err ReadError.ReadFault → I.faults inputs.new ≡ I.faults inputs.old }
-    ensures sure_reads { IsTrue (I.sure inputs.old name.now) → result ≢ Err ReadError.ReadFault }
+    ensures fault { IsErrOf result ReadError.ReadFault
+        → RoseByOne (I.state inputs.old).faults (I.state inputs.new).faults }
+    ensures no_fault { result ≢ Err ReadError.ReadFault
+        → (I.state inputs.new).faults ≡ (I.state inputs.old).faults }
+    ensures sure_reads { IsTrue ((I.state inputs.old).sure name.now)
+        → result ≢ Err ReadError.ReadFault }
 
     // How much was taken from the input, which is left open but for a fault.
-    ensures still_open { result ≢ Err ReadError.ReadFault → IsTrue (I.is_open inputs.new) }
-    ensures ended { IsTrue (I.tells inputs.old) → OnOk result (I.left inputs.new ≡ []) }
-    ensures one_past { IsTrue (I.tells inputs.old) → IsErrOf result ReadError.TooLong → IfSome (I.held inputs.old name.now) (λ bytes. I.left inputs.new ≡ drop (cap + 1) bytes) }
-    ensures taken { IsTrue (I.tells inputs.old) → IsTrue (I.is_open inputs.new) → IsSomeAnd (I.held inputs.old name.now) (λ bytes. TakesAtMost (cap + 1) bytes (I.left inputs.new)) }
+    ensures still_open { result ≢ Err ReadError.ReadFault → IsTrue (I.state inputs.new).is_open }
+    ensures ended { IsTrue (I.state inputs.old).tells → OnOk result ((I.state inputs.new).left ≡ []) }
+    ensures one_past { IsTrue (I.state inputs.old).tells → IsErrOf result ReadError.TooLong
+        → IfSome ((I.state inputs.old).held name.now) (λ bytes. (I.state inputs.new).left ≡ drop (cap + 1) bytes) }
+    ensures taken { IsTrue (I.state inputs.old).tells → IsTrue (I.state inputs.new).is_open
+        → IsSomeAnd ((I.state inputs.old).held name.now) (λ bytes. TakesAtMost (cap + 1) bytes (I.state inputs.new).left) }
 {
     if inputs.open(name).is_err() {
         return Err(ReadError::ReadFault);

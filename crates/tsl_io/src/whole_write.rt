@@ -1,7 +1,8 @@
 //! Bytes written as a whole.
 
-ghost use Rattle.std.specs.Prelude.{◌≡◌, ℕ, ◌+◌, ◌≤◌, ◌++◌, length, take, IsTrue, IsOk, OnOk, OnErr};
-ghost use Rattle.tsl_io.specs.Faults.{Rose};
+ghost use Rattle.std.specs.Prelude.{◌≡◌, ◌≤◌, length, IsOk, OnOk, OnErr};
+ghost use Rattle.tsl_io.specs.Faults.{RoseByOne};
+ghost use Rattle.tsl_io.specs.SinkState.{SinkKept, Appends, AppendsFront};
 
 use crate::Sink;
 use thiserror::Error;
@@ -13,19 +14,15 @@ pub struct WriteFault;
 
 /// Writes all of `bytes`, in order. It takes no memory.
 pub fn write_whole<S: Sink>(sink: &mut S, bytes: &[u8]) -> Result<(), WriteFault>
-    ensures tells { S.tells sink.new ≡ S.tells sink.old }
-    ensures faults { S.faults sink.old ≤ S.faults sink.new }
+    ensures kept { SinkKept (S.state sink.old) (S.state sink.new) }
 
-    ensures ok { IsTrue (S.tells sink.old) → OnOk result (S.written sink.new ≡ S.written sink.old ++ bytes.now) }
+    ensures ok { OnOk result (Appends (S.state sink.old) (S.state sink.new) bytes.now) }
+    ensures front { AppendsFront (S.state sink.old) (S.state sink.new) bytes.now }
 
-    // A fault has its cause in this call, and none comes where there is room for all bytes.
-    ensures fault { OnErr result (Rose (S.faults sink.old) (S.faults sink.new)) }
-    ensures room_suffices { length bytes.now ≤ S.room sink.old → IsOk result }
-
-    // A front of the bytes was written, all of them or not, and the room fell by no more.
-    ensures front { (count : ℕ) × (count ≤ length bytes.now)
-        × (IsTrue (S.tells sink.old) → S.written sink.new ≡ S.written sink.old ++ take count bytes.now)
-        × (S.room sink.old ≤ S.room sink.new + count) }
+    // One fault is counted where it fails, and none elsewhere. It does not fail where there is room for all bytes.
+    ensures fault { OnErr result (RoseByOne (S.state sink.old).faults (S.state sink.new).faults) }
+    ensures no_fault { OnOk result ((S.state sink.new).faults ≡ (S.state sink.old).faults) }
+    ensures room_suffices { length bytes.now ≤ (S.state sink.old).room → IsOk result }
 {
     let mut count = 0;
     while count < bytes.len() {

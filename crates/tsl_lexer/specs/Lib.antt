@@ -1,4 +1,5 @@
 pub mod Bytes
+pub mod FaultLines
 pub mod Laws
 pub mod Lexeme
 pub mod Scanning

@@ -1,6 +1,10 @@
 //! The faults of a source.
 
-use std::alloc::{AllocError, AllocFailed};
+ghost use Rattle.std.specs.Prelude.{◌≡◌, IfOk};
+ghost use Rattle.std.specs.String.{string_bytes};
+ghost use Rattle.tsl_lexer.specs.FaultLines.{fault_line};
+
+use std::alloc::{AllocError, AllocFailed, Global};
 use thiserror::Error;
 
 /// The first fault of a source. `at` is the byte offset of the first byte of its place.
@@ -20,8 +24,22 @@ pub enum LexError {
     NoMemory,
 }
 
+impl LexError {
+    /// The line that says which fault this is, with a line end: `spec AT CODE`. Want of memory has the
+    /// empty one.
+    pub fn fault_line(self, alloc: Global) -> Result<String, AllocError>
+        ensures { IfOk result (λ text. string_bytes text ≡ fault_line self) }
+    {
+        match self {
+            LexError::BadByte { at } => format!(in alloc; "spec {at} L1\n"),
+            LexError::LongName { at } => format!(in alloc; "spec {at} L2\n"),
+            LexError::BadNumber { at } => format!(in alloc; "spec {at} L3\n"),
+            LexError::NoMemory => Ok(String::new(alloc)),
+        }
+    }
+}
+
 impl From<AllocError> for LexError {
-    ghost use Rattle.std.specs.Prelude.{◌≡◌};
     ghost use Rattle.tsl_lexer.specs.declared.lex_error.LexError.TheVariants.{NoMemory};
 
     ghost from_gives = { λ _ e. e ≡ NoMemory };
@@ -32,7 +50,6 @@ impl From<AllocError> for LexError {
 }
 
 impl<T: Drop> From<AllocFailed<T>> for LexError {
-    ghost use Rattle.std.specs.Prelude.{◌≡◌};
     ghost use Rattle.tsl_lexer.specs.declared.lex_error.LexError.TheVariants.{NoMemory};
 
     ghost from_gives = { λ _ e. e ≡ NoMemory };

@@ -1,8 +1,10 @@
 //! From the tokens of a specification to its tree, exact in both directions.
 #![tactic(auto)]
 
-ghost use Rattle.std.specs.Prelude.{ℕ};
+ghost use Rattle.std.specs.Prelude.{◌≡◌, ℕ, IfOk};
+ghost use Rattle.std.specs.String.{string_bytes};
 ghost use Rattle.tsl_parser.specs.Exact.{Answers, HasTree, IsDeepAt, IsOnly, IsRefusal, IsSyntaxAt};
+ghost use Rattle.tsl_parser.specs.FaultLines.{fault_line};
 ghost use Rattle.tsl_parser.specs.Tree as plain;
 
 mod decode;
@@ -17,7 +19,7 @@ pub mod tree;
 use crate::items::declarations;
 use crate::reader::{Fault, Reader};
 use crate::tree::Tree;
-use std::alloc::Global;
+use std::alloc::{AllocError, Global};
 use thiserror::Error;
 use tsl_lexer::Token;
 
@@ -33,6 +35,20 @@ pub enum ParseError {
     /// Memory ran out.
     #[error("out of memory")]
     NoMemory,
+}
+
+impl ParseError {
+    /// The line that says which fault this is, with a line end: `spec AT CODE`. Want of memory has the
+    /// empty one.
+    pub fn fault_line(self, alloc: Global) -> Result<String, AllocError>
+        ensures { IfOk result (λ text. string_bytes text ≡ fault_line self) }
+    {
+        match self {
+            ParseError::Syntax { at } => format!(in alloc; "spec {at} P1\n"),
+            ParseError::TooDeep { at } => format!(in alloc; "spec {at} P2\n"),
+            ParseError::NoMemory => Ok(String::new(alloc)),
+        }
+    }
 }
 
 /// The tree of the tokens of a source of `end` bytes.

@@ -1,17 +1,15 @@
 use Rattle.std.proofs.Common.{◌≡◌, ◌-◌, ◌≤◌, ◌++◌, IsTrue, vec_len}
+use Rattle.tsl_io.specs.InputState.{InputsKept, StillOpen}
 use Rattle.tsl_io.proofs.whole_read.read_opened.Given as goal
 
 -- what was read so far, followed by what is left, is what was left at first
 abbrev pub invariant-loop-bytes : goal.invariant-loop-bytes
 invariant-loop-bytes g l = record {
-  tells : g.I.Inputs.tells l.inputs ≡ g.I.Inputs.tells l.initial.inputs;
-  held : g.I.Inputs.held l.inputs ≡ g.I.Inputs.held l.initial.inputs;
-  sure : g.I.Inputs.sure l.inputs ≡ g.I.Inputs.sure l.initial.inputs;
-  faults : g.I.Inputs.faults l.inputs ≡ g.I.Inputs.faults l.initial.inputs;
-  still_open : IsTrue (g.I.Inputs.is_open l.inputs);
-  still_sure : g.I.Inputs.is_open_sure l.inputs ≡ g.I.Inputs.is_open_sure l.initial.inputs;
+  kept : InputsKept (g.I.Inputs.state l.initial.inputs) (g.I.Inputs.state l.inputs);
+  no_fault : (g.I.Inputs.state l.inputs).faults ≡ (g.I.Inputs.state l.initial.inputs).faults;
+  still_open : StillOpen (g.I.Inputs.state l.initial.inputs) (g.I.Inputs.state l.inputs);
   within : vec_len l.bytes ≤ l.limit;
-  read : IsTrue (g.I.Inputs.tells l.initial.inputs) → l.bytes.items ++ g.I.Inputs.left l.inputs ≡ g.I.Inputs.left l.initial.inputs;
+  read : IsTrue (g.I.Inputs.state l.initial.inputs).tells → l.bytes.items ++ (g.I.Inputs.state l.inputs).left ≡ (g.I.Inputs.state l.initial.inputs).left;
 }
 
 abbrev pub decreases-loop-bytes : goal.decreases-loop-bytes

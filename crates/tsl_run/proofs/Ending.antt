@@ -1,0 +1,305 @@
+-- What follows from how a run ends.
+use Rattle.std.proofs.Common.{◌≡◌, ◌≢◌, ℕ, ◌<◌, ◌^◌, ◌⊎◌, inl, inr, All, Bool, List, [], ◌∷◌, Option, Some, None, IsTrue, length, refl, sym, ◌∙◌, ap, subst, arith}
+use Rattle.std.specs.Prelude.{Contains, IsSomeAnd, Result, Ok, Err}
+use Rattle.std.specs.Bool.{IsFalse}
+use Rattle.std.proofs.lemmas.List.Elements.{All-contains}
+use Rattle.tsl_io.specs.Faults.{Rose, RoseByOne}
+use Rattle.tsl_io.specs.InputState.{InputState}
+use Rattle.tsl_io.specs.SinkState.{SinkState, Appends, AppendsFront}
+use Rattle.tsl_parser.specs.Tree.{Tree}
+use Rattle.tsl_den.specs.Functions.{parameter_count}
+use Rattle.tsl_den.specs.Meaning.{meaning}
+use Rattle.tsl_den.proofs.Sound.{functions_have_values}
+use Rattle.tsl_run.specs.declared.status.Status.{Status}
+use Rattle.tsl_run.specs.declared.status.Status.TheVariants as s
+use Rattle.tsl_run.specs.Call.{Calls, IsCallOf}
+use Rattle.tsl_run.specs.Follows.{Due, EndsWith, Finishes, IsCut, Unread, owed, unread}
+use Rattle.tsl_run.specs.Laws.{EndsFollow}
+use Rattle.tsl_run.specs.Lines.{value_line}
+use Rattle.tsl_run.specs.Outcome.{Outcome, Refusal, bad_words, not_built, cannot_read, too_long, spec_refused, line_of, status_of}
+use Rattle.tsl_run.specs.Output as output
+use Rattle.tsl_run.specs.Output.{Ends}
+use Rattle.tsl_run.specs.Owed as owing
+use Rattle.tsl_run.specs.Owed.{ComesTo, CouldNotRead, Gave, Holds, IsOwed, Owes}
+use Rattle.tsl_run.specs.Possible as possible
+use Rattle.tsl_run.specs.Possible.{IsLineOf, IsPossible}
+use Rattle.tsl_run.specs.Sources.{source_cap, IsSpecification, Specifies}
+use Rattle.tsl_run.specs.Statuses.{IsAnswer}
+use Rattle.tsl_run.specs.Steps.{CallSteps, Steps, refused, goes_on}
+use Rattle.tsl_run.specs.Words as words-of
+use Rattle.tsl_run.specs.Words.{Asked, asked, bad, call, input_names, names_in}
+use Rattle.tsl_run.proofs.Exists.{counted}
+use Rattle.tsl_run.proofs.Steps.{Fails, each, either}
+use Rattle.tsl_run.proofs.Unique.{one_answer}
+
+some_value : (found : Option ℕ) (v : ℕ) → found ≡ Some v → IsSomeAnd found (λ v. v < 2 ^ 32) → v < 2 ^ 32
+some_value None v is some = absurd some
+some_value (Some w) v is some = let same : w ≡ v = cc in subst (λ (n : ℕ). n < 2 ^ 32) same some
+
+-- a call has a value of 32 bits
+value_small : (source : List ℕ) (tree : Tree) (fun : List ℕ) (numbers : List (List ℕ)) (v : ℕ) → IsSpecification source tree → IsCallOf tree fun numbers v → v < 2 ^ 32
+value_small source tree fun numbers v specified called =
+    let count = counted (parameter_count tree called.number) numbers called.args called.written in
+    some_value (meaning tree called.number called.args) v called.value (functions_have_values tree called.number called.args specified.form count.0 count.1)
+
+-- ---- the cause of each outcome
+
+module _ (old new : InputState) where
+  -- what is known of an outcome, whatever the inputs hold
+  abbrev pub Caused : List (List ℕ) → Outcome → Type 0
+  Caused names (Ok text) = (v : ℕ) × (v < 2 ^ 32) × (text ≡ value_line v)
+  Caused names (Err bad_words) = Unit {0}
+  Caused names (Err not_built) = Unit {0}
+  Caused names (Err (cannot_read name)) = Contains names name × CouldNotRead old new name
+  Caused names (Err (too_long name)) = Contains names name
+  Caused names (Err (spec_refused fault)) = Unit {0}
+
+  abbrev CausedRefusal : {A : Type 0} → List (List ℕ) → Result A Refusal → Type 0
+  CausedRefusal names (Ok given) = Unit {0}
+  CausedRefusal names (Err refusal) = Caused names (Err refusal)
+
+  reading_caused : (names : List (List ℕ)) (cap : ℕ) (name : List ℕ) → Contains names name → (found : Result (List ℕ) Refusal) → Gave old new cap name found → CausedRefusal names found
+  reading_caused names cap name named found (owing.whole holds fits) = tt
+  reading_caused names cap name named found (owing.long far) = named
+  reading_caused names cap name named found (owing.unread cause) = (named, cause)
+
+  specifying_caused : (names : List (List ℕ)) (source : List ℕ) (refusal : Refusal) → Specifies source (Err refusal) → Caused names (Err refusal)
+  specifying_caused names source bad_words p = tt
+  specifying_caused names source not_built p = tt
+  specifying_caused names source (cannot_read name) p = absurd p
+  specifying_caused names source (too_long name) p = absurd p
+  specifying_caused names source (spec_refused fault) p = tt
+
+  calling_caused : (names : List (List ℕ)) (tree : Tree) (fun : List ℕ) (numbers : List (List ℕ)) (refusal : Refusal) → Calls tree fun numbers (Err refusal) → Caused names (Err refusal)
+  calling_caused names tree fun numbers bad_words p = tt
+  calling_caused names tree fun numbers not_built p = tt
+  calling_caused names tree fun numbers (cannot_read name) p = absurd p
+  calling_caused names tree fun numbers (too_long name) p = absurd p
+  calling_caused names tree fun numbers (spec_refused fault) p = tt
+
+  call_caused : (names : List (List ℕ)) (spec fun : List ℕ) (numbers : List (List ℕ)) → Contains names spec → (outcome : Outcome) → CallSteps (Gave old new) spec fun numbers outcome → Caused names outcome
+  call_caused names spec fun numbers named outcome (refused {refusal = refusal} p) = reading_caused names source_cap spec named (Err refusal) p
+  call_caused names spec fun numbers named outcome (goes_on {given = source} p (refused {refusal = refusal} q)) = specifying_caused names source refusal q
+  call_caused names spec fun numbers named outcome (goes_on p (goes_on {given = tree} q (refused {refusal = refusal} r))) = calling_caused names tree fun numbers refusal r
+  call_caused names spec fun numbers named outcome (goes_on {given = source} p (goes_on {given = tree} q (goes_on {given = v} r is))) =
+      let small = value_small source tree fun numbers v q r in
+      subst (λ (o : Outcome). Caused names o) (sym is) (v, small, refl)
+
+  first_contained : (name : List ℕ) → Contains (name ∷ []) name
+  first_contained name = (0, omega arith, refl)
+
+  asked_caused : (what : Asked) (outcome : Outcome) → Steps (Gave old new) what outcome → Caused (names_in what) outcome
+  asked_caused bad outcome is = subst (λ (o : Outcome). Caused [] o) (sym is) tt
+  asked_caused words-of.not_built outcome is = subst (λ (o : Outcome). Caused [] o) (sym is) tt
+  asked_caused (call spec fun numbers) outcome steps = call_caused (spec ∷ []) spec fun numbers (first_contained spec) outcome steps
+
+module _ (words : List (List ℕ)) (old new : InputState) where
+  pub caused : (outcome : Outcome) → ComesTo words old new outcome → Caused old new (input_names words) outcome
+  caused outcome comes = asked_caused old new (asked words) outcome comes
+
+  possible_outcome : (outcome : Outcome) → Caused old new (input_names words) outcome → IsPossible (input_names words) outcome
+  possible_outcome (Ok text) cause = subst (λ (t : List ℕ). IsPossible (input_names words) (Ok t)) (sym cause.2) (possible.value cause.0 cause.1)
+  possible_outcome (Err bad_words) cause = possible.bad_words
+  possible_outcome (Err not_built) cause = possible.not_built
+  possible_outcome (Err (cannot_read name)) cause = possible.cannot_read cause.0
+  possible_outcome (Err (too_long name)) cause = possible.too_long cause
+  possible_outcome (Err (spec_refused fault)) cause = possible.spec_refused
+
+  line_of_outcome : (outcome : Outcome) → ComesTo words old new outcome → IsLineOf words (status_of outcome) (line_of outcome)
+  line_of_outcome outcome comes = record { outcome = outcome; possible = possible_outcome outcome (caused outcome comes); has_status = refl; has_line = refl }
+
+  -- an outcome of a read fault
+  unread_outcome : (outcome : Outcome) → ComesTo words old new outcome → status_of outcome ≡ s.ReadFault → Unread words old new (line_of outcome)
+  unread_outcome (Ok text) comes is = absurd (cc)
+  unread_outcome (Err bad_words) comes is = absurd (cc)
+  unread_outcome (Err not_built) comes is = absurd (cc)
+  unread_outcome (Err (cannot_read name)) comes is =
+      let cause = caused (Err (cannot_read name)) comes in record { name = name; named = cause.0; cause = cause.1; line = refl }
+  unread_outcome (Err (too_long name)) comes is = absurd (cc)
+  unread_outcome (Err (spec_refused fault)) comes is = absurd (cc)
+
+-- ---- what is owed
+
+-- a fault of reading
+ReadFault : Refusal → Type 0
+ReadFault refusal = status_of (Err refusal) ≡ s.ReadFault
+
+long_held : (old : InputState) (cap : ℕ) (name : List ℕ) (held : Option (List ℕ)) → old.held name ≡ held → IsSomeAnd held (λ bytes. cap < length bytes) → Holds old.held cap name (Err (too_long name))
+long_held old cap name None is past = absurd past
+long_held old cap name (Some bytes) is past = owing.long is past
+
+reading_held : (old new : InputState) (cap : ℕ) (name : List ℕ) → IsTrue old.tells → (found : Result (List ℕ) Refusal) → Gave old new cap name found → Holds old.held cap name found ⊎ Fails ReadFault found
+unfolding ReadFault
+reading_held old new cap name told found (owing.whole holds fits) = inl (owing.whole (holds told) fits)
+reading_held old new cap name told found (owing.long far) = inl (long_held old cap name (old.held name) refl (far told))
+reading_held old new cap name told found (owing.unread cause) = inr refl
+
+fault_of : (outcome : Outcome) → Fails ReadFault outcome → status_of outcome ≡ s.ReadFault
+unfolding ReadFault
+fault_of (Ok text) none = absurd none
+fault_of (Err refusal) is = is
+
+asked_owed : (old new : InputState) → IsTrue old.tells → (what : Asked) (outcome : Outcome) → Steps (Gave old new) what outcome → Steps (Holds old.held) what outcome ⊎ (status_of outcome ≡ s.ReadFault)
+asked_owed old new told bad outcome is = inl is
+asked_owed old new told words-of.not_built outcome is = inl is
+asked_owed old new told (call spec fun numbers) outcome steps =
+    elim (either _ (Holds old.held source_cap spec) _ _ ReadFault (reading_held old new source_cap spec told) (λ source found further. inl further) outcome steps) [
+      | inl owes ↦ inl owes
+      | inr fault ↦ inr (fault_of outcome fault)
+    ]
+
+reading_whole : (old new : InputState) (cap : ℕ) (name : List ℕ) → IsTrue old.tells → (CouldNotRead old new name → old.held name ≡ None) → (found : Result (List ℕ) Refusal) → Gave old new cap name found → Holds old.held cap name found
+reading_whole old new cap name told none found (owing.whole holds fits) = owing.whole (holds told) fits
+reading_whole old new cap name told none found (owing.long far) = long_held old cap name (old.held name) refl (far told)
+reading_whole old new cap name told none found (owing.unread cause) = owing.none (none cause)
+
+asked_whole : (old new : InputState) → IsTrue old.tells → (what : Asked) → ((name : List ℕ) → Contains (names_in what) name → CouldNotRead old new name → old.held name ≡ None)
+    → (outcome : Outcome) → Steps (Gave old new) what outcome → Steps (Holds old.held) what outcome
+asked_whole old new told bad none outcome is = is
+asked_whole old new told words-of.not_built none outcome is = is
+asked_whole old new told (call spec fun numbers) none outcome steps =
+    each _ (Holds old.held source_cap spec) _ _ (reading_whole old new source_cap spec told (none spec (first_contained old new spec))) (λ source found further. further) outcome steps
+
+module _ (words : List (List ℕ)) (old new : InputState) (told : IsTrue old.tells) where
+  -- an outcome is owed, but for a read fault
+  pub comes_owed : (outcome : Outcome) → ComesTo words old new outcome → status_of outcome ≢ s.ReadFault → IsOwed words old.held outcome
+  comes_owed outcome comes other = elim (asked_owed old new told (asked words) outcome comes) [ inl owes ↦ owes | inr fault ↦ absurd (other fault) ]
+
+  owes_outcome : (outcome : Outcome) → IsOwed words old.held outcome → Owes words old.held (status_of outcome) (line_of outcome)
+  owes_outcome outcome owes = record { outcome = outcome; owed = owes; has_status = refl; has_line = refl }
+
+  due_outcome : (outcome : Outcome) → ComesTo words old new outcome → Due words old new (status_of outcome) (line_of outcome)
+  due_outcome (Ok text) comes = owed (λ e. cc) (owes_outcome (Ok text) (comes_owed (Ok text) comes (λ e. cc)))
+  due_outcome (Err bad_words) comes = owed (λ e. cc) (owes_outcome (Err bad_words) (comes_owed (Err bad_words) comes (λ e. cc)))
+  due_outcome (Err not_built) comes = owed (λ e. cc) (owes_outcome (Err not_built) (comes_owed (Err not_built) comes (λ e. cc)))
+  due_outcome (Err (cannot_read name)) comes = unread (unread_outcome words old new (Err (cannot_read name)) comes refl)
+  due_outcome (Err (too_long name)) comes = owed (λ e. cc) (owes_outcome (Err (too_long name)) (comes_owed (Err (too_long name)) comes (λ e. cc)))
+  due_outcome (Err (spec_refused fault)) comes = owed (λ e. cc) (owes_outcome (Err (spec_refused fault)) (comes_owed (Err (spec_refused fault)) comes (λ e. cc)))
+
+  -- where an input fails only because there is nothing to read, what comes is the one status and text that are owed
+  module _ (none : (name : List ℕ) → Contains (input_names words) name → CouldNotRead old new name → old.held name ≡ None) (status : Status) (text : List ℕ) (owes : Owes words old.held status text) where
+    pub comes_whole : (outcome : Outcome) → ComesTo words old new outcome → (status_of outcome ≡ status) × (line_of outcome ≡ text)
+    comes_whole outcome comes =
+        one_answer words old.held (status_of outcome) status (line_of outcome) text (owes_outcome outcome (asked_whole old new told (asked words) none outcome comes)) owes
+
+-- ---- what follows
+
+no_write_fault : (outcome : Outcome) → status_of outcome ≡ s.WriteFault → ⊥
+no_write_fault (Ok text) is = cc
+no_write_fault (Err bad_words) is = cc
+no_write_fault (Err not_built) is = cc
+no_write_fault (Err (cannot_read name)) is = cc
+no_write_fault (Err (too_long name)) is = cc
+no_write_fault (Err (spec_refused fault)) is = cc
+
+no_answer : (status other : Status) → status ≡ other → IsAnswer status → IsAnswer other
+no_answer status other is answer = subst IsAnswer is answer
+
+clash : (b : Bool) → IsTrue b → IsFalse b → ⊥
+clash b is not = cc
+
+rose : (old new : ℕ) → RoseByOne old new → Rose old new
+rose old new by_one = omega (arith, by_one)
+
+asks_bad : (words : List (List ℕ)) (old new : InputState) (outcome : Outcome) → asked words ≡ bad → ComesTo words old new outcome → outcome ≡ Err bad_words
+asks_bad words old new outcome asks comes = subst (λ (what : Asked). Steps (Gave old new) what outcome) asks comes
+
+asks_not_built : (words : List (List ℕ)) (old new : InputState) (outcome : Outcome) → asked words ≡ words-of.not_built → ComesTo words old new outcome → outcome ≡ Err not_built
+asks_not_built words old new outcome asks comes = subst (λ (what : Asked). Steps (Gave old new) what outcome) asks comes
+
+module _ (words : List (List ℕ)) (old new : InputState) (sink_old sink_new : SinkState) (result : Status) where
+  abbrev pub End : Type 0
+  End = Ends words old new sink_old sink_new result
+
+  -- an appended line is the text that it is equal to
+  as_text : (line text : List ℕ) → line ≡ text → Appends sink_old sink_new line → Appends sink_old sink_new text
+  as_text line text is appends = subst (λ (bytes : List ℕ). Appends sink_old sink_new bytes) is appends
+
+  cut_of : (line : List ℕ) → sink_old.room < length line → AppendsFront sink_old sink_new line → IsCut words old new sink_old sink_new result line
+  cut_of line no_room front = record { no_room = no_room; front = front }
+
+  pub by_answered : IsTrue old.tells → IsAnswer result → End → (text : List ℕ) × Owes words old.held result text × Appends sink_old sink_new text
+  by_answered told answer (output.written outcome comes is appends) =
+      let other : status_of outcome ≢ s.ReadFault = λ fault. no_answer result s.ReadFault (is ∙ fault) answer in
+      (line_of outcome, record { outcome = outcome; owed = comes_owed words old new told outcome comes other; has_status = is; has_line = refl }, appends)
+  by_answered told answer (output.cut outcome comes is no_room front) = absurd (no_answer result s.WriteFault is answer)
+  by_answered told answer (output.no_memory is) = absurd (no_answer result s.NoMemory is answer)
+
+  by_owed : IsTrue old.tells → (status : Status) (text : List ℕ) → Owes words old.held status text → End → (result ≡ status) ⊎ ¬ IsAnswer result
+  by_owed told status text owes (output.written outcome comes is appends) = by (due_outcome words old new told outcome comes)
+    where
+      of_due : (found : Status) (line : List ℕ) → result ≡ found → Due words old new found line → (result ≡ status) ⊎ ¬ IsAnswer result
+      of_due found line is (owed other too) = inl (is ∙ (one_answer words old.held found status line text too owes).0)
+      of_due found line is (unread cause) = inr (λ answer. no_answer result s.ReadFault is answer)
+
+      by : Due words old new (status_of outcome) (line_of outcome) → (result ≡ status) ⊎ ¬ IsAnswer result
+      by due = of_due (status_of outcome) (line_of outcome) is due
+  by_owed told status text owes (output.cut outcome comes is no_room front) = inr (λ answer. no_answer result s.WriteFault is answer)
+  by_owed told status text owes (output.no_memory is) = inr (λ answer. no_answer result s.NoMemory is answer)
+
+  -- where the outcome is known
+  by_known : (known : Outcome) → ((outcome : Outcome) → ComesTo words old new outcome → outcome ≡ known) → End
+      → EndsWith words old new sink_old sink_new result (status_of known) (line_of known)
+  by_known known same (output.written outcome comes is appends) =
+      let one = same outcome comes in
+      inl (is ∙ ap status_of one, as_text (line_of outcome) (line_of known) (ap line_of one) appends)
+  by_known known same (output.cut outcome comes is no_room front) =
+      let one = same outcome comes in
+      inr (inl (is, subst (λ (o : Outcome). IsCut words old new sink_old sink_new result (line_of o)) one (cut_of (line_of outcome) no_room front)))
+  by_known known same (output.no_memory is) = inr (inr is)
+
+  by_read_fault : result ≡ s.ReadFault → End → (text : List ℕ) × Unread words old new text × Appends sink_old sink_new text
+  by_read_fault fault (output.written outcome comes is appends) = (line_of outcome, unread_outcome words old new outcome comes (sym is ∙ fault), appends)
+  by_read_fault fault (output.cut outcome comes is no_room front) = absurd (let wrong : s.ReadFault ≡ s.WriteFault = sym fault ∙ is in cc)
+  by_read_fault fault (output.no_memory is) = absurd (let wrong : s.ReadFault ≡ s.NoMemory = sym fault ∙ is in cc)
+
+  by_cut : IsTrue old.tells → result ≡ s.WriteFault → End → (status : Status) × (text : List ℕ) × Due words old new status text × IsCut words old new sink_old sink_new result text
+  by_cut told fault (output.written outcome comes is appends) = absurd (no_write_fault outcome (sym is ∙ fault))
+  by_cut told fault (output.cut outcome comes is no_room front) =
+      (status_of outcome, line_of outcome, due_outcome words old new told outcome comes, cut_of (line_of outcome) no_room front)
+  by_cut told fault (output.no_memory is) = absurd (let wrong : s.WriteFault ≡ s.NoMemory = sym fault ∙ is in cc)
+
+  by_one_line : result ≢ s.WriteFault → result ≢ s.NoMemory → End → (text : List ℕ) × IsLineOf words result text × Appends sink_old sink_new text
+  by_one_line no_fault memory (output.written outcome comes is appends) =
+      (line_of outcome, subst (λ (status : Status). IsLineOf words status (line_of outcome)) (sym is) (line_of_outcome words old new outcome comes), appends)
+  by_one_line no_fault memory (output.cut outcome comes is no_room front) = absurd (no_fault is)
+  by_one_line no_fault memory (output.no_memory is) = absurd (memory is)
+
+  by_cut_line : result ≡ s.WriteFault → End → (status : Status) × (text : List ℕ) × IsLineOf words status text × IsCut words old new sink_old sink_new result text
+  by_cut_line fault (output.written outcome comes is appends) = absurd (no_write_fault outcome (sym is ∙ fault))
+  by_cut_line fault (output.cut outcome comes is no_room front) = (status_of outcome, line_of outcome, line_of_outcome words old new outcome comes, cut_of (line_of outcome) no_room front)
+  by_cut_line fault (output.no_memory is) = absurd (let wrong : s.WriteFault ≡ s.NoMemory = sym fault ∙ is in cc)
+
+  -- where no input fails, and a fault of writing is ruled out
+  by_whole : IsTrue old.tells → ((name : List ℕ) → Contains (input_names words) name → CouldNotRead old new name → old.held name ≡ None) → (status : Status) (text : List ℕ) → Owes words old.held status text
+      → (result ≡ s.WriteFault → sink_old.room < length text → ⊥) → End → Finishes words old new sink_old sink_new result status text
+  by_whole told none status text owes no_fault (output.written outcome comes is appends) =
+      let same = comes_whole words old new told none status text owes outcome comes in
+      inl (is ∙ same.0, as_text (line_of outcome) text same.1 appends)
+  by_whole told none status text owes no_fault (output.cut outcome comes is no_room front) =
+      let same = comes_whole words old new told none status text owes outcome comes in
+      absurd (no_fault is (subst (λ (line : List ℕ). sink_old.room < length line) same.1 no_room))
+  by_whole told none status text owes no_fault (output.no_memory is) = inr is
+
+  unsure_names : All (λ name. IsTrue (old.sure name)) (input_names words) → (name : List ℕ) → Contains (input_names words) name → CouldNotRead old new name → ⊥
+  unsure_names sure name named cause =
+      clash (old.sure name) (All-contains (λ name. IsTrue (old.sure name)) (input_names words) name sure named) cause.unsure
+
+pub ends_follow : EndsFollow
+ends_follow words old new sink_old sink_new result end write_fault = record {
+  answered = λ told answer. by_answered words old new sink_old sink_new result told answer end;
+  owed = λ told status text owes. by_owed words old new sink_old sink_new result told status text owes end;
+  bad_words = λ asks. by_known words old new sink_old sink_new result (Err bad_words) (λ outcome comes. asks_bad words old new outcome asks comes) end;
+  not_built = λ asks. by_known words old new sink_old sink_new result (Err not_built) (λ outcome comes. asks_not_built words old new outcome asks comes) end;
+  read_fault = λ fault. by_read_fault words old new sink_old sink_new result fault end;
+  cut = λ told fault. by_cut words old new sink_old sink_new result told fault end;
+  one_line = λ no_fault memory. by_one_line words old new sink_old sink_new result no_fault memory end;
+  cut_line = λ fault. by_cut_line words old new sink_old sink_new result fault end;
+  complete = λ told status text owes sure room.
+      by_whole words old new sink_old sink_new result told (λ name named cause. absurd (unsure_names words old new sink_old sink_new result sure name named cause)) status text owes (λ fault no_room. let past : sink_old.room < length text = no_room in omega arith) end;
+  complete_in_memory = λ told status text owes none room.
+      by_whole words old new sink_old sink_new result told (λ name named cause. none name named cause.unsure) status text owes (λ fault no_room. let past : sink_old.room < length text = no_room in omega arith) end;
+  complete_without_faults = λ told status text owes calm sink_calm.
+      by_whole words old new sink_old sink_new result told (λ name named cause. absurd (calm (rose old.faults new.faults cause.fault))) status text owes
+      (λ fault no_room. sink_calm (rose sink_old.faults sink_new.faults (write_fault fault))) end;
+}

@@ -1,0 +1,68 @@
+-- What follows from how a run ends.
+use Rattle.std.specs.Prelude.{◌≡◌, ◌≢◌, ◌⊎◌, ℕ, ◌<◌, ◌≤◌, List, None, All, Contains, IsTrue, length}
+use Rattle.std.specs.Bool.{IsFalse}
+use Rattle.tsl_io.specs.Faults.{Rose}
+use Rattle.tsl_io.specs.InputState.{InputState}
+use Rattle.tsl_io.specs.SinkState.{SinkState, Appends, AppendsFront}
+use Rattle.tsl_run.specs.declared.status.Status.{Status}
+use Rattle.tsl_run.specs.declared.status.Status.TheVariants as s
+use Rattle.tsl_run.specs.Lines.{bad_words_line, cannot_read_line, not_built_line}
+use Rattle.tsl_run.specs.Owed.{CouldNotRead, Owes}
+use Rattle.tsl_run.specs.Possible.{IsLineOf}
+use Rattle.tsl_run.specs.Statuses.{IsAnswer}
+use Rattle.tsl_run.specs.Words as words-of
+use Rattle.tsl_run.specs.Words.{asked, bad, input_names}
+
+-- An input of the words could not be read, as the text says.
+pub record Unread (words : List (List ℕ)) (old new : InputState) (text : List ℕ) : Type 0 where
+  pub name : List ℕ
+  pub named : Contains (input_names words) name
+  pub cause : CouldNotRead old new name
+  pub line : text ≡ cannot_read_line name
+
+-- What is to be written in the end: what is owed, or after a failed read the line that says so.
+pub data Due (words : List (List ℕ)) (old new : InputState) : Status → List ℕ → Type 0 where
+  owed : {status : Status} {text : List ℕ} → status ≢ s.ReadFault → Owes words old.held status text → Due words old new status text
+  unread : {text : List ℕ} → Unread words old new text → Due words old new s.ReadFault text
+
+module _ (words : List (List ℕ)) (old new : InputState) (sink_old sink_new : SinkState) (result : Status) where
+  -- A front of a text was written, which had no room as a whole.
+  pub record IsCut (text : List ℕ) : Type 0 where
+    pub no_room : sink_old.room < length text
+    pub front : AppendsFront sink_old sink_new text
+
+  -- The run ends with this status and its text, or with a front of a text that had no room, as far as memory lasts.
+  abbrev pub EndsWith : Status → List ℕ → Type 0
+  EndsWith status text = ((result ≡ status) × Appends sink_old sink_new text)
+      ⊎ ((result ≡ s.WriteFault) × IsCut text)
+      ⊎ (result ≡ s.NoMemory)
+
+  -- The run ends with this status and its text, as far as memory lasts.
+  abbrev pub Finishes : Status → List ℕ → Type 0
+  Finishes status text = ((result ≡ status) × Appends sink_old sink_new text) ⊎ (result ≡ s.NoMemory)
+
+  pub record Follows : Type 0 where
+    -- Over inputs that tell: what is answered is owed, and its text is written.
+    pub answered : IsTrue old.tells → IsAnswer result
+        → (text : List ℕ) × Owes words old.held result text × Appends sink_old sink_new text
+    -- Over inputs that tell: what is owed is answered, but for a fault and want of memory.
+    pub owed : IsTrue old.tells → (status : Status) (text : List ℕ) → Owes words old.held status text → (result ≡ status) ⊎ ¬ IsAnswer result
+    -- Words that ask for nothing that is built are refused.
+    pub bad_words : asked words ≡ bad → EndsWith s.BadWords bad_words_line
+    pub not_built : asked words ≡ words-of.not_built → EndsWith s.NotBuilt not_built_line
+    -- A fault of an input has its cause in this run, at a name that is not sure, and is written.
+    pub read_fault : result ≡ s.ReadFault → (text : List ℕ) × Unread words old new text × Appends sink_old sink_new text
+    -- Over inputs that tell: a fault of the sink comes only where the text that is due has no room, and a front of it is written.
+    pub cut : IsTrue old.tells → result ≡ s.WriteFault → (status : Status) × (text : List ℕ) × Due words old new status text × IsCut text
+    -- Over all inputs: one line of the status is written, or a front of a line that had no room.
+    pub one_line : result ≢ s.WriteFault → result ≢ s.NoMemory → (text : List ℕ) × IsLineOf words result text × Appends sink_old sink_new text
+    pub cut_line : result ≡ s.WriteFault → (status : Status) × (text : List ℕ) × IsLineOf words status text × IsCut text
+    -- Over inputs that tell: what is owed is answered and written where the names are sure and there is room; where there is room
+    -- and each name that is not sure holds nothing; and where no fault was counted.
+    pub complete : IsTrue old.tells → (status : Status) (text : List ℕ) → Owes words old.held status text
+        → All (λ name. IsTrue (old.sure name)) (input_names words) → length text ≤ sink_old.room → Finishes status text
+    pub complete_in_memory : IsTrue old.tells → (status : Status) (text : List ℕ) → Owes words old.held status text
+        → ((name : List ℕ) → Contains (input_names words) name → IsFalse (old.sure name) → old.held name ≡ None)
+        → length text ≤ sink_old.room → Finishes status text
+    pub complete_without_faults : IsTrue old.tells → (status : Status) (text : List ℕ) → Owes words old.held status text
+        → ¬ Rose old.faults new.faults → ¬ Rose sink_old.faults sink_new.faults → Finishes status text

@@ -1,0 +1,25 @@
+-- What holds of what is owed, and of how a run ends.
+use Rattle.std.specs.Prelude.{◌≡◌, ℕ, List}
+use Rattle.tsl_io.specs.Faults.{RoseByOne}
+use Rattle.tsl_io.specs.InputState.{InputState}
+use Rattle.tsl_io.specs.SinkState.{SinkState}
+use Rattle.tsl_run.specs.declared.status.Status.{Status}
+use Rattle.tsl_run.specs.declared.status.Status.TheVariants as s
+use Rattle.tsl_run.specs.Follows.{Follows}
+use Rattle.tsl_run.specs.Output.{Ends}
+use Rattle.tsl_run.specs.Owed.{Held, Owes}
+
+-- one status and text are owed at most
+abbrev pub OneAnswer : Type 0
+OneAnswer = (words : List (List ℕ)) (held : Held) (status other : Status) (text line : List ℕ)
+    → Owes words held status text → Owes words held other line → (status ≡ other) × (text ≡ line)
+
+-- and at least one
+abbrev pub SomeAnswer : Type 0
+SomeAnswer = (words : List (List ℕ)) (held : Held) → (status : Status) × (text : List ℕ) × Owes words held status text
+
+-- what follows for a run of which `run` says how it ends, and that a fault of writing was counted
+abbrev pub EndsFollow : Type 0
+EndsFollow = (words : List (List ℕ)) (old new : InputState) (sink_old sink_new : SinkState) (result : Status)
+    → Ends words old new sink_old sink_new result → (result ≡ s.WriteFault → RoseByOne sink_old.faults sink_new.faults)
+    → Follows words old new sink_old sink_new result

@@ -1,0 +1,46 @@
+-- How the code's values say what a run comes to.
+use Rattle.std.specs.Prelude.{Result, Ok, Err}
+use Rattle.std.specs.String.{string_bytes}
+use Rattle.tsl_lexer.specs.declared.lex_error.LexError.{LexError}
+use Rattle.tsl_lexer.specs.declared.lex_error.LexError.TheVariants as lexing
+use Rattle.tsl_parser.specs.declared.ParseError.{ParseError}
+use Rattle.tsl_parser.specs.declared.ParseError.TheVariants as parsing
+use Rattle.tsl_run.specs.declared.outcome.Halt.{Halt}
+use Rattle.tsl_run.specs.declared.outcome.Halt.TheVariants.{Refused, NoMemory}
+use Rattle.tsl_run.specs.declared.outcome.Outcome as code-outcome
+use Rattle.tsl_run.specs.declared.outcome.Refusal as code-refusal
+use Rattle.tsl_run.specs.declared.outcome.Refusal.TheVariants.{BadWords, NotBuilt, CannotRead, TooLong, SpecRefused}
+use Rattle.tsl_run.specs.declared.outcome.Outcome.TheVariants as o
+use Rattle.tsl_run.specs.declared.spec_fault.SpecFault.TheVariants.{Lexing, Parsing}
+use Rattle.tsl_run.specs.Outcome.{Outcome, Refusal, bad_words, not_built, cannot_read, too_long, spec_refused}
+
+abbrev pub refusal_of : code-refusal.Refusal → Refusal
+refusal_of BadWords = bad_words
+refusal_of NotBuilt = not_built
+refusal_of (CannotRead name) = cannot_read name.now
+refusal_of (TooLong name) = too_long name.now
+refusal_of (SpecRefused fault) = spec_refused fault
+
+abbrev pub outcome_of : code-outcome.Outcome → Outcome
+outcome_of (o.Answer text) = Ok (string_bytes text)
+outcome_of (o.Refused refusal) = Err (refusal_of refusal)
+
+-- The step may stop so, where memory lasts.
+abbrev pub Stops : {A : Type 0} → (Result A Refusal → Type 0) → Halt → Type 0
+Stops step (Refused refusal) = step (Err (refusal_of refusal))
+Stops step NoMemory = Unit {0}
+
+-- The answer, seen so, is one that the step may give, or it stops.
+abbrev pub Gives : {A B : Type 0} → (Result B Refusal → Type 0) → (A → B) → Result A Halt → Type 0
+Gives step seen (Ok found) = step (Ok (seen found))
+Gives step seen (Err halt) = Stops step halt
+
+-- why a source without tokens has no specification
+abbrev pub halt_of_lexing : LexError → Halt
+halt_of_lexing lexing.NoMemory = NoMemory
+halt_of_lexing error = Refused (SpecRefused (Lexing error))
+
+-- and why one without a tree has none
+abbrev pub halt_of_parsing : ParseError → Halt
+halt_of_parsing parsing.NoMemory = NoMemory
+halt_of_parsing error = Refused (SpecRefused (Parsing error))

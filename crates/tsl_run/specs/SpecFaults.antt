@@ -1,0 +1,28 @@
+-- The faults of a specification, each as the error of the layer that finds it.
+use Rattle.std.specs.Prelude.{ℕ, List, length}
+use Rattle.tsl_lexer.specs.declared.lex_error.LexError.{LexError}
+use Rattle.tsl_lexer.specs.declared.token.Token.{Token}
+use Rattle.tsl_lexer.specs.FaultLines as lexer
+use Rattle.tsl_lexer.specs.Source.{IsFirstFault, IsLexedFrom}
+use Rattle.tsl_parser.specs.declared.ParseError.{ParseError}
+use Rattle.tsl_parser.specs.declared.ParseError.TheVariants.{Syntax, TooDeep, NoMemory}
+use Rattle.tsl_parser.specs.Exact.{IsDeepAt, IsSyntaxAt}
+use Rattle.tsl_parser.specs.FaultLines as parser
+use Rattle.tsl_run.specs.declared.spec_fault.SpecFault.{SpecFault}
+use Rattle.tsl_run.specs.declared.spec_fault.SpecFault.TheVariants.{Lexing, Parsing}
+
+-- the line that says which fault it is
+abbrev pub spec_line : SpecFault → List ℕ
+spec_line (Lexing error) = lexer.fault_line error
+spec_line (Parsing error) = parser.fault_line error
+
+-- The tokens go wrong first with this error.
+abbrev pub IsParseFault : List Token → ℕ → ParseError → Type 0
+IsParseFault tokens end (Syntax at) = IsSyntaxAt tokens end at
+IsParseFault tokens end (TooDeep at) = IsDeepAt tokens at
+IsParseFault tokens end NoMemory = ⊥
+
+-- The source has this fault first: it has no tokens, or these have no tree.
+pub data HasFault (source : List ℕ) : SpecFault → Type 0 where
+  lexing : {error : LexError} → IsFirstFault source error → HasFault source (Lexing error)
+  parsing : {tokens : List Token} {error : ParseError} → IsLexedFrom source tokens → IsParseFault tokens (length source) error → HasFault source (Parsing error)

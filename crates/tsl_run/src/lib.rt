@@ -1,0 +1,100 @@
+//! What the program does with its words, from bytes to bytes.
+//!
+//! `run` asks what its words want, reads the inputs that they name, and writes one text. What it comes to is one `Outcome`: the text
+//! that was asked for, or a `Refusal` with what it names. `Outcome::status` and `Outcome::line` say once what status and what line
+//! each has. Want of memory is no outcome: a step that finds none halts, and nothing is written.
+//!
+//! `answer` shows the chain from words to text. It is the chain of the definition, specs/Steps: each step gives something to the
+//! next one, or refuses, and then that is what the run comes to. Over the bytes that the names hold (`Holds`) these steps
+//! have one outcome, which is *owed* (`Owes`). Over inputs that may fail (`Gave`) they have the same one, or that an input could not be
+//! read; the code gives just that (`Gives`, for each of its steps), and so the whole is proved step by step.
+//!
+//! What is proved: `run` ends with an outcome that it comes to and writes its line, or a front of it where the sink fails, or
+//! nothing for want of memory (`ends`). Over inputs that tell their bytes an answer is owed (`answered`). All else that a caller
+//! wants follows from that, as the law `laws::ends_follow` shows: each fault has its cause, one line is written, and where
+//! nothing fails what is owed is answered. `run_in_memory` is the run where nothing fails, and its contract says so.
+#![tactic(auto)]
+
+ghost use Rattle.std.specs.Prelude.{◌≡◌, ◌≢◌, ◌⊎◌, IsTrue, List, ℕ};
+ghost use Rattle.tsl_io.specs.Faults.{RoseByOne};
+ghost use Rattle.tsl_io.specs.InputState.{InputsKept};
+ghost use Rattle.tsl_io.specs.SinkState.{Appends, SinkKept};
+ghost use Rattle.tsl_run.specs.Output.{Ends};
+ghost use Rattle.tsl_run.specs.Owed.{Owes};
+ghost use Rattle.tsl_run.specs.Reading.{IsTakenFrom};
+ghost use Rattle.tsl_run.specs.Statuses.{IsAnswer};
+ghost use Rattle.tsl_run.specs.Words.{asked, bad, input_names, not_built, texts};
+
+mod answer;
+mod call;
+mod in_memory;
+pub mod laws;
+mod lines;
+mod number;
+mod outcome;
+mod source;
+mod spec_fault;
+mod status;
+mod words;
+
+use answer::come_to;
+pub use in_memory::{Ended, run_in_memory};
+pub use status::Status;
+use std::alloc::Global;
+use tsl_io::{Inputs, Sink, WriteFault, write_whole};
+
+/// Answers what the words ask for: the one text that it writes is known before it is written.
+///
+/// What else follows of a run is the law `laws::ends_follow`.
+pub fn run<I: Inputs, S: Sink>(
+    alloc: Global,
+    words: &[String],
+    inputs: &mut I,
+    sink: &mut S,
+) -> Status
+    // What stays of the inputs and of the sink.
+    ensures inputs_kept { InputsKept (I.state inputs.old) (I.state inputs.new) }
+    ensures sink_kept { SinkKept (S.state sink.old) (S.state sink.new) }
+
+    // Over inputs that tell, what is answered is owed, and its text is written.
+    ensures answered { IsTrue (I.state inputs.old).tells → IsAnswer result
+        → (text : List ℕ) × Owes (texts words.now) (I.state inputs.old).held result text
+        × Appends (S.state sink.old) (S.state sink.new) text }
+
+    // Over all inputs: which outcome it comes to, and what it writes of it.
+    ensures ends { Ends (texts words.now) (I.state inputs.old) (I.state inputs.new)
+        (S.state sink.old) (S.state sink.new) result }
+
+    // Where a run comes to an answer, no fault of an input was counted.
+    ensures no_fault { IsAnswer result → (I.state inputs.new).faults ≡ (I.state inputs.old).faults }
+
+    // A fault of the sink is answered exactly where one was counted in this call.
+    ensures write_fault { result ≡ Status.WriteFault
+        → RoseByOne (S.state sink.old).faults (S.state sink.new).faults }
+    ensures no_sink_fault { result ≢ Status.WriteFault
+        → (S.state sink.new).faults ≡ (S.state sink.old).faults }
+
+    // Words that ask for nothing that is built are refused before any input is opened.
+    ensures bad_words { asked (texts words.now) ≡ bad → inputs.new ≡ inputs.old }
+    ensures not_built { asked (texts words.now) ≡ not_built → inputs.new ≡ inputs.old }
+
+    // No more is taken of an input than its cap and one byte, from the last time it was opened.
+    ensures taken { IsTrue (I.state inputs.old).tells → (inputs.new ≡ inputs.old)
+        ⊎ (IsTrue (I.state inputs.new).is_open
+        → IsTakenFrom (input_names (texts words.now)) (I.state inputs.old) (I.state inputs.new)) }
+
+    // Where memory runs out nothing is written.
+    ensures no_memory { result ≡ Status.NoMemory → sink.new ≡ sink.old }
+{
+    let Ok(outcome) = come_to(alloc, words, inputs) else {
+        return Status::NoMemory;
+    };
+    let status = outcome.status();
+    let Ok(line) = outcome.line(alloc) else {
+        return Status::NoMemory;
+    };
+    match write_whole(sink, line.as_bytes()) {
+        Ok(()) => status,
+        Err(WriteFault) => Status::WriteFault,
+    }
+}
