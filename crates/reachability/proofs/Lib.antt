@@ -1,0 +1,6 @@
+pub mod Marks
+pub mod Searching
+pub mod Rows
+pub mod Groups
+pub mod Ranks
+pub mod Tables

@@ -1,0 +1,4 @@
+pub mod Graph
+pub mod Table
+pub mod Marks
+pub mod Laws

@@ -1,0 +1,5 @@
+pub mod Calls
+pub mod Groups
+pub mod Recursion
+pub mod Told
+pub mod Laws

@@ -1,0 +1,12 @@
+pub mod Numerals
+pub mod Counting
+pub mod Bridge
+pub mod Rounds
+pub mod Named
+pub mod Faultless
+pub mod Shapes
+pub mod Pushes
+pub mod Settled
+pub mod States
+pub mod Ranked
+pub mod Checked

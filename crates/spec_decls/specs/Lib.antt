@@ -1,0 +1,9 @@
+pub mod TypeNames
+pub mod Leaves
+pub mod Counts
+pub mod Types
+pub mod Declarations
+pub mod Sizes
+pub mod MachineRules
+pub mod Laws
+pub mod Views

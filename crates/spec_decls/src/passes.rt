@@ -1,0 +1,54 @@
+//! The second pass, whole.
+
+ghost use Rattle.std.specs.Prelude.{◌≡◌, IfOk, None, OnOk, map};
+ghost use Rattle.tsl_parser.specs.View as view;
+ghost use Rattle.spec_types.specs.Answers.{Agrees};
+ghost use Rattle.spec_types.specs.Views.{environment};
+ghost use Rattle.spec_types.specs.WellFormed.{IsWellFormed};
+ghost use Rattle.spec_decls.specs.Declarations.{declared, HaveCases};
+ghost use Rattle.spec_decls.specs.Leaves as leaves;
+ghost use Rattle.spec_decls.specs.Leaves.{IsKnown};
+ghost use Rattle.spec_decls.specs.TypeNames.{types_of};
+ghost use Rattle.spec_decls.specs.Types.{TypesAnswer};
+
+use crate::declare::declare;
+use crate::known::{Facts, known};
+use crate::made::{datatypes, made};
+use crate::sizes::check_sizes;
+use crate::type_names::TypeNames;
+use crate::types::types_fault;
+use spec_types::{Declarations, SpecError};
+use std::alloc::Global;
+use tsl_parser::tree::{DataDecl, Item};
+
+/// What items declare, where no fault of their types stands.
+pub fn declarations(alloc: Global, items: &[Item]) -> Result<Declarations, SpecError>
+    ensures answer { TypesAnswer (map view.item items.now) result }
+    ensures declared { IfOk result (λ r. environment r ≡ declared (map view.item items.now)) }
+    ensures well_formed { OnOk result (HaveCases (map view.item items.now) → IsWellFormed (declared (map view.item items.now))) }
+{
+    let names = TypeNames::new(alloc, items)?;
+    check_types(alloc, &names, items)?;
+    Ok(declare(alloc, &names, items)?)
+}
+
+/// The first fault of types.
+fn check_types(alloc: Global, names: &TypeNames, items: &[Item]) -> Result<(), SpecError>
+    requires { names.now ≡ types_of (map view.item items.now) }
+    ensures answer { TypesAnswer (map view.item items.now) result }
+    ensures well_formed { OnOk result (HaveCases (map view.item items.now) → IsWellFormed (declared (map view.item items.now))) }
+{
+    let datas = datatypes(alloc, items)?;
+    check_sizes(&datas)?;
+    let facts = facts_of(alloc, names, &datas)?;
+    types_fault(alloc, names, &datas, &facts, items)
+}
+
+/// What is known of datatypes.
+fn facts_of(alloc: Global, names: &TypeNames, datas: &[&DataDecl]) -> Result<Facts, SpecError>
+    ensures answer { Agrees result None }
+    ensures known { IfOk result (λ r. IsKnown (map (leaves.made names.now) (map (λ d. view.datatype d.now) datas.now)) r.recursive.items r.large.items) }
+{
+    let made = made(alloc, names, datas)?;
+    known(alloc, &made)
+}

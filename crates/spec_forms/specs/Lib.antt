@@ -1,0 +1,3 @@
+pub mod Operators
+pub mod OperatorViews
+pub mod Forms

@@ -1,0 +1,5 @@
+pub mod Named
+pub mod Patterned
+pub mod Typing
+pub mod Tails
+pub mod Coring

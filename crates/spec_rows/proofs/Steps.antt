@@ -1,0 +1,85 @@
+-- Steps of loops, and numbers past 64 bits.
+use Rattle.std.proofs.Common.{◌≡◌, ◌≢◌, ℕ, suc, ◌+◌, ◌-◌, ◌<◌, ◌≤◌, ◌/◌, ◌^◌, Bool, true, false, ◌&&◌, nat_lt, List, [], ◌∷◌, length, drop, get_or, refl, arith, ap, add-one, zero, pow_mono, lt_of_lt_of_le, Option, Some}
+use Rattle.std.proofs.Math.Nat.{div-eq_of_lt}
+use Rattle.std.proofs.Math.Seq.{drop-cons}
+use Rattle.std.proofs.lemmas.Bool.Decides.{nat_tests}
+use Rattle.spec_types.specs.declared.ty.Ty.{Ty}
+use Rattle.spec_types.specs.declared.spec_error.SpecError.{SpecError}
+use Rattle.spec_types.specs.Answers.{unless, ◌then◌}
+use Rattle.tsl_parser.specs.declared.tree.ArgDecl.{ArgDecl}
+use Rattle.spec_rows.specs.Fields.{Field}
+use Rattle.spec_rows.specs.Fits.{arg_fits, args_fit}
+use Rattle.spec_rows.specs.Bits.{bit, bits_of, bits_agree, all_agree}
+
+-- numbers of 64 bits and larger widths
+pub fits_past : (v w : ℕ) → v < 2 ^ 64 → 64 ≤ w → nat_lt v (2 ^ w) ≡ true
+fits_past v w below past =
+    let h : v < 2 ^ w = lt_of_lt_of_le below (pow_mono past) in
+    grind (arith, nat_tests)
+
+pub no_bit_past : (v n : ℕ) → v < 2 ^ 64 → 64 ≤ n → v / 2 ^ n ≡ 0
+no_bit_past v n below past = div-eq_of_lt (lt_of_lt_of_le below (pow_mono past))
+
+and_false : (a b : Bool) → b ≡ false → (a && b) ≡ false
+and_false true b h = h
+and_false false b h = refl
+
+-- two tests, one after the other
+pub unless_and : (a b : Bool) (e : SpecError) → unless (a && b) e ≡ (unless a e then unless b e)
+unless_and true b e = refl
+unless_and false b e = refl
+
+pub drop_from : {A : Type 0} (xs : List A) (i : ℕ) (d : A) → i < length xs → drop i xs ≡ get_or xs i d ∷ drop (i + 1) xs
+drop_from xs i d h = rw (add-one, drop-cons xs i d h) refl
+
+pub drop_here : {A : Type 0} (xs : List A) (i : ℕ) (x : A) → x ≡ get_or xs i x → i < length xs → drop i xs ≡ x ∷ drop (i + 1) xs
+drop_here xs i x e h = rw (add-one, drop-cons xs i x h, ← e) refl
+
+pub drop_past : {A : Type 0} (xs : List A) (i : ℕ) → length xs ≤ i → drop i xs ≡ []
+drop_past [] zero h = refl
+drop_past [] (suc i) h = refl
+drop_past (x ∷ xs) zero h = absurd (omega (arith, h))
+drop_past (x ∷ xs) (suc i) h = drop_past xs i (omega (arith, h))
+
+-- ---- bits
+
+pub bits_step : (v w : ℕ) → 0 < w → bits_of v w ≡ Some (bit v (w - 1)) ∷ bits_of v (w - 1)
+bits_step v zero h = absurd (omega (arith, h))
+bits_step v (suc w) h =
+    let e : suc w - 1 ≡ w = omega arith in
+    rw e refl
+
+pub bits_none : (v w : ℕ) → w ≤ 0 → bits_of v w ≡ []
+bits_none v zero h = refl
+bits_none v (suc w) h = absurd (omega (arith, h))
+
+pub agree_step : (a b : List (Option Bool)) (i : ℕ) (d f : Option Bool) → i < length a → i < length b
+    → all_agree (drop i a) (drop i b) ≡ (bits_agree (get_or a i d) (get_or b i f) && all_agree (drop (i + 1) a) (drop (i + 1) b))
+agree_step a b i d f h k = rw (drop_from a i d h, drop_from b i f k) refl
+
+agree_with_none : (a : List (Option Bool)) → all_agree a [] ≡ true
+agree_with_none [] = refl
+agree_with_none (x ∷ xs) = refl
+
+pub agree_end : (a b : List (Option Bool)) (i : ℕ) → length a ≤ i → all_agree (drop i a) (drop i b) ≡ true
+agree_end a b i h = rw (drop_past a i h) refl
+
+pub agree_end_second : (a b : List (Option Bool)) (i : ℕ) → length b ≤ i → all_agree (drop i a) (drop i b) ≡ true
+agree_end_second a b i h = rw (drop_past b i h) (agree_with_none (drop i a))
+
+-- ---- arguments
+
+pub arguments_step : (fields : List Field) (args : List ArgDecl) (types : List Ty) (i : ℕ) (a : ArgDecl) (d : Ty) → i < length args → i < length types → a ≡ get_or args i a
+    → args_fit fields (drop i args) (drop i types) ≡ (arg_fits fields a (get_or types i d) && args_fit fields (drop (i + 1) args) (drop (i + 1) types))
+arguments_step fields args types i a d h k e = rw (drop_from args i a h, drop_from types i d k, ← e) refl
+
+pub arguments_end : (fields : List Field) (args : List ArgDecl) (types : List Ty) → length args ≡ length types → args_fit fields (drop (length args) args) (drop (length args) types) ≡ true
+arguments_end fields args types h = rw (drop_past args (length args) (omega arith), drop_past types (length args) (omega (arith, h))) refl
+
+pub arguments_count : (fields : List Field) (args : List ArgDecl) (types : List Ty) → length args ≢ length types → args_fit fields args types ≡ false
+arguments_count fields [] [] h = absurd (h refl)
+arguments_count fields [] (t ∷ types) h = refl
+arguments_count fields (a ∷ args) [] h = refl
+arguments_count fields (a ∷ args) (t ∷ types) h = and_false (arg_fits fields a t) (args_fit fields args types) (arguments_count fields args types (λ e. h (ap suc e)))
+
+pub ruleset row_steps = (fits_past, no_bit_past, unless_and, bits_step, bits_none, agree_step, agree_end, agree_end_second, arguments_step, arguments_end, arguments_count)

@@ -1,0 +1,6 @@
+pub mod Fields
+pub mod Fits
+pub mod Bits
+pub mod Rows
+pub mod Decoded
+pub mod Views

@@ -1,0 +1,35 @@
+//! Bodies of functions.
+
+ghost use Rattle.std.specs.Prelude.{◌≡◌, IfOk, OnOk, true};
+ghost use Rattle.tsl_parser.specs.View.{term as expr};
+ghost use Rattle.spec_types.specs.Answers.{Agrees};
+ghost use Rattle.spec_types.specs.Views.{core, term};
+ghost use Rattle.spec_types.specs.WellFormed.{IsWellFormed, is_scope};
+ghost use Rattle.spec_terms.specs.Cores.{core_in};
+ghost use Rattle.spec_terms.specs.Parts.{wanted};
+ghost use Rattle.spec_terms.specs.Terms.{part, term_of};
+
+use crate::terms::of_type;
+use spec_forms::Forms;
+use spec_types::{Environment, Scope, SpecError, Ty};
+use std::alloc::Global;
+use tsl_parser::tree::Expr;
+
+/// The body of a function, in both forms, or its first fault. The parameters are in scope, and the
+/// body has to have the type of the result.
+pub fn checked_body<'a>(
+    alloc: Global,
+    environment: &Environment,
+    scope: &mut Scope<'a>,
+    body: &'a Expr,
+    want: Ty,
+) -> Result<Forms, SpecError>
+    requires declared { IsWellFormed environment.now }
+    requires scope { is_scope environment.now scope.old ≡ true }
+    ensures answer { Agrees result (wanted environment.now want (part environment.now scope.old (expr body.now))) }
+    ensures term { IfOk result (λ r. term r.term ≡ term_of environment.now scope.old (expr body.now)) }
+    ensures core { IfOk result (λ r. core r.core ≡ core_in environment.now scope.old (expr body.now)) }
+    ensures scope { OnOk result (scope.new ≡ scope.old) }
+{
+    of_type(alloc, environment, scope, body, want)
+}

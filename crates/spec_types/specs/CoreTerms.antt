@@ -1,0 +1,36 @@
+-- A core term as plain data.
+use Rattle.std.specs.Prelude.{ℕ, Bool, List, [], ◌∷◌}
+use Rattle.word_ops.specs.declared.kinds.Op1.{Op1}
+use Rattle.word_ops.specs.declared.kinds.Op2.{Op2}
+use Rattle.word_ops.specs.declared.kinds.Cmp.{Cmp}
+use Rattle.tsl_match.specs.Decisions.{Tree}
+use Rattle.spec_types.specs.declared.term.CastKind.{CastKind}
+
+mutual
+  pub data Core : Type 0 where
+    var : ℕ → Core
+    flag : Bool → Core
+    word : ℕ → ℕ → Core
+    un : Op1 → ℕ → Core → Core
+    bin : Op2 → ℕ → Core → Core → Core
+    test : Cmp → ℕ → Core → Core → Core
+    cast : CastKind → ℕ → ℕ → Core → Core
+    let_in : Core → Core → Core
+    if_else : Core → Core → Core → Core
+    choose : Core → Tree → Cores → Core
+    make : ℕ → ℕ → Cores → Core
+    call : ℕ → Cores → Core
+    get : ℕ → Core → Core → Core
+    put : ℕ → Core → Core → Core → Core
+
+  pub data Cores : Type 0 where
+    no_core : Cores
+    core_then : Core → Cores → Cores
+
+-- a list in front of more
+abbrev pub cores_onto : List Core → Cores → Cores
+cores_onto [] rest = rest
+cores_onto (t ∷ ts) rest = core_then t (cores_onto ts rest)
+
+abbrev pub cores : List Core → Cores
+cores ts = cores_onto ts no_core

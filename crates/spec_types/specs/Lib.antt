@@ -1,0 +1,14 @@
+pub mod Terms
+pub mod CoreTerms
+pub mod Environment
+pub mod Texts
+pub mod Answers
+pub mod TermTypes
+pub mod Cores
+pub mod Specification
+pub mod Views
+pub mod Scopes
+pub mod FaultLines
+pub mod Bindings
+pub mod WellFormed
+pub mod Ready

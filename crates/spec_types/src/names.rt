@@ -1,0 +1,94 @@
+//! What names of functions and constructors mean.
+
+ghost use Rattle.std.specs.Prelude.{◌≡◌, IfOk, map, option_map};
+ghost use Rattle.spec_types.specs.Environment.{case_from, constructor_from, constructor_named, function_from, function_named, key_type, value_type};
+ghost use Rattle.spec_types.specs.Views.{case_of, data_of, environment, signature_of};
+ghost use Rattle.spec_types.specs.Scopes.{constructor_of, function_of};
+
+use crate::declared::{Case, Declarations, Signature};
+use crate::texts::same;
+use crate::ty::Ty;
+use std::alloc::{AllocError, Global};
+use tsl_lexer::Text;
+
+/// A function by its number.
+#[derive(Clone, Copy, Drop)]
+pub struct Function<'a> {
+    pub fun: usize,
+    pub signature: &'a Signature,
+}
+
+/// A constructor by the number of its datatype and its own.
+#[derive(Clone, Copy, Drop)]
+pub struct Constructor<'a> {
+    pub ty: usize,
+    pub case: usize,
+    pub fields: &'a [(Text, Ty)],
+}
+
+/// The function of a name.
+pub fn function_named<'a>(declarations: &'a Declarations, name: &Text) -> Option<Function<'a>>
+    ensures { option_map function_of result ≡ function_named (environment declarations.now) name.now }
+{
+    for (fun, signature) in declarations.funs.as_slice().iter().enumerate() {
+        if same(&signature.name, name) {
+            return Some(Function { fun, signature });
+        }
+    }
+    None
+}
+
+/// The constructor of a name.
+pub fn constructor_named<'a>(declarations: &'a Declarations, name: &Text) -> Option<Constructor<'a>>
+    ensures { option_map constructor_of result ≡ constructor_named (environment declarations.now) name.now }
+{
+    for (ty, data) in declarations.datas.as_slice().iter().enumerate() {
+        if let Some(found) = case_named(ty, &data.cases, name) {
+            return Some(found);
+        }
+    }
+    None
+}
+
+/// The constructor of a name among those of datatype `ty`.
+fn case_named<'a>(ty: usize, cases: &'a [Case], name: &Text) -> Option<Constructor<'a>>
+    ensures { option_map constructor_of result ≡ case_from ty 0 (map case_of cases.now) name.now }
+{
+    for (case, c) in cases.iter().enumerate() {
+        if same(&c.name, name) {
+            return Some(Constructor {
+                ty,
+                case,
+                fields: &c.fields,
+            });
+        }
+    }
+    None
+}
+
+/// The types of the fields of a constructor.
+pub fn field_types(alloc: Global, fields: &[(Text, Ty)]) -> Result<Vec<Ty>, AllocError>
+    ensures { IfOk result (λ r. r.items ≡ map (λ f. f.1) fields.now) }
+{
+    fields.iter().map(|f| f.1).collect(alloc)
+}
+
+/// The type of the keys of a map type.
+pub fn key_type(declarations: &Declarations, map: u32) -> Ty
+    ensures { result ≡ key_type (environment declarations.now) map }
+{
+    match declarations.maps.get(map as usize) {
+        Some(d) => d.key,
+        None => Ty::Bool,
+    }
+}
+
+/// The type of the values of a map type.
+pub fn value_type(declarations: &Declarations, map: u32) -> Ty
+    ensures { result ≡ value_type (environment declarations.now) map }
+{
+    match declarations.maps.get(map as usize) {
+        Some(d) => Ty::Word(d.width),
+        None => Ty::Bool,
+    }
+}

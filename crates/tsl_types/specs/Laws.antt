@@ -1,0 +1,11 @@
+-- Laws of checking: what the layers above rely on.
+use Rattle.std.specs.Prelude.{◌≡◌}
+use Rattle.tsl_parser.specs.Tree.{Tree}
+use Rattle.spec_types.specs.declared.spec.Use.{Use}
+use Rattle.spec_types.specs.declared.spec_error.SpecError.{SpecError}
+use Rattle.tsl_types.specs.Check.{IsFirstFault, IsFaultless}
+
+-- There is one first fault, or none.
+pub record FaultsAreSettled : Type 0 where
+  pub one : (wanted : Use) (tree : Tree) (e f : SpecError) → IsFirstFault wanted tree e → IsFirstFault wanted tree f → e ≡ f
+  pub not_both : (wanted : Use) (tree : Tree) (e : SpecError) → IsFaultless wanted tree → ¬ IsFirstFault wanted tree e
