@@ -1,6 +1,6 @@
 //! Functions that may not call as they do.
 
-ghost use Rattle.std.specs.Prelude.{◌≡◌, ◌⊎◌, ◌<◌, ℕ, length, map, IfErr, IfOk, IfSome, OnOk};
+ghost use Rattle.std.specs.Prelude.{◌≡◌, ◌⊎◌, ◌<◌, ◌&&◌, ℕ, length, map, not, IfErr, IfOk, IfSome, OnOk};
 ghost use Rattle.reachability.specs.Table as reach;
 ghost use Rattle.spec_types.specs.Views as view;
 ghost use Rattle.spec_types.specs.declared.spec_error.SpecError.TheVariants.{BadRecursion, NoMemory};
@@ -15,12 +15,19 @@ use spec_types::{SpecError, Term};
 use std::alloc::Global;
 use tsl_parser::tree::Name;
 
+/// Whether a call of function f is of its own group and outside tail position.
+fn is_inside(table: &Reachability, f: usize, call: &Call) -> bool
+    ensures { result ≡ (not call.now.tail && reach.same_group (reach.table table.now) f call.now.fun) }
+{
+    !call.tail && table.same_group(f, call.fun as usize)
+}
+
 /// Whether one of the calls of function f is of its own group and outside tail position.
 fn calls_inside(table: &Reachability, f: usize, found: &[Call]) -> bool
     ensures { result ≡ told.calls_inside (reach.table table.now) f found.now }
 {
     for call in found {
-        if !call.tail && table.same_group(f, call.fun as usize) {
+        if is_inside(table, f, call) {
             return true;
         }
     }

@@ -1,4 +1,8 @@
 //! Terms in both forms, typed and core, built from their parts; and what operators stand for.
+//!
+//! A checked term is built once in each form. The typed term keeps its matches, and in the core term
+//! each match is a decision with its arms in their order. Each function here builds one production in
+//! both forms, and is proved to give the plain terms of the definitions in specs/.
 #![tactic(auto)]
 
 mod branches;

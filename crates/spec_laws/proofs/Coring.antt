@@ -27,9 +27,9 @@ use Rattle.spec_patterns.specs.Patterns.{pattern_fault, pattern_of, variables, f
 use Rattle.spec_patterns.proofs.Steps.{then_left, then_right}
 use Rattle.spec_forms.specs.Forms.{operator_term, operator_type, operator_core, prefix_term, prefix_type, prefix_core, width_of}
 use Rattle.spec_forms.specs.Operators.{Operator, both, either, operation, comparison, operator_of, keyword_operator, cast_of}
-use Rattle.spec_terms.specs.Parts.{wanted, wanted_if, word_wanted, map_wanted}
-use Rattle.spec_terms.specs.Terms.{fault_in, type_of, term_of, part, terms_of, arms_of, arms_type, arms_fault, argument_faults, terms_len, operands_fault, operand_fault, prefix_fault, get_fault, cast_to_fault, params_of, number_of, datatype_of, place_of, map_of, type_or, enter, rows_of}
-use Rattle.spec_terms.specs.Cores.{core_in, cores_in, arm_cores}
+use Rattle.spec_typing.specs.Parts.{wanted, wanted_if, word_wanted, map_wanted}
+use Rattle.spec_typing.specs.Terms.{fault_in, type_of, term_of, part, terms_of, arms_of, arms_type, arms_fault, argument_faults, terms_len, operands_fault, operand_fault, prefix_fault, get_fault, cast_to_fault, params_of, number_of, datatype_of, place_of, map_of, type_or, enter, rows_of}
+use Rattle.spec_typing.specs.Cores.{core_in, cores_in, arm_cores}
 use Rattle.spec_laws.specs.Typed.{types, IsTyped}
 use Rattle.spec_laws.specs.Laws.{CoresAreThose}
 use Rattle.spec_laws.proofs.Named.{variable_there, function_there}
@@ -39,7 +39,7 @@ use Rattle.spec_laws.proofs.Typing.{typed, wanted_type, word_typed, map_typed, s
 module _ (env : Environment) where
   -- the variables of a typed pattern
   mutual
-    variables_have : (n : ℕ) (ty : Ty) (p : m.Pat) (vars : List Ty) → PatternTyped env n ty p vars → variable_types env ty p ≡ vars
+    pub variables_have : (n : ℕ) (ty : Ty) (p : m.Pat) (vars : List Ty) → PatternTyped env n ty p vars → variable_types env ty p ≡ vars
     variables_have n ty m.any vars h = sym h
     variables_have n ty (m.bind i) vars h = sym h.1
     variables_have n Flag (m.flag_is b) vars h = sym h
@@ -53,11 +53,11 @@ module _ (env : Environment) where
         rw (variables_have n t p h.0 h.2, all_have (n + length h.0) ts ps h.1 h.3) (sym h.4)
     all_have n ts ps vars h = absurd h
 
-  variables_agree : (scope : Scope) (ty : Ty) (p : Pattern) → pattern_fault env ty p ≡ None → variable_types env ty (pattern_of env scope ty p) ≡ types (variables env ty p)
+  pub variables_agree : (scope : Scope) (ty : Ty) (p : Pattern) → pattern_fault env ty p ≡ None → variable_types env ty (pattern_of env scope ty p) ≡ types (variables env ty p)
   variables_agree scope ty p h = variables_have (length (types scope)) ty (pattern_of env scope ty p) (types (variables env ty p)) (pattern_typed env scope ty p h)
 
   -- the patterns of typed arms are the rows
-  patterns_are : (scope : Scope) (ty : Ty) (arms : ExprArms) → patterns_of (arms_of env scope ty arms) ≡ rows_of env scope ty arms
+  pub patterns_are : (scope : Scope) (ty : Ty) (arms : ExprArms) → patterns_of (arms_of env scope ty arms) ≡ rows_of env scope ty arms
   patterns_are scope ty e.no_arm = refl
   patterns_are scope ty (e.arm p body span rest) = ap (λ l. pattern_of env scope ty p ∷ l) (patterns_are scope ty rest)
 
@@ -145,7 +145,7 @@ module _ (env : Environment) (wf : IsWellFormed env) where
   make_agrees name n rest (Some x) h = refl
 
   -- the scope of the body of a let, and of an arm
-  let_types : (scope : Scope) (name : Name) (x : Expr) → Agree scope x → types scope ++ type_in env (types scope) (term_of env scope x) ∷ [] ≡ types (enter scope name.text (type_of env scope x))
+  pub let_types : (scope : Scope) (name : Name) (x : Expr) → Agree scope x → types scope ++ type_in env (types scope) (term_of env scope x) ∷ [] ≡ types (enter scope name.text (type_of env scope x))
   let_types scope name x a = ap (λ t. types scope ++ t ∷ []) a ∙ sym (types_append scope ((name.text, type_or (type_of env scope x)) ∷ []))
 
   let_scope : (scope : Scope) (name : Name) (x : Expr) → is_scope env scope ≡ true → fault_in env scope x ≡ None → is_scope env (enter scope name.text (type_of env scope x)) ≡ true
@@ -153,7 +153,7 @@ module _ (env : Environment) (wf : IsWellFormed env) where
       let k = goes scope x all h in
       subst (λ o. is_scope env (enter scope name.text o) ≡ true) (sym k.found) (enter_is env wf scope name.text k.ty all k.is)
 
-  arm_types : (scope : Scope) (ty : Ty) (p : Pattern) → pattern_fault env ty p ≡ None → types scope ++ variable_types env ty (pattern_of env scope ty p) ≡ types (scope ++ variables env ty p)
+  pub arm_types : (scope : Scope) (ty : Ty) (p : Pattern) → pattern_fault env ty p ≡ None → types scope ++ variable_types env ty (pattern_of env scope ty p) ≡ types (scope ++ variables env ty p)
   arm_types scope ty p h = ap (λ vs. types scope ++ vs) (variables_agree env scope ty p h) ∙ sym (types_append scope (variables env ty p))
 
   -- what a match is on has a type of the environment
@@ -173,7 +173,7 @@ module _ (env : Environment) (wf : IsWellFormed env) where
       ap (λ vs. type_in env vs (term_of env inner body)) vars ∙ ab (then_right (pattern_fault env ty p) _ front)
 
   mutual
-    agrees : (scope : Scope) (x : Expr) → is_scope env scope ≡ true → fault_in env scope x ≡ None → Agree scope x
+    pub agrees : (scope : Scope) (x : Expr) → is_scope env scope ≡ true → fault_in env scope x ≡ None → Agree scope x
     agrees scope (e.Term.word v w span) all h = refl
     agrees scope (e.Term.flag b span) all h = refl
     agrees scope (e.paren x span) all h = agrees scope x all h

@@ -27,8 +27,8 @@ use Rattle.spec_patterns.proofs.Steps.{then_left, then_right, unless_none, same_
 use Rattle.spec_patterns.proofs.Variables.{and_left, and_right, and_both, all_append, variables_are_typed}
 use Rattle.spec_forms.specs.Forms.{operator_term, operator_type, prefix_term, prefix_type, width_of}
 use Rattle.spec_forms.specs.Operators.{Operator, both, either, operation, comparison, operator_of, keyword_operator, cast_of, cast_fits}
-use Rattle.spec_terms.specs.Parts.{wanted, word_wanted, map_wanted, word_fault, map_fault, match_fault}
-use Rattle.spec_terms.specs.Terms.{fault_in, type_of, term_of, part, terms_of, arms_of, arms_type, arms_fault, argument_faults, terms_len, operands_fault, prefix_fault, get_fault, put_fault, cast_to_fault, params_of, number_of, datatype_of, place_of, map_of, type_or, enter}
+use Rattle.spec_typing.specs.Parts.{wanted, word_wanted, map_wanted, word_fault, map_fault, match_fault}
+use Rattle.spec_typing.specs.Terms.{fault_in, type_of, term_of, part, terms_of, arms_of, arms_type, arms_fault, argument_faults, terms_len, operands_fault, prefix_fault, get_fault, put_fault, cast_to_fault, params_of, number_of, datatype_of, place_of, map_of, type_or, enter}
 use Rattle.spec_laws.specs.Typed.{types, IsTyped}
 use Rattle.spec_laws.specs.Laws.{TermsAreTyped, WantedTypesAreHad}
 use Rattle.spec_laws.proofs.Named.{all_at, variable_there, function_there, constructor_fields, constructor_declared}

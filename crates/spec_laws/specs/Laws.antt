@@ -7,9 +7,9 @@ use Rattle.spec_types.specs.Terms.{Term}
 use Rattle.spec_types.specs.TermTypes.{HasType}
 use Rattle.spec_types.specs.Cores.{core_of}
 use Rattle.spec_types.specs.WellFormed.{IsWellFormed, is_scope}
-use Rattle.spec_terms.specs.Parts.{wanted}
-use Rattle.spec_terms.specs.Terms.{fault_in, part, term_of}
-use Rattle.spec_terms.specs.Cores.{core_in}
+use Rattle.spec_typing.specs.Parts.{wanted}
+use Rattle.spec_typing.specs.Terms.{fault_in, part, term_of}
+use Rattle.spec_typing.specs.Cores.{core_in}
 use Rattle.spec_calls.specs.Groups.{InOneGroup}
 use Rattle.spec_calls.specs.Recursion.{NoRecursionFault}
 use Rattle.spec_laws.specs.Typed.{types, IsTyped, AreTyped}

@@ -6,7 +6,7 @@ use Rattle.spec_types.specs.Environment.{Environment, Scope, Signature}
 use Rattle.spec_types.specs.Terms.{Term}
 use Rattle.spec_types.specs.TermTypes.{HasType}
 use Rattle.spec_types.specs.WellFormed.{is_type}
-use Rattle.spec_terms.specs.Terms.{type_of, term_of}
+use Rattle.spec_typing.specs.Terms.{type_of, term_of}
 
 -- the types of the names in scope
 abbrev pub types : Scope → List Ty

@@ -6,7 +6,7 @@
 //!
 //! Proved: `check_names` answers Ok exactly where no name stands twice and no count is past its limit,
 //! and else exactly the first such place, by the definitions in specs/Names.antt.
-#![tactic(auto, using(crate::proofs::Lists::any_of_map))]
+#![tactic(auto)]
 
 mod items;
 mod names;

@@ -44,6 +44,7 @@ impl<'a> Names<'a> {
     }
 
     /// Puts a text behind the others, where it isn't one of them, and says whether it wasn't.
+    #[tactic(auto, using(crate::proofs::Lists::any_of_map))]
     fn insert(&mut self, text: &'a str) -> Result<bool, AllocFailed<&'a str>>
         ensures added { IfOk result (λ added. added ≡ not (spec.has self.old text.now)) }
         ensures joined { IfOk result (λ added. added ≡ true → self.new ≡ self.old ++ text.now ∷ []) }

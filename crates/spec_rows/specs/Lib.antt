@@ -4,3 +4,4 @@ pub mod Bits
 pub mod Rows
 pub mod Decoded
 pub mod Views
+pub mod Laws

@@ -13,6 +13,7 @@ use std::alloc::Global;
 use tsl_parser::tree::{ArgDecl, Span};
 
 /// The arguments of a row at a span, for fields of these types.
+#[tactic(auto, using(crate::proofs::Steps::row_steps))]
 pub fn check_arguments(
     alloc: Global,
     fields: &[Field],
@@ -34,6 +35,7 @@ pub fn check_arguments(
 }
 
 /// An argument of a type.
+#[tactic(auto, using(crate::proofs::Steps::row_steps))]
 fn check_argument(fields: &[Field], a: &ArgDecl, ty: Ty, span: Span) -> Result<Arg, SpecError>
     ensures answer { Agrees result (unless (spec.arg_fits (map field fields.now) a.now ty) (SpecError.BadPattern span)) }
     ensures arg { IfOk result (λ r. r ≡ decoded.arg_of (map field fields.now) a.now) }

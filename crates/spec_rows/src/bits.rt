@@ -22,6 +22,7 @@ pub fn row_bits(alloc: Global, parts: &[PartDecl]) -> Result<Vec<Option<bool>>, 
 }
 
 /// Puts the `w` low bits of a number behind others, the most significant first.
+#[tactic(auto, using(crate::proofs::Steps::row_steps))]
 fn push_bits(out: &mut Vec<Option<bool>>, v: u64, w: u64) -> Result<(), AllocError>
     ensures { OnOk result (out.new.items ≡ out.old.items ++ spec.bits_of v w) }
 {
@@ -46,6 +47,7 @@ fn push_free(out: &mut Vec<Option<bool>>, w: u64) -> Result<(), AllocError>
 }
 
 /// Whether two rows agree on every bit that both fix.
+#[tactic(auto, using(crate::proofs::Steps::row_steps))]
 pub fn all_agree(a: &[Option<bool>], b: &[Option<bool>]) -> bool
     ensures { result ≡ spec.all_agree a.now b.now }
 {

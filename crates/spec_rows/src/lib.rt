@@ -7,12 +7,13 @@
 //! Proved: `check_rows` answers the rows of the specification exactly where none is wrong, and else
 //! exactly the first wrong row, by the definitions in specs/Fits.antt, specs/Bits.antt and
 //! specs/Rows.antt.
-#![tactic(auto, using(crate::proofs::Steps::row_steps))]
+#![tactic(auto)]
 
 mod arguments;
 mod bits;
 mod fields;
 mod guards;
+pub mod laws;
 mod numbers;
 mod overlaps;
 mod parts;

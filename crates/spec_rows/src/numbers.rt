@@ -8,6 +8,7 @@ ghost use Rattle.spec_rows.specs.Bits as spec;
 use spec_types::Ty;
 
 /// Whether a width has room for a number.
+#[tactic(auto, using(crate::proofs::Steps::row_steps))]
 pub fn fits(v: u64, w: u64) -> bool
     ensures { result ≡ nat_lt v (2 ^ w) }
 {
@@ -15,6 +16,7 @@ pub fn fits(v: u64, w: u64) -> bool
 }
 
 /// Bit `n` of a number, the least significant being bit 0.
+#[tactic(auto, using(crate::proofs::Steps::row_steps))]
 pub fn bit(v: u64, n: u64) -> bool
     ensures { result ≡ spec.bit v n }
 {

@@ -15,6 +15,7 @@ use tsl_parser::tree::{PartDecl, Span};
 const WORD_BITS: u64 = 32;
 
 /// The parts of a row at a span, which are to fill a word.
+#[tactic(auto, using(crate::proofs::Steps::row_steps))]
 pub fn check_parts(alloc: Global, parts: &[PartDecl], span: Span) -> Result<Vec<Part>, SpecError>
     ensures answer { Agrees result (unless (spec.parts_fit parts.now) (SpecError.BadPattern span)) }
     ensures parts { IfOk result (λ r. r.items ≡ map part_of parts.now) }
@@ -65,6 +66,7 @@ fn each_part(alloc: Global, parts: &[PartDecl], span: Span) -> Result<Vec<Part>,
 }
 
 /// A part of a row.
+#[tactic(auto, using(crate::proofs::Steps::row_steps))]
 fn check_part(p: &PartDecl, span: Span) -> Result<Part, SpecError>
     requires { spec.part_width p.now ≤ 32 }
     ensures answer { Agrees result (unless (spec.part_fits p.now) (SpecError.BadPattern span)) }

@@ -73,6 +73,7 @@ fn rows_of(tree: &Tree) -> &[RowDecl]
 }
 
 /// A row by itself.
+#[tactic(auto, using(crate::proofs::Steps::row_steps))]
 fn check_row(
     alloc: Global,
     environment: &Environment,

@@ -9,7 +9,7 @@ use Rattle.tsl_match.specs.Patterns.{Pat}
 use Rattle.spec_types.specs.Environment.{or_else}
 use Rattle.spec_types.specs.Terms.{Term, Terms, Arms, terms_onto, term_then, arms_onto, arm_then}
 use Rattle.spec_types.specs.CoreTerms.{Core, Cores, cores_onto, core_then}
-use Rattle.spec_terms.specs.Terms.{terms_len}
+use Rattle.spec_typing.specs.Terms.{terms_len}
 
 pub drop_here : {A : Type 0} (xs : List A) (i : ℕ) (x : A) → x ≡ get_or xs i x → i < length xs → drop i xs ≡ x ∷ drop (i + 1) xs
 drop_here xs i x e h = rw (add-one, drop-cons xs i x h, ← e) refl

@@ -5,9 +5,9 @@ ghost use Rattle.tsl_parser.specs.View.{term as expr};
 ghost use Rattle.spec_types.specs.Answers.{Agrees};
 ghost use Rattle.spec_types.specs.Views.{core, term};
 ghost use Rattle.spec_types.specs.WellFormed.{IsWellFormed, is_scope};
-ghost use Rattle.spec_terms.specs.Cores.{core_in};
-ghost use Rattle.spec_terms.specs.Parts.{wanted};
-ghost use Rattle.spec_terms.specs.Terms.{part, term_of};
+ghost use Rattle.spec_typing.specs.Cores.{core_in};
+ghost use Rattle.spec_typing.specs.Parts.{wanted};
+ghost use Rattle.spec_typing.specs.Terms.{part, term_of};
 
 use crate::terms::of_type;
 use spec_forms::Forms;

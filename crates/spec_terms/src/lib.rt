@@ -1,11 +1,13 @@
-//! Terms: their first fault, their types, the typed terms and the core terms.
-#![tactic(auto, using(crate::proofs::Lists::terms_len_map))]
+//! The check of terms.
+//!
+//! The checks of terms call one another, one function for each production. Matches are compiled once,
+//! where they are checked; that the premises of `tsl_match` hold is shown by lemmas on the definitions.
+//!
+//! Proved: `checked_body` answers exactly the first fault of a body by the definitions of
+//! `spec_typing`, and where there is none its typed term and its core term.
+#![tactic(auto)]
 
 mod body;
-mod leaves;
-mod matches;
-mod parts;
-mod scopes;
 mod terms;
 
 pub use body::checked_body;

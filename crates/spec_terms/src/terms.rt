@@ -14,23 +14,23 @@ ghost use Rattle.spec_types.specs.Terms as s;
 ghost use Rattle.spec_types.specs.Views.{core, term};
 ghost use Rattle.spec_types.specs.WellFormed.{IsWellFormed, is_scope, is_type};
 ghost use Rattle.spec_patterns.specs.Patterns as pattern;
-ghost use Rattle.spec_terms.specs.Cores as cores;
+ghost use Rattle.spec_typing.specs.Cores as cores;
 ghost use Rattle.spec_forms.specs.Forms as forms;
 ghost use Rattle.spec_forms.specs.Operators as operators;
 ghost use Rattle.spec_forms.specs.OperatorViews.{operator};
-ghost use Rattle.spec_terms.specs.Parts as parts;
-ghost use Rattle.spec_terms.specs.Terms as spec;
+ghost use Rattle.spec_typing.specs.Parts as parts;
+ghost use Rattle.spec_typing.specs.Terms as spec;
 
-use crate::leaves::{Operand, Typed, a_literal, a_variable};
-use crate::matches::decision;
-use crate::parts::{cast_fault, map_number, word_width};
-use crate::scopes::{enter, enter_pattern};
 use spec_forms::{
     Branch, Branches, Forms, Lists, Operator, call, cast, cast_of, choose, flag, get, if_else,
     keyword_operator, let_in, make, negate, operate, operator_of, put, result_type, unary,
 };
 use spec_patterns::{count_fault, type_fault, unknown};
 use spec_types::{Environment, Scope, SpecError, Ty, field_types, number, span_of};
+use spec_typing::{
+    Operand, Typed, a_literal, a_variable, cast_fault, decision, enter, enter_pattern, map_number,
+    word_width,
+};
 use std::alloc::Global;
 use tsl_lexer::Keyword;
 use tsl_parser::tree::{Arm, Expr, Name, Num, PreOp, Span};
@@ -364,7 +364,7 @@ fn on_a_word<'a>(
 
 /// A cast.
 #[cycle(checked)]
-#[tactic(auto, unfolding(crate::specs::Terms::cast_to_fault))]
+#[tactic(auto, unfolding(spec_typing::specs::Terms::cast_to_fault))]
 fn a_cast<'a>(
     alloc: Global,
     environment: &Environment,
@@ -455,6 +455,7 @@ fn changed<'a>(
 
 /// A call of a function.
 #[cycle(checked)]
+#[tactic(auto, using(crate::proofs::Lists::terms_len_map))]
 fn called<'a>(
     alloc: Global,
     environment: &Environment,
@@ -483,6 +484,7 @@ fn called<'a>(
 
 /// A constructor with its arguments.
 #[cycle(checked)]
+#[tactic(auto, using(crate::proofs::Lists::terms_len_map))]
 fn made<'a>(
     alloc: Global,
     environment: &Environment,

@@ -11,4 +11,6 @@ pub mod Scopes
 pub mod FaultLines
 pub mod Bindings
 pub mod WellFormed
+pub mod Found
 pub mod Ready
+pub mod Rows

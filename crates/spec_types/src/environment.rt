@@ -9,14 +9,14 @@ ghost use Rattle.spec_types.specs.Texts as texts;
 ghost use Rattle.spec_types.specs.Views.{environment};
 
 use crate::declared::Declarations;
-use crate::names::{
-    Constructor, Function, constructor_named, function_named, key_type, value_type,
-};
+use crate::names::{Constructor, Function, function_named, key_type, value_type};
 use crate::pattern_texts::pattern_text;
 use crate::shapes::shapes;
+use crate::table::constructors;
 use crate::texts::type_text;
 use crate::ty::Ty;
 use std::alloc::{AllocError, Global};
+use std::collections::BTreeMap;
 use std::marker::Model;
 use tsl_lexer::Text;
 use tsl_match::{Pattern, Sig};
@@ -27,6 +27,7 @@ use tsl_match::{Pattern, Sig};
 pub struct Environment<'a> {
     declarations: &'a Declarations,
     shapes: Sig,
+    constructors: BTreeMap<&'a str, Constructor<'a>>,
 }
 
 impl<'a> Model for Environment<'a> {
@@ -49,6 +50,7 @@ impl<'a> Environment<'a> {
         Ok(Environment {
             declarations,
             shapes: shapes(alloc, declarations)?,
+            constructors: constructors(alloc, declarations)?,
         })
     }
 
@@ -63,7 +65,7 @@ impl<'a> Environment<'a> {
     pub fn constructor(&self, name: &Text) -> Option<Constructor<'a>>
         ensures { option_map constructor_of result ≡ constructor_named self.now name.now }
     {
-        constructor_named(self.declarations, name)
+        self.constructors.get(name.as_str()).copied()
     }
 
     /// The type of the keys of a map type.

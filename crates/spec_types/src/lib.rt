@@ -1,4 +1,16 @@
-//! Checked specifications: types, typed terms, core terms and decode rows; and what a refusal says.
+//! Checked specifications: types, typed terms, core terms and decode rows; what terms may name; and
+//! what a refusal says.
+//!
+//! The types of the code stand in src/, and each has plain data beside it in specs/: `Terms` and
+//! `CoreTerms` for the two kinds of terms, `Environment` for declarations, `Specification` for the
+//! whole. `Views` goes from the one to the other. All later definitions are on the plain data.
+//!
+//! A check is a function to `Result`. `specs/Answers.antt` says when it agrees with a first fault:
+//! its Ok says that there is none, and its Err is that fault or want of memory. The first fault of
+//! two parts, one after the other, is `a then b`.
+//!
+//! What is proved: look-ups by name (`Environment`, `Scope`), the texts of types, of examples and of
+//! refusals, each against its definition.
 #![tactic(auto)]
 
 mod core_term;
@@ -14,6 +26,7 @@ mod shapes;
 mod spans;
 mod spec;
 mod spec_error;
+mod table;
 mod term;
 mod texts;
 mod ty;
@@ -21,9 +34,7 @@ mod ty;
 pub use core_term::Core;
 pub use declared::{Case, Data, Declarations, MapTy, Signature};
 pub use environment::Environment;
-pub use names::{
-    Constructor, Function, constructor_named, field_types, function_named, key_type, value_type,
-};
+pub use names::{Constructor, Function, field_types, function_named, key_type, value_type};
 pub use numbers::number;
 pub use pattern_texts::pattern_text;
 pub use row::{Arg, Guard, Part, Row};

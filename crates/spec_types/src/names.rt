@@ -1,11 +1,11 @@
 //! What names of functions and constructors mean.
 
 ghost use Rattle.std.specs.Prelude.{◌≡◌, IfOk, map, option_map};
-ghost use Rattle.spec_types.specs.Environment.{case_from, constructor_from, constructor_named, function_from, function_named, key_type, value_type};
-ghost use Rattle.spec_types.specs.Views.{case_of, data_of, environment, signature_of};
-ghost use Rattle.spec_types.specs.Scopes.{constructor_of, function_of};
+ghost use Rattle.spec_types.specs.Environment.{function_named, key_type, value_type};
+ghost use Rattle.spec_types.specs.Views.{environment};
+ghost use Rattle.spec_types.specs.Scopes.{function_of};
 
-use crate::declared::{Case, Declarations, Signature};
+use crate::declared::{Declarations, Signature};
 use crate::texts::same;
 use crate::ty::Ty;
 use std::alloc::{AllocError, Global};
@@ -33,34 +33,6 @@ pub fn function_named<'a>(declarations: &'a Declarations, name: &Text) -> Option
     for (fun, signature) in declarations.funs.as_slice().iter().enumerate() {
         if same(&signature.name, name) {
             return Some(Function { fun, signature });
-        }
-    }
-    None
-}
-
-/// The constructor of a name.
-pub fn constructor_named<'a>(declarations: &'a Declarations, name: &Text) -> Option<Constructor<'a>>
-    ensures { option_map constructor_of result ≡ constructor_named (environment declarations.now) name.now }
-{
-    for (ty, data) in declarations.datas.as_slice().iter().enumerate() {
-        if let Some(found) = case_named(ty, &data.cases, name) {
-            return Some(found);
-        }
-    }
-    None
-}
-
-/// The constructor of a name among those of datatype `ty`.
-fn case_named<'a>(ty: usize, cases: &'a [Case], name: &Text) -> Option<Constructor<'a>>
-    ensures { option_map constructor_of result ≡ case_from ty 0 (map case_of cases.now) name.now }
-{
-    for (case, c) in cases.iter().enumerate() {
-        if same(&c.name, name) {
-            return Some(Constructor {
-                ty,
-                case,
-                fields: &c.fields,
-            });
         }
     }
     None

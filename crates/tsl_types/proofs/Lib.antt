@@ -3,3 +3,4 @@ pub mod Making
 pub mod Parsed
 pub mod Settled
 pub mod Answering
+pub mod Apart

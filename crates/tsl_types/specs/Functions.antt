@@ -10,9 +10,9 @@ use Rattle.spec_types.specs.Answers.{◌then◌}
 use Rattle.spec_types.specs.Environment.{Environment, Scope, Signature}
 use Rattle.spec_types.specs.Terms.{Term}
 use Rattle.spec_types.specs.CoreTerms.{Core}
-use Rattle.spec_terms.specs.Cores.{core_in}
-use Rattle.spec_terms.specs.Parts.{wanted}
-use Rattle.spec_terms.specs.Terms.{part, term_of}
+use Rattle.spec_typing.specs.Cores.{core_in}
+use Rattle.spec_typing.specs.Parts.{wanted}
+use Rattle.spec_typing.specs.Terms.{part, term_of}
 
 -- the functions in the order of declaration
 abbrev pub functions : List Item → List Function

@@ -3,9 +3,15 @@ use Rattle.std.specs.Prelude.{◌≡◌}
 use Rattle.tsl_parser.specs.Tree.{Tree}
 use Rattle.spec_types.specs.declared.spec.Use.{Use}
 use Rattle.spec_types.specs.declared.spec_error.SpecError.{SpecError}
-use Rattle.tsl_types.specs.Check.{IsFirstFault, IsFaultless}
+use Rattle.spec_types.specs.Specification.{Spec}
+use Rattle.spec_rows.specs.Laws.{AreApart}
+use Rattle.tsl_types.specs.Check.{IsFirstFault, IsFaultless, IsSpecOf}
 
 -- There is one first fault, or none.
 pub record FaultsAreSettled : Type 0 where
   pub one : (wanted : Use) (tree : Tree) (e f : SpecError) → IsFirstFault wanted tree e → IsFirstFault wanted tree f → e ≡ f
   pub not_both : (wanted : Use) (tree : Tree) (e : SpecError) → IsFaultless wanted tree → ¬ IsFirstFault wanted tree e
+
+-- No word agrees with two decode rows of an accepted specification.
+abbrev pub AcceptedRowsAreApart : Type 0
+AcceptedRowsAreApart = (wanted : Use) (tree : Tree) (s : Spec) → IsFaultless wanted tree → IsSpecOf tree wanted s → AreApart s.rows

@@ -67,6 +67,7 @@ fn check_body(
 }
 
 /// Parameters with their types, as names in scope.
+#[tactic(auto, using(crate::proofs::Making::making))]
 fn parameters<'a>(
     alloc: Global,
     params: &'a [FieldDecl],

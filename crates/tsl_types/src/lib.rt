@@ -7,7 +7,7 @@
 //! Proved: `check` answers Ok exactly where no pass has a fault, with the types, typed terms, core
 //! terms and rows that the definitions give for the tree, and else exactly the first fault, with its
 //! place and texts. specs/Check.antt shows the passes in their order and the whole answer on a page.
-#![tactic(auto, using(crate::proofs::Making::making))]
+#![tactic(auto)]
 
 mod bodies;
 mod functions;

@@ -9,12 +9,12 @@ use Rattle.spec_types.specs.Environment.{or_else, shape_of, shapes_of}
 use Rattle.spec_types.specs.Views.{core, term}
 use Rattle.spec_types.specs.WellFormed.{is_scope, is_type}
 use Rattle.spec_patterns.specs.Patterns.{pattern_of, variables}
-use Rattle.spec_terms.specs.Cores.{core_in}
-use Rattle.spec_terms.specs.Parts.{match_fault, wanted}
-use Rattle.spec_terms.specs.Terms.{argument_faults, arm_fault, arms_fault, arms_type, rows_of, terms_of, term_of, type_of, part}
+use Rattle.spec_typing.specs.Cores.{core_in}
+use Rattle.spec_typing.specs.Parts.{match_fault, wanted}
+use Rattle.spec_typing.specs.Terms.{argument_faults, arm_fault, arms_fault, arms_type, rows_of, terms_of, term_of, type_of, part}
 use Rattle.spec_terms.proofs.Lists.{arms_onto_more, cores_onto_more, drop_here, drop_from, or_else_some, terms_onto_more, zip_more}
-use Rattle.spec_terms.proofs.Rows.{AllSuit, rows_suit, suit_all}
-use Rattle.spec_terms.proofs.Types.{no_arms, no_empty_match, type_fits}
+use Rattle.spec_typing.proofs.Rows.{AllSuit, rows_suit, suit_all}
+use Rattle.spec_typing.proofs.Types.{no_arms, no_empty_match, type_fits}
 use Rattle.spec_terms.proofs.terms.+checked.Goals as goal
 
 pub arguments-loop-i-preserved : goal.arguments-loop-i-preserved

@@ -10,8 +10,8 @@ use Rattle.spec_types.specs.CoreTerms.{cores_onto}
 use Rattle.spec_types.specs.Environment.{or_else}
 use Rattle.spec_types.specs.Terms.{arms_onto, terms_onto}
 use Rattle.spec_types.specs.Views.{core, term}
-use Rattle.spec_terms.specs.Cores.{arm_cores, cores_in}
-use Rattle.spec_terms.specs.Terms.{argument_faults, arms_fault, arms_of, arms_type, rows_of, terms_of}
+use Rattle.spec_typing.specs.Cores.{arm_cores, cores_in}
+use Rattle.spec_typing.specs.Terms.{argument_faults, arms_fault, arms_of, arms_type, rows_of, terms_of}
 use Rattle.spec_terms.proofs.terms.+checked.Given as goal
 
 abbrev pub decreases-checked : goal.decreases-checked

@@ -1,0 +1,42 @@
+//! The decision of a match.
+
+ghost use Rattle.std.specs.Prelude.{◌≡◌, All, IfOk, map, true};
+ghost use Rattle.tsl_match.specs.Answers.{match_answer};
+ghost use Rattle.tsl_match.specs.Answers as answers;
+ghost use Rattle.tsl_match.specs.Shapes.{Suits};
+ghost use Rattle.tsl_match.specs.Views.{pat, tree};
+ghost use Rattle.spec_types.specs.Answers.{Agrees};
+ghost use Rattle.spec_types.specs.Environment.{shape_of, shapes_of};
+ghost use Rattle.spec_types.specs.WellFormed.{IsWellFormed, is_type};
+ghost use Rattle.spec_typing.specs.Parts as parts;
+
+use spec_types::{Environment, SpecError, Ty, number, shape};
+use std::alloc::Global;
+use tsl_match::{Decision, MatchError, Pattern, compile};
+use tsl_parser::tree::Span;
+
+/// The decision of a match on values of a type, or why it is refused.
+pub fn decision(
+    alloc: Global,
+    environment: &Environment,
+    span: Span,
+    ty: Ty,
+    rows: &[Pattern],
+) -> Result<Decision, SpecError>
+    requires declared { IsWellFormed environment.now }
+    requires ty { is_type environment.now ty ≡ true }
+    requires patterns { All (λ p. Suits (shapes_of environment.now) (shape_of ty) (pat p)) rows.now }
+    ensures answer { Agrees result (parts.match_fault environment.now span ty (map pat rows.now)) }
+    ensures tree { IfOk result (λ d. match_answer (shapes_of environment.now) (shape_of ty) (map pat rows.now) ≡ answers.decision (tree d)) }
+{
+    let _count = number(rows.len())?;
+    match compile(alloc, environment.shapes(), shape(ty), rows) {
+        Ok(decision) => Ok(decision),
+        Err(MatchError::NotExhaustive { example }) => Err(SpecError::NotExhaustive {
+            span,
+            example: environment.pattern_text(alloc, ty, &example)?,
+        }),
+        Err(MatchError::Useless { row }) => Err(SpecError::Useless { span, row }),
+        Err(MatchError::NoMemory) => Err(SpecError::NoMemory),
+    }
+}
