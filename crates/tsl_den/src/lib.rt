@@ -1,18 +1,16 @@
-//! The static rules and the meaning of specifications whose items are functions alone, over
-//! words of 32 bits.
+//! The direct meaning of checked specifications, computed; and the values that it speaks of.
+//!
+//! `direct` calls a function on values and answers what the direct meaning gives (`meaning` specs/Runs): a value, or that an
+//! activation had no turn left. Of an accepted specification there is no other outcome, so nothing else is answered but for want of
+//! memory. The reads of map cells are not handed out.
 #![tactic(auto)]
 
-mod evaluate;
-mod functions;
-mod laws;
-mod limits;
-mod rules;
-mod scope;
-mod typing;
-mod word;
+mod calls;
+mod outcome;
 
-pub use evaluate::value_of;
-pub use functions::{function_named, parameters};
-pub use laws::accepted_functions_have_values;
-pub use limits::{INT32_WIDTH, MOST_FUNCTIONS, MOST_PARAMETERS, MOST_WIDTH};
-pub use rules::first_form;
+pub use calls::direct;
+pub use outcome::Direct;
+pub use tsl_values::{
+    Cell, Entry, Given, KeyAt, Line, MapValue, ReadSeen, Stamp, State, Value, copy, copy_all,
+    has_type,
+};

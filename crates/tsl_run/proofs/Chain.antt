@@ -1,33 +1,35 @@
 -- The chain of a call, as far as it comes.
-use Rattle.std.proofs.Common.{◌≡◌, ℕ, List, ap}
-use Rattle.std.specs.Prelude.{Ok}
-use Rattle.tsl_parser.specs.Tree.{Tree}
+use Rattle.std.proofs.Common.{◌≡◌, ℕ, List, subst, sym}
+use Rattle.std.specs.Prelude.{Result, Ok, Err}
+use Rattle.command_words.specs.Requests.{CallRequest}
+use Rattle.spec_types.specs.declared.spec.Use.TheVariants.{Library}
+use Rattle.spec_types.specs.Specification.{Spec}
+use Rattle.function_calls.specs.Calls.{call_end}
 use Rattle.tsl_run.specs.declared.outcome.Halt.{Halt}
-use Rattle.tsl_run.specs.Call.{Calls}
-use Rattle.tsl_run.specs.Lines.{value_line}
-use Rattle.tsl_run.specs.Outcomes.{Stops}
-use Rattle.tsl_run.specs.Sources.{source_cap, Specifies}
-use Rattle.tsl_run.specs.Steps.{CallSteps, Reading, goes_on}
+use Rattle.tsl_run.specs.declared.outcome.Halt.TheVariants.{NoMemory, Refused}
+use Rattle.tsl_run.specs.Outcome.{Outcome, Refusal}
+use Rattle.tsl_run.specs.Outcomes.{Gives, Stops}
+use Rattle.tsl_run.specs.Sources.{Specifies}
+use Rattle.tsl_run.specs.Steps.{CallSteps, Reading, SourceOf, answered, goes_on}
 use Rattle.tsl_run.proofs.Steps.{first_stops, next_stops}
 
-module _ (reads : Reading) (spec fun : List ℕ) (numbers : List (List ℕ)) (halt : Halt) where
-  abbrev Stopped : Type 0
-  Stopped = Stops (CallSteps reads spec fun numbers) halt
-
+module _ (reads : Reading) (request : CallRequest) where
   -- without a source
-  pub no_source : Stops (reads source_cap spec) halt → Stopped
-  no_source stops = first_stops _ _ halt stops
+  pub no_source : (halt : Halt) → Stops (SourceOf reads request.spec) halt → Stops (CallSteps reads request) halt
+  no_source halt stops = first_stops _ _ halt stops
 
   -- without a specification
-  pub no_specification : (source : List ℕ) → reads source_cap spec (Ok source) → Stops (Specifies source) halt → Stopped
-  no_specification source read stops = next_stops _ _ source halt read (first_stops _ _ halt stops)
+  pub no_specification : (halt : Halt) (source : List ℕ) → SourceOf reads request.spec (Ok source) → Stops (Specifies Library source) halt → Stops (CallSteps reads request) halt
+  no_specification halt source read stops = next_stops _ _ source halt read (first_stops _ _ halt stops)
 
-  -- without a value
-  pub no_value : (source : List ℕ) → reads source_cap spec (Ok source) → (tree : Tree) → Specifies source (Ok tree) → Stops (Calls tree fun numbers) halt → Stopped
-  no_value source read tree specified stops = next_stops _ _ source halt read (next_stops _ _ tree halt specified (first_stops _ _ halt stops))
+  -- with both
+  pub called : (source : List ℕ) → SourceOf reads request.spec (Ok source) → (spec : Spec) → Specifies Library source (Ok spec) → (outcome : Outcome)
+      → outcome ≡ answered (call_end spec request.calls request.fun request.numbers) → CallSteps reads request outcome
+  called source read spec specified outcome is = goes_on read (goes_on specified is)
 
--- and with its line
-pub some_value : (reads : Reading) (spec fun : List ℕ) (numbers : List (List ℕ)) (source : List ℕ) → reads source_cap spec (Ok source)
-    → (tree : Tree) → Specifies source (Ok tree) → (value : ℕ) → Calls tree fun numbers (Ok value) → (text : List ℕ) → text ≡ value_line value
-    → CallSteps reads spec fun numbers (Ok text)
-some_value reads spec fun numbers source read tree specified value called text is = goes_on read (goes_on specified (goes_on called (ap (λ (t : List ℕ). Ok t) is)))
+-- what gives one thing gives what follows from it
+pub gives_more : {A B : Type 0} (step other : Result B Refusal → Type 0) (seen : A → B) (result : Result A Halt) → ((found : Result B Refusal) → step found → other found)
+    → Gives step seen result → Gives other seen result
+gives_more step other seen (Ok x) more given = more (Ok (seen x)) given
+gives_more step other seen (Err (Refused refusal)) more given = more _ given
+gives_more step other seen (Err NoMemory) more given = tt

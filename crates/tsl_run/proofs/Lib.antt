@@ -1,10 +1,7 @@
 pub mod Chain
-pub mod Digits
 pub mod Ending
 pub mod Exists
 pub mod Giving
-pub mod Numbers
 pub mod Steps
 pub mod Unique
 pub mod Whole
-pub mod WordLists

@@ -10,8 +10,8 @@ use Rattle.tsl_run.specs.Lines.{bad_words_line, cannot_read_line, not_built_line
 use Rattle.tsl_run.specs.Owed.{CouldNotRead, Owes}
 use Rattle.tsl_run.specs.Possible.{IsLineOf}
 use Rattle.tsl_run.specs.Statuses.{IsAnswer}
-use Rattle.tsl_run.specs.Words as words-of
-use Rattle.tsl_run.specs.Words.{asked, bad, input_names}
+use Rattle.command_words.specs.Words.{asked}
+use Rattle.tsl_run.specs.Words.{input_names, IsUnbuilt}
 
 -- An input of the words could not be read, as the text says.
 pub record Unread (words : List (List ℕ)) (old new : InputState) (text : List ℕ) : Type 0 where
@@ -48,8 +48,8 @@ module _ (words : List (List ℕ)) (old new : InputState) (sink_old sink_new : S
     -- Over inputs that tell: what is owed is answered, but for a fault and want of memory.
     pub owed : IsTrue old.tells → (status : Status) (text : List ℕ) → Owes words old.held status text → (result ≡ status) ⊎ ¬ IsAnswer result
     -- Words that ask for nothing that is built are refused.
-    pub bad_words : asked words ≡ bad → EndsWith s.BadWords bad_words_line
-    pub not_built : asked words ≡ words-of.not_built → EndsWith s.NotBuilt not_built_line
+    pub bad_words : asked words ≡ None → EndsWith s.BadWords bad_words_line
+    pub not_built : IsUnbuilt (asked words) → EndsWith s.NotBuilt not_built_line
     -- A fault of an input has its cause in this run, at a name that is not sure, and is written.
     pub read_fault : result ≡ s.ReadFault → (text : List ℕ) × Unread words old new text × Appends sink_old sink_new text
     -- Over inputs that tell: a fault of the sink comes only where the text that is due has no room, and a front of it is written.

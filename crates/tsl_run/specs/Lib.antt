@@ -1,10 +1,7 @@
-pub mod Call
-pub mod Commands
 pub mod Faultless
 pub mod Follows
 pub mod Laws
 pub mod Lines
-pub mod Numbers
 pub mod Outcome
 pub mod Outcomes
 pub mod Output

@@ -1,18 +1,22 @@
 -- How the code's values say what a run comes to.
 use Rattle.std.specs.Prelude.{Result, Ok, Err}
 use Rattle.std.specs.String.{string_bytes}
+use Rattle.command_words.specs.declared.words_error.WordsError.{WordsError}
+use Rattle.command_words.specs.declared.words_error.WordsError.TheVariants as words
 use Rattle.tsl_lexer.specs.declared.lex_error.LexError.{LexError}
 use Rattle.tsl_lexer.specs.declared.lex_error.LexError.TheVariants as lexing
 use Rattle.tsl_parser.specs.declared.ParseError.{ParseError}
 use Rattle.tsl_parser.specs.declared.ParseError.TheVariants as parsing
+use Rattle.spec_types.specs.declared.spec_error.SpecError.{SpecError}
+use Rattle.spec_types.specs.declared.spec_error.SpecError.TheVariants as checking
 use Rattle.tsl_run.specs.declared.outcome.Halt.{Halt}
 use Rattle.tsl_run.specs.declared.outcome.Halt.TheVariants.{Refused, NoMemory}
 use Rattle.tsl_run.specs.declared.outcome.Outcome as code-outcome
 use Rattle.tsl_run.specs.declared.outcome.Refusal as code-refusal
-use Rattle.tsl_run.specs.declared.outcome.Refusal.TheVariants.{BadWords, NotBuilt, CannotRead, TooLong, SpecRefused}
+use Rattle.tsl_run.specs.declared.outcome.Refusal.TheVariants.{BadWords, NotBuilt, CannotRead, TooLong, SpecRefused, CallsSpent}
 use Rattle.tsl_run.specs.declared.outcome.Outcome.TheVariants as o
-use Rattle.tsl_run.specs.declared.spec_fault.SpecFault.TheVariants.{Lexing, Parsing}
-use Rattle.tsl_run.specs.Outcome.{Outcome, Refusal, bad_words, not_built, cannot_read, too_long, spec_refused}
+use Rattle.tsl_run.specs.declared.spec_fault.SpecFault.TheVariants.{Lexing, Parsing, Checking}
+use Rattle.tsl_run.specs.Outcome.{Outcome, Refusal, bad_words, not_built, cannot_read, too_long, spec_refused, calls_spent}
 
 abbrev pub refusal_of : code-refusal.Refusal → Refusal
 refusal_of BadWords = bad_words
@@ -20,6 +24,7 @@ refusal_of NotBuilt = not_built
 refusal_of (CannotRead name) = cannot_read name.now
 refusal_of (TooLong name) = too_long name.now
 refusal_of (SpecRefused fault) = spec_refused fault
+refusal_of CallsSpent = calls_spent
 
 abbrev pub outcome_of : code-outcome.Outcome → Outcome
 outcome_of (o.Answer text) = Ok (string_bytes text)
@@ -35,6 +40,11 @@ abbrev pub Gives : {A B : Type 0} → (Result B Refusal → Type 0) → (A → B
 Gives step seen (Ok found) = step (Ok (seen found))
 Gives step seen (Err halt) = Stops step halt
 
+-- why words ask for nothing
+abbrev pub halt_of_words : WordsError → Halt
+halt_of_words words.BadWords = Refused BadWords
+halt_of_words words.NoMemory = NoMemory
+
 -- why a source without tokens has no specification
 abbrev pub halt_of_lexing : LexError → Halt
 halt_of_lexing lexing.NoMemory = NoMemory
@@ -44,3 +54,8 @@ halt_of_lexing error = Refused (SpecRefused (Lexing error))
 abbrev pub halt_of_parsing : ParseError → Halt
 halt_of_parsing parsing.NoMemory = NoMemory
 halt_of_parsing error = Refused (SpecRefused (Parsing error))
+
+-- and why one that breaks a static rule has none
+abbrev pub halt_of_checking : SpecError → Halt
+halt_of_checking checking.NoMemory = NoMemory
+halt_of_checking error = Refused (SpecRefused (Checking error))

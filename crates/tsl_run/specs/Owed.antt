@@ -6,7 +6,7 @@ use Rattle.tsl_io.specs.InputState.{InputState}
 use Rattle.tsl_run.specs.declared.status.Status.{Status}
 use Rattle.tsl_run.specs.Outcome.{Outcome, Refusal, cannot_read, too_long, line_of, status_of}
 use Rattle.tsl_run.specs.Steps.{Steps}
-use Rattle.tsl_run.specs.Words.{asked}
+use Rattle.command_words.specs.Words.{asked}
 
 -- the bytes that each name holds
 abbrev pub Held : Type 0

@@ -1,11 +1,12 @@
 -- The steps of a run, one after another.
-use Rattle.std.specs.Prelude.{◌≡◌, ℕ, List, Result, Ok, Err}
-use Rattle.tsl_run.specs.Call.{Calls}
-use Rattle.tsl_run.specs.Lines.{value_line}
-use Rattle.tsl_run.specs.Outcome.{Outcome, Refusal, bad_words, not_built}
+use Rattle.std.specs.Prelude.{◌≡◌, ℕ, List, Option, Some, None, Result, Ok, Err}
+use Rattle.command_words.specs.Requests.{CallRequest, Request, call}
+use Rattle.command_words.specs.SpecNames.{SpecName, input, power_pc, risc_v}
+use Rattle.spec_types.specs.declared.spec.Use.TheVariants.{Library}
+use Rattle.function_calls.specs.Calls as calls
+use Rattle.function_calls.specs.Calls.{End, call_end, value, value_line, spent}
+use Rattle.tsl_run.specs.Outcome.{Outcome, Refusal, bad_words, calls_spent, not_built}
 use Rattle.tsl_run.specs.Sources.{source_cap, Specifies}
-use Rattle.tsl_run.specs.Words.{Asked, bad, call}
-use Rattle.tsl_run.specs.Words as words-of
 
 -- A step says what it may give: something for the next one, or a refusal. A refusal of the first is one of both; else the
 -- next one is made of what the first gave.
@@ -17,16 +18,27 @@ pub data Then {A B : Type 0} (first : Result A Refusal → Type 0) (next : A →
 abbrev pub Reading : Type 1
 Reading = ℕ → List ℕ → Result (List ℕ) Refusal → Type 0
 
--- `call`: the specification is read; it is parsed and tested; its function is called; the value is written
-abbrev pub CallSteps : Reading → List ℕ → List ℕ → List (List ℕ) → Outcome → Type 0
-CallSteps reads spec fun numbers =
-    Then (reads source_cap spec) (λ source.
-    Then (Specifies source) (λ tree.
-    Then (Calls tree fun numbers) (λ value outcome.
-    outcome ≡ Ok (value_line value))))
+-- The source of a specification: what its input gives. Those that are shipped are not built yet.
+abbrev pub SourceOf : Reading → SpecName → Result (List ℕ) Refusal → Type 0
+SourceOf reads (input name) found = reads source_cap name found
+SourceOf reads power_pc found = found ≡ Err not_built
+SourceOf reads risc_v found = found ≡ Err not_built
+
+-- what is answered for the end of a call
+abbrev pub answered : End → Outcome
+answered (value v) = Ok (value_line v)
+answered calls.bad_words = Err bad_words
+answered spent = Err calls_spent
+
+-- `call`: the specification is read; it is parsed and checked as a library; its function is called; the value is written
+abbrev pub CallSteps : Reading → CallRequest → Outcome → Type 0
+CallSteps reads request =
+    Then (SourceOf reads request.spec) (λ source.
+    Then (Specifies Library source) (λ spec outcome.
+    outcome ≡ answered (call_end spec request.calls request.fun request.numbers)))
 
 -- The outcome of what is asked for, where inputs are read so.
-abbrev pub Steps : Reading → Asked → Outcome → Type 0
-Steps reads bad outcome = outcome ≡ Err bad_words
-Steps reads words-of.not_built outcome = outcome ≡ Err not_built
-Steps reads (call spec fun numbers) outcome = CallSteps reads spec fun numbers outcome
+abbrev pub Steps : Reading → Option Request → Outcome → Type 0
+Steps reads None outcome = outcome ≡ Err bad_words
+Steps reads (Some (call request)) outcome = CallSteps reads request outcome
+Steps reads (Some _) outcome = outcome ≡ Err not_built

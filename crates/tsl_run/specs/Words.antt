@@ -1,45 +1,29 @@
--- What the words of the command line ask for.
-use Rattle.std.specs.Prelude.{ℕ, ◌&&◌, ◌||◌, Bool, List, [], ◌∷◌, String, bytes_eq, codes, if◌then◌else◌, length, map, nat_lt}
-use Rattle.std.specs.List.{list_any, starts_with}
-use Rattle.std.specs.Prelude.{nat_eq}
-use Rattle.std.specs.String.{string_bytes}
-use Rattle.std.specs.declared.alloc.Global.{Global}
+-- What the words ask for of this program, and the inputs that they name.
+use Rattle.std.specs.Prelude.{◌≡◌, ℕ, Bool, true, false, List, [], Option, Some, None}
+use Rattle.command_words.specs.Requests.{Request, call}
+use Rattle.command_words.specs.SpecNames.{SpecName, input, power_pc, risc_v}
+use Rattle.command_words.specs.Words.{asked, inputs_of}
 
--- what is asked for: nothing that has a meaning, something that is not built, or a command with its words
-pub data Asked : Type 0 where
-  bad : Asked
-  not_built : Asked
-  call : (spec fun : List ℕ) (numbers : List (List ℕ)) → Asked
+-- the specification is one of an input; those that are shipped are not built yet
+abbrev pub is_input : SpecName → Bool
+is_input (input name) = true
+is_input power_pc = false
+is_input risc_v = false
 
--- a command that is known and not built
-abbrev pub is_unbuilt_command : List ℕ → Bool
-is_unbuilt_command word = bytes_eq word (codes "emulate") || bytes_eq word (codes "analyse") || bytes_eq word (codes "check") || bytes_eq word (codes "stress")
+-- what is asked for is built
+abbrev pub is_built : Request → Bool
+is_built (call request) = is_input request.spec
+is_built _ = false
 
--- an option: longer than one byte, and it begins with `-`
-abbrev pub is_option : List ℕ → Bool
-is_option word = nat_lt 1 (length word) && starts_with nat_eq word (codes "-")
+-- Words ask for something, and it is not built.
+abbrev pub IsUnbuilt : Option Request → Type 0
+IsUnbuilt None = ⊥
+IsUnbuilt (Some request) = is_built request ≡ false
 
--- what the words after `call` ask for: SPEC, FUN and the numbers
-abbrev pub asked_of_call : List (List ℕ) → Asked
-asked_of_call (spec ∷ fun ∷ numbers) = if list_any is_option (spec ∷ fun ∷ numbers) || bytes_eq spec (codes "@ppc") then not_built else call spec fun numbers
-asked_of_call _ = bad
-
-abbrev pub asked : List (List ℕ) → Asked
-asked [] = bad
-asked (command ∷ words) =
-    if bytes_eq command (codes "call") then asked_of_call words
-    else if is_unbuilt_command command then not_built
-    else bad
-
--- the names of the inputs that are read for the words
-abbrev pub names_in : Asked → List (List ℕ)
-names_in bad = []
-names_in not_built = []
-names_in (call spec fun numbers) = spec ∷ []
+-- the inputs of what is asked for
+abbrev pub names_in : Option Request → List (List ℕ)
+names_in None = []
+names_in (Some request) = inputs_of request
 
 abbrev pub input_names : List (List ℕ) → List (List ℕ)
 input_names words = names_in (asked words)
-
--- the bytes of each text
-abbrev pub texts : List (String Global) → List (List ℕ)
-texts words = map string_bytes words

@@ -4,7 +4,7 @@ ghost use Rattle.std.specs.Prelude.{◌≡◌, ◌≤◌, IfOk, List, ℕ, lengt
 ghost use Rattle.tsl_io.specs.FileList.{first_file};
 ghost use Rattle.tsl_run.specs.declared.status.Status.{Status};
 ghost use Rattle.tsl_run.specs.Owed.{Owes};
-ghost use Rattle.tsl_run.specs.Words.{texts};
+ghost use Rattle.command_words.specs.Views.{texts};
 
 use crate::run;
 use crate::status::Status;

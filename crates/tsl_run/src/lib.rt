@@ -15,7 +15,7 @@
 //! nothing fails what is owed is answered. `run_in_memory` is the run where nothing fails, and its contract says so.
 #![tactic(auto)]
 
-ghost use Rattle.std.specs.Prelude.{◌≡◌, ◌≢◌, ◌⊎◌, IsTrue, List, ℕ};
+ghost use Rattle.std.specs.Prelude.{◌≡◌, ◌≢◌, ◌⊎◌, IsTrue, List, None, ℕ};
 ghost use Rattle.tsl_io.specs.Faults.{RoseByOne};
 ghost use Rattle.tsl_io.specs.InputState.{InputsKept};
 ghost use Rattle.tsl_io.specs.SinkState.{Appends, SinkKept};
@@ -23,19 +23,17 @@ ghost use Rattle.tsl_run.specs.Output.{Ends};
 ghost use Rattle.tsl_run.specs.Owed.{Owes};
 ghost use Rattle.tsl_run.specs.Reading.{IsTakenFrom};
 ghost use Rattle.tsl_run.specs.Statuses.{IsAnswer};
-ghost use Rattle.tsl_run.specs.Words.{asked, bad, input_names, not_built, texts};
+ghost use Rattle.command_words.specs.Views.{texts};
+ghost use Rattle.command_words.specs.Words.{asked};
+ghost use Rattle.tsl_run.specs.Words.{input_names, IsUnbuilt};
 
 mod answer;
-mod call;
 mod in_memory;
 pub mod laws;
-mod lines;
-mod number;
 mod outcome;
 mod source;
 mod spec_fault;
 mod status;
-mod words;
 
 use answer::come_to;
 pub use in_memory::{Ended, run_in_memory};
@@ -75,8 +73,8 @@ pub fn run<I: Inputs, S: Sink>(
         → (S.state sink.new).faults ≡ (S.state sink.old).faults }
 
     // Words that ask for nothing that is built are refused before any input is opened.
-    ensures bad_words { asked (texts words.now) ≡ bad → inputs.new ≡ inputs.old }
-    ensures not_built { asked (texts words.now) ≡ not_built → inputs.new ≡ inputs.old }
+    ensures bad_words { asked (texts words.now) ≡ None → inputs.new ≡ inputs.old }
+    ensures not_built { IsUnbuilt (asked (texts words.now)) → inputs.new ≡ inputs.old }
 
     // No more is taken of an input than its cap and one byte, from the last time it was opened.
     ensures taken { IsTrue (I.state inputs.old).tells → (inputs.new ≡ inputs.old)

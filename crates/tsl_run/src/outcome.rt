@@ -3,15 +3,16 @@
 ghost use Rattle.std.specs.Prelude.{◌≡◌, IfOk};
 ghost use Rattle.std.specs.String.{string_bytes};
 ghost use Rattle.tsl_run.specs.Outcome.{line_of, status_of};
-ghost use Rattle.tsl_run.specs.Outcomes.{outcome_of};
+ghost use Rattle.tsl_run.specs.Outcomes.{halt_of_words, outcome_of};
 ghost use Rattle.tsl_run.specs.declared.outcome.Halt.TheVariants.{NoMemory, Refused};
 
 use crate::spec_fault::SpecFault;
 use crate::status::Status;
+use command_words::WordsError;
 use std::alloc::{AllocError, AllocFailed, Global};
 
 /// Why a run has no text to give, with what it names.
-#[derive(Clone, Copy, Debug, PartialEq, Eq)]
+#[derive(Debug, Drop)]
 pub enum Refusal<'a> {
     /// The words have no meaning.
     BadWords,
@@ -23,6 +24,8 @@ pub enum Refusal<'a> {
     TooLong(&'a str),
     /// The specification has this fault first.
     SpecRefused(SpecFault),
+    /// The turns of an activation ran out.
+    CallsSpent,
 }
 
 /// What a run comes to.
@@ -46,6 +49,7 @@ impl Outcome<'_> {
             Outcome::Refused(Refusal::CannotRead(_)) => Status::ReadFault,
             Outcome::Refused(Refusal::TooLong(_)) => Status::TooLong,
             Outcome::Refused(Refusal::SpecRefused(_)) => Status::SpecRefused,
+            Outcome::Refused(Refusal::CallsSpent) => Status::CallsSpent,
         }
     }
 
@@ -62,12 +66,13 @@ impl Outcome<'_> {
             }
             Outcome::Refused(Refusal::TooLong(name)) => format!(in alloc; "too long {name}\n"),
             Outcome::Refused(Refusal::SpecRefused(fault)) => fault.line(alloc),
+            Outcome::Refused(Refusal::CallsSpent) => String::from_str(alloc, "calls spent\n"),
         }
     }
 }
 
 /// Why a step of a run gives nothing to the next one.
-#[derive(Clone, Copy, Debug, PartialEq, Eq)]
+#[derive(Debug, Drop)]
 pub enum Halt<'a> {
     /// The run is refused.
     Refused(Refusal<'a>),
@@ -80,6 +85,17 @@ impl<'a> From<Refusal<'a>> for Halt<'a> {
 
     fn from(refusal: Refusal<'a>) -> Self {
         Halt::Refused(refusal)
+    }
+}
+
+impl From<WordsError> for Halt<'_> {
+    ghost from_gives = { λ error halt. halt ≡ halt_of_words error };
+
+    fn from(error: WordsError) -> Self {
+        match error {
+            WordsError::BadWords => Halt::Refused(Refusal::BadWords),
+            WordsError::NoMemory => Halt::NoMemory,
+        }
     }
 }
 

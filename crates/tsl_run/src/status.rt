@@ -34,6 +34,8 @@ pub enum Status {
     TooLong,
     /// Memory ran out.
     NoMemory,
+    /// The claims are refused.
+    ClaimsRefused,
     /// What is asked for is not built yet.
     NotBuilt = 64,
 }

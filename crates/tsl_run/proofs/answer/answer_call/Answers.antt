@@ -1,34 +1,36 @@
-use Rattle.std.proofs.Common.{ℕ, List, subst, rules}
-use Rattle.tsl_parser.specs.View.{tree as tree_of}
+use Rattle.std.proofs.Common.{◌≡◌, ◌∙◌, ℕ, Bor, List, Ok, ap, subst, rules}
+use Rattle.std.specs.String.{string_bytes}
+use Rattle.spec_types.specs.declared.spec.Use.TheVariants.{Library}
+use Rattle.spec_types.specs.Views.{specification}
+use Rattle.command_words.specs.Views.{borrowed, call_of}
+use Rattle.function_calls.specs.Calls.{call_end}
+use Rattle.function_calls.specs.Ends.{end_of}
 use Rattle.tsl_run.specs.Outcomes.{Stops}
+use Rattle.tsl_run.specs.Steps.{CallSteps, answered}
 use Rattle.tsl_run.specs.Owed.{Gave}
 use Rattle.tsl_run.specs.Sources.{IsSpecification, Specifies}
-use Rattle.tsl_run.specs.Words.{texts}
-use Rattle.tsl_run.proofs.Chain.{no_source, no_specification, no_value, some_value}
+use Rattle.tsl_run.proofs.Chain.{called, gives_more, no_source, no_specification}
 use Rattle.tsl_run.proofs.answer.answer_call.Goals as goal
 
 pub returns-in_err-source-clause-gives : goal.returns-in_err-source-clause-gives
 returns-in_err-source-clause-gives g c =
-    let gives = no_source (Gave (g.I.Inputs.state c.args.inputs.now) (g.I.Inputs.state c.read_source.new.inputs)) c.args.spec.now c.args.fun.now (texts c.args.numbers.now) c.in_err-source.field-0.0
+    let gives = no_source (Gave (g.I.Inputs.state c.args.inputs.now) (g.I.Inputs.state c.source_of.new.inputs)) (call_of c.args.request.now) c.in_err-source.field-0.0
     c.in_err-source.ensures.gives in
     search (rules, gives)
 
-pub returns-in_err-tree-clause-gives : goal.returns-in_err-tree-clause-gives
-returns-in_err-tree-clause-gives g c =
-    let refused = subst (λ (s : List ℕ). Stops (Specifies s) c.in_err-tree.field-0.0) c.deref.ensures.value c.in_err-tree.ensures in
-    let gives = no_specification (Gave (g.I.Inputs.state c.args.inputs.now) (g.I.Inputs.state c.read_source.new.inputs)) c.args.spec.now c.args.fun.now (texts c.args.numbers.now) c.in_err-tree.field-0.0
+pub returns-in_err-spec-clause-gives : goal.returns-in_err-spec-clause-gives
+returns-in_err-spec-clause-gives g c =
+    let refused = subst (λ (s : List ℕ). Stops (Specifies Library s) c.in_err-spec.field-0.0) c.deref.ensures.value c.in_err-spec.ensures.gives in
+    let gives = no_specification (Gave (g.I.Inputs.state c.args.inputs.now) (g.I.Inputs.state c.source_of.new.inputs)) (call_of c.args.request.now) c.in_err-spec.field-0.0
     c.in_ok-source.source.items c.in_ok-source.ensures.gives refused in
-    search (rules, gives)
-
-pub returns-in_err-value-clause-gives : goal.returns-in_err-value-clause-gives
-returns-in_err-value-clause-gives g c =
-    let specified = subst (λ (s : List ℕ). IsSpecification s (tree_of c.in_ok-tree.tree)) c.deref.ensures.value c.in_ok-tree.ensures in
-    let gives = no_value (Gave (g.I.Inputs.state c.args.inputs.now) (g.I.Inputs.state c.read_source.new.inputs)) c.args.spec.now c.args.fun.now (texts c.args.numbers.now) c.in_err-value.field-0.0
-    c.in_ok-source.source.items c.in_ok-source.ensures.gives (tree_of c.in_ok-tree.tree) specified c.in_err-value.ensures in
     search (rules, gives)
 
 pub returns-clause-gives : goal.returns-clause-gives
 returns-clause-gives g c =
-    let specified = subst (λ (s : List ℕ). IsSpecification s (tree_of c.in_ok-tree.tree)) c.deref.ensures.value c.in_ok-tree.ensures in
-    some_value (Gave (g.I.Inputs.state c.args.inputs.now) (g.I.Inputs.state c.read_source.new.inputs)) c.args.spec.now c.args.fun.now (texts c.args.numbers.now)
-    c.in_ok-source.source.items c.in_ok-source.ensures.gives (tree_of c.in_ok-tree.tree) specified c.in_ok-value.value c.in_ok-value.ensures _ c.in_ok-value_line.ensures
+    let reads = Gave (g.I.Inputs.state c.args.inputs.now) (g.I.Inputs.state c.source_of.new.inputs) in
+    let request = call_of c.args.request.now in
+    let spec = specification c.in_ok-spec.spec in
+    let specified = subst (λ (s : List ℕ). IsSpecification Library s spec) c.deref.ensures.value c.in_ok-spec.ensures.gives in
+    let ends = c.in_ok-end.ensures ∙ ap (λ (numbers : List (Bor (List ℕ))). call_end spec request.calls request.fun (borrowed numbers)) c.deref-2.ensures.value in
+    gives_more (λ outcome. outcome ≡ answered (end_of c.in_ok-end.end)) (CallSteps reads request) string_bytes c.answer_of_end.result
+    (λ outcome is. called reads request c.in_ok-source.source.items c.in_ok-source.ensures.gives spec specified outcome (is ∙ ap answered ends)) c.answer_of_end.ensures

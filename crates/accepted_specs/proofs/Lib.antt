@@ -1,0 +1,11 @@
+pub mod Exhaustive
+pub mod Alone
+pub mod Total
+pub mod Groups
+pub mod Sizes
+pub mod MapTypes
+pub mod Functions
+pub mod Names
+pub mod Rows
+pub mod Machines
+pub mod Accepted

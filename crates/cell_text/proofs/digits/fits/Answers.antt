@@ -1,0 +1,9 @@
+use Rattle.std.proofs.Common.{arith, rules}
+use Rattle.cell_text.proofs.Bounds.{wide, narrow}
+use Rattle.cell_text.proofs.digits.fits.Goals as goal
+
+pub returns-then-width-ge64 : goal.returns-then-width-ge64
+returns-then-width-ge64 c = let w = wide c.args.value c.args.width (omega arith) (omega arith) in search (rules, w)
+
+pub returns-else-width-ge64 : goal.returns-else-width-ge64
+returns-else-width-ge64 c = narrow c.args.value c.args.width

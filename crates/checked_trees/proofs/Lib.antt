@@ -1,0 +1,4 @@
+pub mod Counts
+pub mod Decided
+pub mod One
+pub mod There

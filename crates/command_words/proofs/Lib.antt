@@ -1,0 +1,4 @@
+pub mod DigitTexts
+pub mod GivenParts
+pub mod Givings
+pub mod Pieces

@@ -1,0 +1,18 @@
+use Rattle.std.proofs.Common.{ℕ, ◌≡◌, ◌∙◌, Bor, List, Result, Vec, Global, arith, ap, subst, sym}
+use Rattle.std.specs.Prelude.{Option, map}
+use Rattle.command_words.specs.declared.code_word.CodePart.{CodePart}
+use Rattle.command_words.specs.Code as spec
+use Rattle.command_words.specs.Code.{code_parts, parts_from}
+use Rattle.command_words.specs.Giving.{Gives}
+use Rattle.command_words.specs.Views.{borrowed, part_of}
+use Rattle.command_words.proofs.Pieces.{few_pieces, many_pieces}
+use Rattle.command_words.proofs.code_word.code_parts.Goals as goal
+
+pub returns-then-len-gt-MOST_PARTS : goal.returns-then-len-gt-MOST_PARTS
+returns-then-len-gt-MOST_PARTS c = many_pieces c.args.base c.args.word.now c.in_ok-pieces.pieces.items c.in_ok-pieces.ensures (omega arith)
+
+pub returns : goal.returns
+returns c =
+    let same = few_pieces c.args.base c.args.word.now c.in_ok-pieces.pieces.items c.in_ok-pieces.ensures (omega arith) in
+    let given = subst (λ (pieces : List (Bor (List ℕ))). Gives (parts_from c.args.base (borrowed pieces)) (λ (parts : Vec CodePart Global). map part_of parts.items) c.parts_from.result) c.as_slice.ensures.value c.parts_from.ensures in
+    subst (λ (found : Option (List spec.CodePart)). Gives found (λ (parts : Vec CodePart Global). map part_of parts.items) c.parts_from.result) (sym same) given

@@ -1,0 +1,13 @@
+pub mod Bases
+pub mod Code
+pub mod CommandLine
+pub mod Commands
+pub mod Giving
+pub mod Numbers
+pub mod Options
+pub mod OptionValues
+pub mod Orders
+pub mod Requests
+pub mod SpecNames
+pub mod Views
+pub mod Words

@@ -1,0 +1,37 @@
+-- The values of the options, each with its form and its default.
+use Rattle.std.specs.Prelude.{ℕ, List, Option, Some, None}
+use Rattle.command_words.specs.declared.bases.BaseName.{BaseName}
+use Rattle.command_words.specs.declared.bases.BaseName.TheVariants.{KSetInterval}
+use Rattle.command_words.specs.declared.orders.Order as orders
+use Rattle.command_words.specs.declared.orders.Order.TheVariants.{Big}
+use Rattle.command_words.specs.Bases.{base_named}
+use Rattle.command_words.specs.CommandLine.{Given}
+use Rattle.command_words.specs.Numbers.{address_in, decimal_in}
+use Rattle.command_words.specs.Orders.{order_named}
+
+-- what the text writes, or the default where there is none
+abbrev pub value_or : {A : Type 0} → A → (List ℕ → Option A) → Option (List ℕ) → Option A
+value_or default read None = Some default
+value_or default read (Some text) = read text
+
+-- the base address of the first part of the code
+unfoldable pub address_of : Given → Option ℕ
+address_of given = value_or 0 address_in given.at
+
+unfoldable pub order_of : Given → Option orders.Order
+order_of given = value_or Big order_named given.order
+
+-- how many steps a run has at most
+unfoldable pub steps_of : Given → Option ℕ
+steps_of given = value_or 1000000 (decimal_in 10 0 4294967295) given.steps
+
+-- how many turns an activation has
+unfoldable pub calls_of : Given → Option ℕ
+calls_of given = value_or 4096 (decimal_in 5 1 65536) given.calls
+
+-- how many values a counter has at most
+unfoldable pub limit_of : Given → Option ℕ
+limit_of given = value_or 64 (decimal_in 4 1 4096) given.limit
+
+unfoldable pub base_of : Given → Option BaseName
+base_of given = value_or KSetInterval base_named given.base

@@ -1,0 +1,16 @@
+-- The options of all commands.
+use Rattle.std.specs.Prelude.{ℕ, List, [], ◌∷◌, codes}
+use Rattle.command_words.specs.declared.options.OptionName.{OptionName}
+use Rattle.command_words.specs.declared.options.OptionName.TheVariants as o
+
+-- the name that stands after `--`
+abbrev pub option_text : OptionName → List ℕ
+option_text o.At = codes "at"
+option_text o.Order = codes "order"
+option_text o.Steps = codes "steps"
+option_text o.Calls = codes "calls"
+option_text o.Limit = codes "limit"
+option_text o.Base = codes "base"
+
+abbrev pub all_options : List OptionName
+all_options = o.At ∷ o.Order ∷ o.Steps ∷ o.Calls ∷ o.Limit ∷ o.Base ∷ []

@@ -1,0 +1,41 @@
+//! The options of all commands.
+
+ghost use Rattle.std.specs.Prelude.{◌≡◌};
+ghost use Rattle.command_words.specs.Options.{option_text};
+
+/// An option, of some commands or of others.
+#[derive(Clone, Copy)]
+pub enum OptionName {
+    At,
+    Order,
+    Steps,
+    Calls,
+    Limit,
+    Base,
+}
+
+impl OptionName {
+    /// All options.
+    pub const ALL: [OptionName; 6] = [
+        OptionName::At,
+        OptionName::Order,
+        OptionName::Steps,
+        OptionName::Calls,
+        OptionName::Limit,
+        OptionName::Base,
+    ];
+
+    /// The name that stands after `--`.
+    pub fn name(self) -> &'static str
+        ensures { result.now ≡ option_text self }
+    {
+        match self {
+            OptionName::At => "at",
+            OptionName::Order => "order",
+            OptionName::Steps => "steps",
+            OptionName::Calls => "calls",
+            OptionName::Limit => "limit",
+            OptionName::Base => "base",
+        }
+    }
+}

@@ -1,0 +1,261 @@
+//! The request of each command, from its positional words and its options.
+
+ghost use Rattle.command_words.specs.Giving.{Gives};
+ghost use Rattle.command_words.specs.Views as seen;
+ghost use Rattle.command_words.specs.Views.{borrowed, given_of};
+ghost use Rattle.command_words.specs.Words.{analyse_of, analysis_of, call_of, check_from, check_of, claims_of, code_of, convert_of, emulate_of, list_of, request_of, slice_from, slice_of, stress_of};
+
+use crate::code_word::{Code, code_parts};
+use crate::commands::CommandName;
+use crate::given_words::Given;
+use crate::numbers::{DecimalForm, address, decimal};
+use crate::option_values::{base, base_address, calls, limit, order, steps};
+use crate::requests::{
+    AnalyseRequest, CallRequest, CheckRequest, ClaimsRequest, ConvertRequest, EmulateRequest,
+    ListRequest, Request, SliceRequest, StressRequest,
+};
+use crate::spec_word::SpecName;
+use crate::words_error::WordsError;
+use std::alloc::Global;
+
+/// How the number of `stress` is written.
+const NUMBER_FORM: DecimalForm = DecimalForm {
+    most_digits: 10,
+    least: 0,
+    greatest: u32::MAX,
+};
+
+/// How its count of words is written.
+const COUNT_FORM: DecimalForm = DecimalForm {
+    most_digits: 5,
+    least: 1,
+    greatest: 16_384,
+};
+
+/// The request of a command.
+pub fn request<'a>(
+    alloc: Global,
+    command: CommandName,
+    given: &Given<'a>,
+) -> Result<Request<'a>, WordsError>
+    ensures { Gives (request_of command (given_of given.now)) seen.request_of result }
+{
+    match command {
+        CommandName::Call => Ok(Request::Call(call(alloc, given)?)),
+        CommandName::Emulate => Ok(Request::Emulate(emulate(alloc, given)?)),
+        CommandName::Analyse => Ok(Request::Analyse(analyse(alloc, given)?)),
+        CommandName::Check => Ok(Request::Check(check(alloc, given)?)),
+        CommandName::Convert => Ok(Request::Convert(convert(alloc, given)?)),
+        CommandName::List => Ok(Request::List(list(alloc, given)?)),
+        CommandName::Slice => Ok(Request::Slice(slice(alloc, given)?)),
+        CommandName::Claims => Ok(Request::Claims(claims(alloc, given)?)),
+        CommandName::Stress => Ok(Request::Stress(stress(given)?)),
+    }
+}
+
+/// The code of a word CODE.
+#[tactic(auto, unfolding(crate::specs::Words::code_of))]
+fn code<'a>(alloc: Global, given: &Given<'a>, word: &'a str) -> Result<Code<'a>, WordsError>
+    ensures { Gives (code_of (given_of given.now) word.entry.now) seen.code_of result }
+{
+    let base = base_address(given)?;
+    let order = order(given)?;
+    let parts = code_parts(alloc, word, base)?;
+    Ok(Code { parts, order })
+}
+
+/// `call SPEC FUN NUMBER ..`
+#[tactic(auto, unfolding(crate::specs::Words::call_of))]
+fn call<'a>(alloc: Global, given: &Given<'a>) -> Result<CallRequest<'a>, WordsError>
+    ensures { Gives (call_of (given_of given.now) (given_of given.now).words) seen.call_of result }
+{
+    let [spec, fun, numbers @ ..] = given.words.as_slice() else {
+        return Err(WordsError::BadWords);
+    };
+    let calls = calls(given)?;
+    let numbers = Vec::from_slice(alloc, numbers)?;
+    Ok(CallRequest {
+        spec: SpecName::of(spec),
+        fun,
+        numbers,
+        calls,
+    })
+}
+
+/// `emulate SPEC CODE ENTRY`
+#[tactic(auto, unfolding(crate::specs::Words::emulate_of))]
+fn emulate<'a>(alloc: Global, given: &Given<'a>) -> Result<EmulateRequest<'a>, WordsError>
+    ensures { Gives (emulate_of (given_of given.now) (given_of given.now).words) seen.emulate_of result }
+{
+    let [spec, word, entry] = given.words.as_slice() else {
+        return Err(WordsError::BadWords);
+    };
+    let code = code(alloc, given, word)?;
+    let steps = steps(given)?;
+    let calls = calls(given)?;
+    Ok(EmulateRequest {
+        spec: SpecName::of(spec),
+        code,
+        entry,
+        steps,
+        calls,
+    })
+}
+
+/// The analysis of the words SPEC, CODE and ENTRY.
+#[tactic(auto, unfolding(crate::specs::Words::analysis_of))]
+fn analysis<'a>(
+    alloc: Global,
+    given: &Given<'a>,
+    spec: &'a str,
+    word: &'a str,
+    entry: &'a str,
+) -> Result<AnalyseRequest<'a>, WordsError>
+    ensures { Gives (analysis_of (given_of given.now) spec.entry.now word.entry.now entry.entry.now)
+        seen.analyse_of result }
+{
+    let code = code(alloc, given, word)?;
+    let base = base(given)?;
+    let limit = limit(given)?;
+    Ok(AnalyseRequest {
+        spec: SpecName::of(spec),
+        code,
+        entry,
+        base,
+        limit,
+    })
+}
+
+/// `analyse SPEC CODE ENTRY`
+#[tactic(auto, unfolding(crate::specs::Words::analyse_of))]
+fn analyse<'a>(alloc: Global, given: &Given<'a>) -> Result<AnalyseRequest<'a>, WordsError>
+    ensures { Gives (analyse_of (given_of given.now) (given_of given.now).words) seen.analyse_of result }
+{
+    let [spec, word, entry] = given.words.as_slice() else {
+        return Err(WordsError::BadWords);
+    };
+    analysis(alloc, given, spec, word, entry)
+}
+
+/// The table of the words SPEC, CODE, ENTRY and TABLE, with what it should be a table of.
+#[tactic(auto, unfolding(crate::specs::Words::check_from))]
+fn check_from<'a>(
+    alloc: Global,
+    given: &Given<'a>,
+    spec: &'a str,
+    word: &'a str,
+    entry: &'a str,
+    table: &'a str,
+) -> Result<CheckRequest<'a>, WordsError>
+    ensures { Gives (check_from (given_of given.now) spec.entry.now word.entry.now entry.entry.now table.entry.now)
+        seen.check_of result }
+{
+    let analysis = analysis(alloc, given, spec, word, entry)?;
+    Ok(CheckRequest { analysis, table })
+}
+
+/// `check SPEC CODE ENTRY TABLE`
+#[tactic(auto, unfolding(crate::specs::Words::check_of))]
+fn check<'a>(alloc: Global, given: &Given<'a>) -> Result<CheckRequest<'a>, WordsError>
+    ensures { Gives (check_of (given_of given.now) (given_of given.now).words) seen.check_of result }
+{
+    let [spec, word, entry, table] = given.words.as_slice() else {
+        return Err(WordsError::BadWords);
+    };
+    check_from(alloc, given, spec, word, entry, table)
+}
+
+/// `convert SPEC CODE TABLE`
+#[tactic(auto, unfolding(crate::specs::Words::convert_of))]
+fn convert<'a>(alloc: Global, given: &Given<'a>) -> Result<ConvertRequest<'a>, WordsError>
+    ensures { Gives (convert_of (given_of given.now) (given_of given.now).words) seen.convert_of result }
+{
+    let [spec, word, table] = given.words.as_slice() else {
+        return Err(WordsError::BadWords);
+    };
+    let code = code(alloc, given, word)?;
+    let base = base(given)?;
+    Ok(ConvertRequest {
+        spec: SpecName::of(spec),
+        code,
+        table,
+        base,
+    })
+}
+
+/// `list SPEC CODE`
+#[tactic(auto, unfolding(crate::specs::Words::list_of))]
+fn list<'a>(alloc: Global, given: &Given<'a>) -> Result<ListRequest<'a>, WordsError>
+    ensures { Gives (list_of (given_of given.now) (given_of given.now).words) seen.list_of result }
+{
+    let [spec, word] = given.words.as_slice() else {
+        return Err(WordsError::BadWords);
+    };
+    let code = code(alloc, given, word)?;
+    Ok(ListRequest {
+        spec: SpecName::of(spec),
+        code,
+    })
+}
+
+/// The slice of the words ADDRESS and CELL, by a table over a base with stamps.
+#[tactic(auto, unfolding(crate::specs::Words::slice_from))]
+fn slice_from<'a>(
+    check: CheckRequest<'a>,
+    place: &str,
+    cell: &'a str,
+) -> Result<SliceRequest<'a>, WordsError>
+    ensures { Gives (slice_from (seen.check_of check.entry) place.now cell.entry.now) seen.slice_of result }
+{
+    let address = address(place).ok_or(WordsError::BadWords)?;
+    if !check.analysis.base.is_stamped() {
+        return Err(WordsError::BadWords);
+    }
+    Ok(SliceRequest {
+        check,
+        address,
+        cell,
+    })
+}
+
+/// `slice SPEC CODE ENTRY TABLE ADDRESS CELL`
+#[tactic(auto, unfolding(crate::specs::Words::slice_of))]
+fn slice<'a>(alloc: Global, given: &Given<'a>) -> Result<SliceRequest<'a>, WordsError>
+    ensures { Gives (slice_of (given_of given.now) (given_of given.now).words) seen.slice_of result }
+{
+    let [spec, word, entry, table, place, cell] = given.words.as_slice() else {
+        return Err(WordsError::BadWords);
+    };
+    let check = check_from(alloc, given, spec, word, entry, table)?;
+    slice_from(check, place, cell)
+}
+
+/// `claims SPEC CODE ENTRY TABLE CLAIMS`
+#[tactic(auto, unfolding(crate::specs::Words::claims_of))]
+fn claims<'a>(alloc: Global, given: &Given<'a>) -> Result<ClaimsRequest<'a>, WordsError>
+    ensures { Gives (claims_of (given_of given.now) (given_of given.now).words) seen.claims_of result }
+{
+    let [spec, word, entry, table, claims] = given.words.as_slice() else {
+        return Err(WordsError::BadWords);
+    };
+    let check = check_from(alloc, given, spec, word, entry, table)?;
+    Ok(ClaimsRequest { check, claims })
+}
+
+/// `stress NUMBER COUNT`
+#[tactic(auto, unfolding(crate::specs::Words::stress_of))]
+fn stress(given: &Given) -> Result<StressRequest, WordsError>
+    ensures { Gives (stress_of (given_of given.now) (given_of given.now).words) seen.stress_of result }
+{
+    let [number, count] = given.words.as_slice() else {
+        return Err(WordsError::BadWords);
+    };
+    let number = decimal(number, NUMBER_FORM).ok_or(WordsError::BadWords)?;
+    let count = decimal(count, COUNT_FORM).ok_or(WordsError::BadWords)?;
+    let base = base(given)?;
+    Ok(StressRequest {
+        number,
+        count,
+        base,
+    })
+}

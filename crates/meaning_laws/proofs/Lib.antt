@@ -1,0 +1,9 @@
+pub mod Bounds
+pub mod Values
+pub mod Maps
+pub mod Bound
+pub mod Terms
+pub mod Turns
+pub mod Tailed
+pub mod Kept
+pub mod Depths
