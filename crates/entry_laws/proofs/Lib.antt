@@ -1,0 +1,4 @@
+pub mod Cells
+pub mod OneStates
+pub mod Reading
+pub mod Accepted

@@ -1,0 +1,41 @@
+-- Entries that are read, and their states.
+use Rattle.std.specs.Prelude.{◌≡◌, ℕ, ◌<◌, ◌^◌, true, List, Ok, Some}
+use Rattle.std.specs.List.{list_all}
+use Rattle.spec_types.specs.declared.spec.Machine.{Machine}
+use Rattle.spec_types.specs.Specification.{Spec}
+use Rattle.tsl_values.specs.States.{State}
+use Rattle.tsl_values.specs.Types.{environment_of}
+use Rattle.meaning.specs.Entries.{IsEntryState}
+use Rattle.meaning_laws.specs.Accepted.{IsAccepted}
+use Rattle.cell_text.specs.Places.{state_fields}
+use Rattle.state_text.specs.OneState.{one_state, types_behind}
+use Rattle.state_text.specs.Reading.{Entry, read}
+use Rattle.entry_laws.specs.Fitting.{is_cell, line_fits}
+
+module _ (spec : Spec) where
+  -- Each field of a state behind the program counter is a word, or a map with a default of its width.
+  abbrev pub HasCells : Type 0
+  HasCells = list_all (is_cell (environment_of spec)) (types_behind (state_fields spec)) ≡ true
+
+  -- The entry gives the program counter a number of 32 bits, and cells that are there numbers of their widths.
+  pub record Fits (e : Entry) : Type 0 where
+    pub counter : e.pc < 2 ^ 32
+    pub lines : list_all (line_fits (environment_of spec) (types_behind (state_fields spec))) e.lines ≡ true
+
+-- An entry that is read fits.
+abbrev pub EntriesFit : Type 0
+EntriesFit = (spec : Spec) (bytes : List ℕ) (e : Entry) → read spec bytes ≡ Ok e → Fits spec e
+
+-- The one state of an entry that fits is a state that the entry describes.
+abbrev pub OneStatesAreDescribed : Type 0
+OneStatesAreDescribed = (spec : Spec) (e : Entry) (s : State) → HasCells spec → Fits spec e → one_state spec e ≡ Ok s
+    → IsEntryState (environment_of spec) (types_behind (state_fields spec)) e.pc e.lines s
+
+-- Machines of accepted specifications have such fields.
+abbrev pub AcceptedHaveCells : Type 0
+AcceptedHaveCells = (spec : Spec) (m : Machine) → IsAccepted spec → spec.machine ≡ Some m → HasCells spec
+
+-- The one state of an entry that is read, of an accepted machine, is one that the entry describes.
+abbrev pub ReadStatesAreDescribed : Type 0
+ReadStatesAreDescribed = (spec : Spec) (m : Machine) (bytes : List ℕ) (e : Entry) (s : State) → IsAccepted spec → spec.machine ≡ Some m → read spec bytes ≡ Ok e → one_state spec e ≡ Ok s
+    → IsEntryState (environment_of spec) (types_behind (state_fields spec)) e.pc e.lines s × (s.pc < 2 ^ 32)

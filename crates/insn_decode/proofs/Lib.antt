@@ -1,0 +1,9 @@
+mod Steps
+mod Placing
+mod Making
+mod Sizes
+mod WordBits
+mod Groups
+mod Fields
+mod Words
+mod Addresses

@@ -1,0 +1,9 @@
+pub mod Image
+pub mod Faults
+pub mod Inside
+pub mod Tree
+pub mod Rows
+pub mod Views
+pub mod Decoders
+pub mod Listing
+pub mod Laws

@@ -1,0 +1,15 @@
+pub mod FirstLine
+pub mod Fields
+pub mod Runs
+pub mod Sorting
+pub mod Bytes
+pub mod Numbers
+pub mod Computed
+pub mod Shown
+pub mod Names
+pub mod Printed
+pub mod Cells
+pub mod Same
+pub mod RoundTrip
+pub mod Fitting
+pub mod Described

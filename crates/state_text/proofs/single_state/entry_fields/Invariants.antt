@@ -1,0 +1,10 @@
+use Rattle.std.proofs.Common.{◌≡◌, ◌++◌, drop, map}
+use Rattle.spec_types.specs.Views.{specification}
+use Rattle.tsl_values.specs.Types.{environment_of}
+use Rattle.tsl_values.specs.Views.{val}
+use Rattle.meaning.specs.Entries.{entry_fields}
+use Rattle.state_text.specs.OneState.{types_behind}
+use Rattle.state_text.proofs.single_state.entry_fields.Given as goal
+
+abbrev pub invariant-loop-i : goal.invariant-loop-i
+invariant-loop-i l = entry_fields (environment_of (specification l.spec)) l.lines 1 (types_behind l.fields) ≡ map val l.out.items ++ entry_fields (environment_of (specification l.spec)) l.lines l.i (map (λ f. f.1) (drop l.i l.fields))

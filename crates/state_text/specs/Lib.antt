@@ -1,0 +1,13 @@
+pub mod Lines
+pub mod Forms
+pub mod Parsing
+pub mod Cuts
+pub mod Meaning
+pub mod Said
+pub mod Reading
+pub mod Found
+pub mod Writing
+pub mod Stops
+pub mod OneState
+pub mod FaultLines
+pub mod Laws
