@@ -1,0 +1,11 @@
+pub mod Bounded
+pub mod Closing
+pub mod Ending
+pub mod Growth
+pub mod Kept
+pub mod One
+pub mod Pairs
+pub mod Potential
+pub mod Soundness
+pub mod Tables
+pub mod Verdicts

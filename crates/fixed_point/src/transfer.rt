@@ -1,0 +1,25 @@
+//! What an instruction makes of an element.
+
+use base_trait::Use;
+
+/// The addresses that a step may lead to, ascending, or the word of the counter where they are too many.
+#[derive(Drop)]
+pub enum Targets<W> {
+    List(Vec<u32>),
+    Many { shown: W },
+}
+
+/// The targets, the element behind the instruction, or none where no state is left, and the uses.
+#[derive(Drop)]
+pub struct Transfer<E, W> {
+    pub targets: Targets<W>,
+    pub post: Option<E>,
+    pub uses: Vec<Use>,
+}
+
+/// A transfer, or the code word that has no decoding.
+#[derive(Drop)]
+pub enum Transferred<E, W> {
+    Undecodable { word: u32 },
+    Made(Transfer<E, W>),
+}

@@ -1,0 +1,55 @@
+//! Addresses at which no element absorbs another.
+
+ghost use Rattle.std.specs.Prelude.{◌≡◌, ℕ, List};
+ghost use Rattle.fixed_point.specs.Analysis.{Analysis};
+ghost use Rattle.fixed_point.specs.Elements.{Elements};
+ghost use Rattle.fixed_point.specs.Table.{TableFits};
+ghost use Rattle.fixed_point.specs.Verdicts.{does_absorb, first_open, is_open};
+ghost use Rattle.fixed_point.specs.Views.{listings};
+
+use fixed_point::{Analyser, Table};
+
+/// Whether an address is listed with an element that absorbs this one.
+fn is_absorbed<A: Analyser>(analyser: &A, table: &Table<A::Elem>, x: &A::Elem, at: u32) -> bool
+    requires table { TableFits (A.analysis analyser.now) (listings A.view table.now) }
+    requires fits { (A.analysis analyser.now).elements.fits (A.view x.now) }
+    ensures { result ≡ does_absorb (A.analysis analyser.now) (listings A.view table.now at) (A.view x.now) }
+{
+    match table.blocks.get(&at) {
+        Some(block) => analyser.absorbs(&block.elem, x),
+        None => false,
+    }
+}
+
+/// Whether an address is that of a code word at which this element is not absorbed.
+pub(crate) fn is_open<A: Analyser>(
+    analyser: &A,
+    table: &Table<A::Elem>,
+    x: &A::Elem,
+    at: u32,
+) -> bool
+    requires table { TableFits (A.analysis analyser.now) (listings A.view table.now) }
+    requires fits { (A.analysis analyser.now).elements.fits (A.view x.now) }
+    ensures { result ≡ is_open (A.analysis analyser.now) (listings A.view table.now) (A.view x.now) at }
+{
+    analyser.is_code(at) && !is_absorbed(analyser, table, x, at)
+}
+
+/// The first target that is open.
+pub(crate) fn first_open<A: Analyser>(
+    analyser: &A,
+    table: &Table<A::Elem>,
+    x: &A::Elem,
+    targets: &[u32],
+) -> Option<u32>
+    requires table { TableFits (A.analysis analyser.now) (listings A.view table.now) }
+    requires fits { (A.analysis analyser.now).elements.fits (A.view x.now) }
+    ensures { result ≡ first_open (A.analysis analyser.now) (listings A.view table.now) (A.view x.now) targets.now }
+{
+    for to in targets {
+        if is_open(analyser, table, x, *to) {
+            return Some(*to);
+        }
+    }
+    None
+}

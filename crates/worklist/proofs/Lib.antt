@@ -1,0 +1,7 @@
+pub mod Arrivals
+pub mod Finishing
+pub mod Fitting
+pub mod Likeness
+pub mod Pending
+pub mod Tables
+pub mod Traces

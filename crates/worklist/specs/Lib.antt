@@ -1,0 +1,6 @@
+pub mod Answers
+pub mod Finishing
+pub mod Fitting
+pub mod Likeness
+pub mod Steps
+pub mod Views

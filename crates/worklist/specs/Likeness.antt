@@ -1,0 +1,18 @@
+-- When two plays stand for one: elements that are the same, and changes counted up to three.
+use Rattle.std.specs.Prelude.{◌≡◌, ℕ, min, Option, Some, None}
+use Rattle.fixed_point.specs.Analysis.{Analysis}
+use Rattle.fixed_point.specs.Play.{Play, Reached}
+
+module _ {E W S : Type 0} (A : Analysis E W S) where
+  pub record IsLikeReached (r s : Reached E) : Type 0 where
+    pub elem : A.elements.same r.elem s.elem
+    pub changes : min r.changes 3 ≡ min s.changes 3
+    pub pending : r.pending ≡ s.pending
+
+  abbrev pub IsLike : Option (Reached E) → Option (Reached E) → Type 0
+  IsLike None None = Unit {0}
+  IsLike (Some r) (Some s) = IsLikeReached r s
+  IsLike _ _ = ⊥
+
+  abbrev pub AllLike : Play E → Play E → Type 0
+  AllLike p q = (a : ℕ) → IsLike (p a) (q a)

@@ -1,0 +1,22 @@
+-- What a step of a worklist comes to.
+use Rattle.std.specs.Prelude.{◌≡◌, ℕ, IsSomeAnd}
+use Rattle.fixed_point.specs.Analysis.{Analysis}
+use Rattle.fixed_point.specs.Outcome.{Moves, too_many, undecodable}
+use Rattle.fixed_point.specs.Play.{Play, transferred}
+use Rattle.worklist.specs.Likeness.{AllLike}
+use Rattle.worklist.specs.declared.stepped.Stepped.{Stepped}
+use Rattle.worklist.specs.declared.stepped.Stepped.TheVariants.{Moved, Undecodable, TooMany}
+
+module _ {E W S : Type 0} (A : Analysis E W S) where
+  -- What the step gives is the transfer of what stands at the address, and where it has targets the new
+  -- play is as after it.
+  abbrev pub IsStepped : Play E → Play E → ℕ → Stepped W → Type 0
+  IsStepped p q at Moved = IsSomeAnd (p at) (λ r. Moves (A.transfer at r.elem)) × AllLike A q (transferred A p at)
+  IsStepped p q at (Undecodable word) = IsSomeAnd (p at) (λ r. A.transfer at r.elem ≡ undecodable word)
+  IsStepped p q at (TooMany shown) = IsSomeAnd (p at) (λ r. A.transfer at r.elem ≡ too_many shown)
+
+-- the transfer was made
+abbrev pub IsMove : {W : Type 0} → Stepped W → Type 0
+IsMove Moved = Unit {0}
+IsMove (Undecodable word) = ⊥
+IsMove (TooMany shown) = ⊥

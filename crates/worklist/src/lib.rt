@@ -1,0 +1,36 @@
+//! Analysis to a fixed point: one element for each code address, and a set of pending addresses.
+//!
+//! What is computed is the play of `fixed_point` specs/Play, whose head explains it: the least pending address is
+//! transferred until there is none, and then each reached address once more, for its targets and uses. `analyse`
+//! works over any `Analyser`.
+//!
+//! *What stands.* A map has the element of each reached address with the number of its changes, counted up to
+//! three, and a set has the pending addresses. Seen together they are a play (`play_in`, specs/Views). It is like
+//! the play of the trace so far: elements are the same, changes agree up to three, the same addresses are pending
+//! (specs/Likeness). Each function's contract says one step of the definition, from the play before it to the play
+//! after it; that such steps keep likeness is a lemma for each step.
+//!
+//! *Why it ends.* A legal trace has at most N(H + 4) addresses, and while an address is pending there is room for
+//! one more (`fixed_point`, `legal_traces_are_short`). So the loop's measure is that number less the length of the
+//! trace, and no contract speaks of ranks.
+//!
+//! *What is proved.* Where `analyse` answers a table, its trace is legal and full, the table is the one of the
+//! trace's play, and it is closed: so all that it says holds of every run (`closed_tables_are_sound`). Its
+//! addresses and stamps are the image's. A refusal comes exactly where the least pending address of the trace's
+//! play has no decoding, or too many targets. The steps are as many as transfers, at most N(H + 4) + N, also where
+//! memory runs out.
+#![tactic(auto)]
+
+mod analysis;
+mod arrive;
+mod block;
+mod blocks;
+mod place;
+mod report;
+mod run;
+mod step;
+mod stepped;
+mod worklist;
+
+pub use analysis::analyse;
+pub use report::{AnalyseError, Report};

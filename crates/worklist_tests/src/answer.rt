@@ -1,0 +1,93 @@
+//! What a line gives.
+
+ghost use Rattle.std.specs.Prelude.{◌≡◌, ◌<◌, IfOk};
+ghost use Rattle.fixed_point.specs.Runs.{IsSoundTable};
+ghost use Rattle.fixed_point.specs.Table.{TableFits};
+ghost use Rattle.fixed_point.specs.Views.{listings};
+ghost use Rattle.worklist_tests.specs.Machine.{analysis_of};
+
+use crate::machine::Interval;
+use crate::program::Program;
+use crate::reading::{program, table};
+use crate::writing::{joined, table_text, verdict_text};
+use fixed_point::laws::closed_tables_are_sound;
+use fixed_point::{Described, Table};
+use std::alloc::{AllocError as NoMemory, Global};
+use std::marker::Brand;
+use std::sync::ledger::{Blank, Ledger};
+use step_counter::Steps;
+use table_check::check;
+use worklist::{AnalyseError, Report, analyse};
+
+/// The table of an analysis: what it says holds of every run.
+fn soundly<A: Described, L: Ledger>(
+    alloc: Global,
+    analyser: &A,
+    steps: &mut Steps<L>,
+) -> Result<Report<A::Elem>, AnalyseError<A::Shown>>
+    ensures { IfOk result (λ r. IsSoundTable (A.analysis analyser.now) (A.machine analyser.now) (listings A.view r.table)) }
+{
+    closed_tables_are_sound(analyser);
+    analyse(alloc, analyser, steps)
+}
+
+/// The trace and the table of an analysis, or how it stopped.
+fn analysed<L: Ledger>(alloc: Global, program: &Program, blank: Blank) -> Result<String, NoMemory>
+    requires name { blank.name ≡ L.name }
+    requires parts { blank.parts ≡ L.parts }
+    requires some { 0 < blank.parts }
+{
+    let mut steps: Steps<L> = Steps::new(blank);
+    match soundly(alloc, program, &mut steps) {
+        Ok(report) => {
+            let trace = joined(alloc, &report.trace)?;
+            let table = table_text(alloc, &report.table)?;
+            format!(in alloc; "trace {} table {}", trace.as_str(), table.as_str())
+        }
+        Err(AnalyseError::Undecodable { at, word, trace }) => {
+            let trace = joined(alloc, &trace)?;
+            format!(in alloc; "trace {} undecodable {at} {word}", trace.as_str())
+        }
+        Err(AnalyseError::TooManyTargets { at, shown, trace }) => {
+            let Interval { low, high } = shown;
+            let trace = joined(alloc, &trace)?;
+            format!(in alloc; "trace {} too many {at} {low}..{high}", trace.as_str())
+        }
+        Err(AnalyseError::NoMemory) => Err(NoMemory),
+    }
+}
+
+/// The verdict on a table.
+fn checked<L: Ledger>(
+    alloc: Global,
+    program: &Program,
+    table: &Table<Interval>,
+    blank: Blank,
+) -> Result<String, NoMemory>
+    requires name { blank.name ≡ L.name }
+    requires parts { blank.parts ≡ L.parts }
+    requires some { 0 < blank.parts }
+    requires fits { TableFits (analysis_of program.now.code.items program.now.start program.now.entry) (listings (λ x. x) table.now) }
+{
+    let mut steps: Steps<L> = Steps::new(blank);
+    let verdict = check(alloc, program, table, &mut steps)?;
+    verdict_text(alloc, &verdict)
+}
+
+/// What a line gives: a program is analysed, and a program with a table behind a `;` is checked.
+pub(crate) fn answer(alloc: Global, line: &str) -> Result<String, NoMemory> {
+    let (code, listed) = match line.split_once("; ") {
+        Some((code, listed)) => (code, Some(listed)),
+        None => (line, None),
+    };
+    let Some(program) = program(alloc, code)? else {
+        return format!(in alloc; "no program");
+    };
+    match listed {
+        None => analysed::<Brand>(alloc, &program, Blank::new(1)),
+        Some(listed) => match table(alloc, &program, listed)? {
+            Some(table) => checked::<Brand>(alloc, &program, &table, Blank::new(1)),
+            None => format!(in alloc; "no table"),
+        },
+    }
+}
