@@ -2,9 +2,9 @@
 use Rattle.std.specs.Prelude.{ℕ, Result, Ok, Err}
 use Rattle.std.specs.declared.io.ErrorKind.{ErrorKind}
 use Rattle.std.specs.declared.io.ErrorKind.TheVariants.{OutOfMemory}
-use Rattle.tsl_run.specs.declared.status.Status.{Status}
-use Rattle.tsl_run.specs.declared.status.Status.TheVariants.{NoMemory}
-use Rattle.tsl_run.specs.Statuses.{exit_status}
+use Rattle.run_steps.specs.declared.status.Status.{Status}
+use Rattle.run_steps.specs.declared.status.Status.TheVariants.{NoMemory}
+use Rattle.run_steps.specs.Statuses.{exit_status}
 
 -- the status of a run; where there was no memory for the words, the same as of a run without memory; else that a word is no text
 abbrev pub code_of : Result Status ErrorKind → ℕ

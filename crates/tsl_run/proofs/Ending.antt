@@ -1,127 +1,67 @@
 -- What follows from how a run ends.
-use Rattle.std.proofs.Common.{◌≡◌, ◌≢◌, ℕ, ◌<◌, ◌⊎◌, inl, inr, All, Bool, false, List, [], ◌∷◌, Option, Some, None, IsTrue, length, refl, sym, ◌∙◌, ap, subst, arith}
+use Rattle.std.proofs.Common.{◌≡◌, ◌≢◌, ℕ, ◌<◌, ◌⊎◌, inl, inr, All, Bool, List, Option, Some, None, IsTrue, length, refl, sym, ◌∙◌, ap, subst, arith}
 use Rattle.std.specs.Prelude.{Contains, IsSomeAnd, Result, Ok, Err}
 use Rattle.std.specs.Bool.{IsFalse}
 use Rattle.std.proofs.lemmas.List.Elements.{All-contains}
 use Rattle.tsl_io.specs.Faults.{Rose, RoseByOne}
 use Rattle.tsl_io.specs.InputState.{InputState}
 use Rattle.tsl_io.specs.SinkState.{SinkState, Appends, AppendsFront}
-use Rattle.spec_types.specs.declared.spec.Use.{Use}
-use Rattle.spec_types.specs.declared.spec.Use.TheVariants.{Library}
-use Rattle.spec_types.specs.Specification.{Spec}
-use Rattle.tsl_values.specs.Values.{Val}
-use Rattle.function_calls.specs.Calls as calls
-use Rattle.function_calls.specs.Calls.{call_end, spent, value, value_line}
-use Rattle.function_calls.specs.Laws.{IsWritten}
-use Rattle.function_calls.proofs.Written.{values_are_written}
-use Rattle.tsl_run.specs.declared.status.Status.{Status}
-use Rattle.tsl_run.specs.declared.status.Status.TheVariants as s
+use Rattle.run_steps.specs.declared.status.Status.{Status}
+use Rattle.run_steps.specs.declared.status.Status.TheVariants as s
+use Rattle.run_steps.specs.Outcome as answers
+use Rattle.run_steps.specs.Outcome.{Outcome, Refusal, bad_words, not_built, cannot_read, too_long, spec_refused, code_refused, entry_refused, calls_spent, line_of, status_of}
+use Rattle.run_steps.specs.Reading as owing
+use Rattle.run_steps.specs.Reading.{CouldNotRead, Gave, Holds}
+use Rattle.run_steps.specs.Statuses.{IsAnswer}
+use Rattle.run_steps.proofs.Steps.{Fails}
+use Rattle.command_words.specs.Requests.{Request, call, emulate, list}
+use Rattle.command_words.specs.Words.{asked}
 use Rattle.tsl_run.specs.Follows.{Due, EndsWith, Finishes, IsCut, Unread, owed, unread}
 use Rattle.tsl_run.specs.Laws.{EndsFollow}
-use Rattle.tsl_run.specs.Outcome.{Outcome, Refusal, bad_words, not_built, cannot_read, too_long, spec_refused, calls_spent, line_of, status_of}
 use Rattle.tsl_run.specs.Output as output
 use Rattle.tsl_run.specs.Output.{Ends}
-use Rattle.tsl_run.specs.Owed as owing
-use Rattle.tsl_run.specs.Owed.{ComesTo, CouldNotRead, Gave, Holds, IsOwed, Owes}
+use Rattle.tsl_run.specs.Owed.{ComesTo, IsOwed, Owes}
 use Rattle.tsl_run.specs.Possible as possible
 use Rattle.tsl_run.specs.Possible.{IsLineOf, IsPossible}
-use Rattle.tsl_run.specs.Sources.{source_cap, IsSpecification, Specifies}
-use Rattle.tsl_run.specs.Statuses.{IsAnswer}
-use Rattle.tsl_run.specs.Steps.{CallSteps, SourceOf, Steps, answered, refused, goes_on}
-use Rattle.command_words.specs.Requests.{CallRequest, Request, call}
-use Rattle.command_words.specs.SpecNames.{SpecName, input, power_pc, risc_v, spec_inputs}
-use Rattle.command_words.specs.Words.{asked}
-use Rattle.tsl_run.specs.Words.{IsUnbuilt, input_names, is_input, names_in}
-use Rattle.tsl_run.proofs.Giving.{is_accepted}
-use Rattle.tsl_run.proofs.Steps.{Fails, each, either}
+use Rattle.tsl_run.specs.Steps.{Steps}
+use Rattle.tsl_run.specs.Words.{IsUnbuilt, capped_in, input_names, names_in}
+use Rattle.tsl_run.proofs.Causes.{Caused, asked_known, is_named}
+use Rattle.tsl_run.proofs.Others.{asked_either}
 use Rattle.tsl_run.proofs.Unique.{one_answer}
 
 -- ---- the cause of each outcome
 
-module _ (old new : InputState) where
-  -- what is known of an outcome, whatever the inputs hold
-  abbrev pub Caused : List (List ℕ) → Outcome → Type 0
-  Caused names (Ok text) = (v : Val) × IsWritten v × (text ≡ value_line v)
-  Caused names (Err bad_words) = Unit {0}
-  Caused names (Err not_built) = Unit {0}
-  Caused names (Err (cannot_read name)) = Contains names name × CouldNotRead old new name
-  Caused names (Err (too_long name)) = Contains names name
-  Caused names (Err (spec_refused fault)) = Unit {0}
-  Caused names (Err calls_spent) = Unit {0}
-
-  abbrev CausedRefusal : {A : Type 0} → List (List ℕ) → Result A Refusal → Type 0
-  CausedRefusal names (Ok given) = Unit {0}
-  CausedRefusal names (Err refusal) = Caused names (Err refusal)
-
-  reading_caused : (names : List (List ℕ)) (cap : ℕ) (name : List ℕ) → Contains names name → (found : Result (List ℕ) Refusal) → Gave old new cap name found → CausedRefusal names found
-  reading_caused names cap name named found (owing.whole holds fits) = tt
-  reading_caused names cap name named found (owing.long far) = named
-  reading_caused names cap name named found (owing.unread cause) = (named, cause)
-
-  specifying_caused : (names : List (List ℕ)) (wanted : Use) (source : List ℕ) (refusal : Refusal) → Specifies wanted source (Err refusal) → Caused names (Err refusal)
-  specifying_caused names wanted source bad_words p = absurd p
-  specifying_caused names wanted source not_built p = absurd p
-  specifying_caused names wanted source (cannot_read name) p = absurd p
-  specifying_caused names wanted source (too_long name) p = absurd p
-  specifying_caused names wanted source (spec_refused fault) p = tt
-  specifying_caused names wanted source calls_spent p = absurd p
-
-  calling_caused : (names : List (List ℕ)) (source : List ℕ) (spec : Spec) (request : CallRequest) → IsSpecification Library source spec
-      → (end : calls.End) → call_end spec request.calls request.fun request.numbers ≡ end → Caused names (answered end)
-  calling_caused names source spec request specified (value v) is = (v, values_are_written spec request.calls request.fun request.numbers v (is_accepted Library source spec specified) is, refl)
-  calling_caused names source spec request specified calls.bad_words is = tt
-  calling_caused names source spec request specified spent is = tt
-
-  first_contained : (name : List ℕ) → Contains (name ∷ []) name
-  first_contained name = (0, omega arith, refl)
-
-  refusal_caused : (names : List (List ℕ)) (found : Result (List ℕ) Refusal) → found ≡ Err not_built → CausedRefusal names found
-  refusal_caused names found is = subst (λ (found : Result (List ℕ) Refusal). CausedRefusal names found) (sym is) tt
-
-  source_caused : (spec : SpecName) (found : Result (List ℕ) Refusal) → SourceOf (Gave old new) spec found → CausedRefusal (spec_inputs spec) found
-  source_caused (input name) found gave = reading_caused (name ∷ []) source_cap name (first_contained name) found gave
-  source_caused power_pc found is = refusal_caused [] found is
-  source_caused risc_v found is = refusal_caused [] found is
-
-  call_caused : (request : CallRequest) (outcome : Outcome) → CallSteps (Gave old new) request outcome → Caused (spec_inputs request.spec) outcome
-  call_caused request outcome (refused {refusal = refusal} p) = source_caused request.spec (Err refusal) p
-  call_caused request outcome (goes_on {given = source} p (refused {refusal = refusal} q)) = specifying_caused (spec_inputs request.spec) Library source refusal q
-  call_caused request outcome (goes_on {given = source} p (goes_on {given = spec} q is)) =
-      subst (λ (o : Outcome). Caused (spec_inputs request.spec) o) (sym is) (calling_caused (spec_inputs request.spec) source spec request q (call_end spec request.calls request.fun request.numbers) refl)
-
-  unbuilt_caused : (names : List (List ℕ)) (outcome : Outcome) → outcome ≡ Err not_built → Caused names outcome
-  unbuilt_caused names outcome is = subst (λ (o : Outcome). Caused names o) (sym is) tt
-
-  asked_caused : (what : Option Request) (outcome : Outcome) → Steps (Gave old new) what outcome → Caused (names_in what) outcome
-  asked_caused None outcome is = subst (λ (o : Outcome). Caused [] o) (sym is) tt
-  asked_caused (Some (call request)) outcome steps = call_caused request outcome steps
-  asked_caused (Some other) outcome is = unbuilt_caused (names_in (Some other)) outcome is
-
 module _ (words : List (List ℕ)) (old new : InputState) where
-  pub caused : (outcome : Outcome) → ComesTo words old new outcome → Caused old new (input_names words) outcome
-  caused outcome comes = asked_caused old new (asked words) outcome comes
+  pub caused : (outcome : Outcome) → ComesTo words old new outcome → Caused old new (asked words) outcome
+  caused outcome comes = asked_known old new (asked words) outcome comes
 
-  possible_outcome : (outcome : Outcome) → Caused old new (input_names words) outcome → IsPossible (input_names words) outcome
-  possible_outcome (Ok text) cause = subst (λ (t : List ℕ). IsPossible (input_names words) (Ok t)) (sym cause.2) (possible.value cause.0 cause.1)
-  possible_outcome (Err bad_words) cause = possible.bad_words
-  possible_outcome (Err not_built) cause = possible.not_built
-  possible_outcome (Err (cannot_read name)) cause = possible.cannot_read cause.0
-  possible_outcome (Err (too_long name)) cause = possible.too_long cause
-  possible_outcome (Err (spec_refused fault)) cause = possible.spec_refused
-  possible_outcome (Err calls_spent) cause = possible.calls_spent
+  possible_outcome : (what : Option Request) (outcome : Outcome) → Caused old new what outcome → IsPossible what outcome
+  possible_outcome what (Ok answer) cause = possible.answered cause
+  possible_outcome what (Err bad_words) cause = possible.bad_words
+  possible_outcome what (Err not_built) cause = possible.not_built
+  possible_outcome what (Err (cannot_read name)) cause = possible.cannot_read cause.0
+  possible_outcome what (Err (too_long name)) cause = possible.too_long cause
+  possible_outcome what (Err (spec_refused fault)) cause = possible.spec_refused
+  possible_outcome what (Err (code_refused fault)) cause = possible.code_refused cause
+  possible_outcome what (Err (entry_refused fault)) cause = possible.entry_refused cause
+  possible_outcome what (Err calls_spent) cause = possible.calls_spent
 
   line_of_outcome : (outcome : Outcome) → ComesTo words old new outcome → IsLineOf words (status_of outcome) (line_of outcome)
-  line_of_outcome outcome comes = record { outcome = outcome; possible = possible_outcome outcome (caused outcome comes); has_status = refl; has_line = refl }
+  line_of_outcome outcome comes = record { outcome = outcome; possible = possible_outcome (asked words) outcome (caused outcome comes); has_status = refl; has_line = refl }
 
   -- an outcome of a read fault
   unread_outcome : (outcome : Outcome) → ComesTo words old new outcome → status_of outcome ≡ s.ReadFault → Unread words old new (line_of outcome)
-  unread_outcome (Ok text) comes is = absurd (cc)
+  unread_outcome (Ok (answers.text bytes)) comes is = absurd (cc)
+  unread_outcome (Ok (answers.undecodable bytes)) comes is = absurd (cc)
+  unread_outcome (Ok (answers.calls_ended bytes)) comes is = absurd (cc)
   unread_outcome (Err bad_words) comes is = absurd (cc)
   unread_outcome (Err not_built) comes is = absurd (cc)
   unread_outcome (Err (cannot_read name)) comes is =
       let cause = caused (Err (cannot_read name)) comes in record { name = name; named = cause.0; cause = cause.1; line = refl }
   unread_outcome (Err (too_long name)) comes is = absurd (cc)
   unread_outcome (Err (spec_refused fault)) comes is = absurd (cc)
+  unread_outcome (Err (code_refused fault)) comes is = absurd (cc)
+  unread_outcome (Err (entry_refused fault)) comes is = absurd (cc)
   unread_outcome (Err calls_spent) comes is = absurd (cc)
 
 -- ---- what is owed
@@ -129,6 +69,9 @@ module _ (words : List (List ℕ)) (old new : InputState) where
 -- a fault of reading
 ReadFault : Refusal → Type 0
 ReadFault refusal = status_of (Err refusal) ≡ s.ReadFault
+
+Never : Refusal → Type 0
+Never refusal = ⊥
 
 long_held : (old : InputState) (cap : ℕ) (name : List ℕ) (held : Option (List ℕ)) → old.held name ≡ held → IsSomeAnd held (λ bytes. cap < length bytes) → Holds old.held cap name (Err (too_long name))
 long_held old cap name None is past = absurd past
@@ -142,40 +85,34 @@ reading_held old new cap name told found (owing.unread cause) = inr refl
 
 fault_of : (outcome : Outcome) → Fails ReadFault outcome → status_of outcome ≡ s.ReadFault
 unfolding ReadFault
-fault_of (Ok text) none = absurd none
+fault_of (Ok answer) none = absurd none
 fault_of (Err refusal) is = is
 
-source_held : (old new : InputState) (spec : SpecName) → IsTrue old.tells → (found : Result (List ℕ) Refusal) → SourceOf (Gave old new) spec found → SourceOf (Holds old.held) spec found ⊎ Fails ReadFault found
-source_held old new (input name) told found gave = reading_held old new source_cap name told found gave
-source_held old new power_pc told found is = inl is
-source_held old new risc_v told found is = inl is
+no_fault_of : (outcome : Outcome) → Fails Never outcome → ⊥
+unfolding Never
+no_fault_of (Ok answer) none = none
+no_fault_of (Err refusal) none = none
 
 asked_owed : (old new : InputState) → IsTrue old.tells → (what : Option Request) (outcome : Outcome) → Steps (Gave old new) what outcome → Steps (Holds old.held) what outcome ⊎ (status_of outcome ≡ s.ReadFault)
-asked_owed old new told None outcome is = inl is
-asked_owed old new told (Some (call request)) outcome steps =
-    elim (either _ (SourceOf (Holds old.held) request.spec) _ _ ReadFault (source_held old new request.spec told) (λ source found further. inl further) outcome steps) [
+asked_owed old new told what outcome steps =
+    elim (asked_either (Gave old new) (Holds old.held) ReadFault what (λ cap name named found gave. reading_held old new cap name told found gave) outcome steps) [
       | inl owes ↦ inl owes
       | inr fault ↦ inr (fault_of outcome fault)
     ]
-asked_owed old new told (Some _) outcome is = inl is
 
 reading_whole : (old new : InputState) (cap : ℕ) (name : List ℕ) → IsTrue old.tells → (CouldNotRead old new name → old.held name ≡ None) → (found : Result (List ℕ) Refusal) → Gave old new cap name found → Holds old.held cap name found
 reading_whole old new cap name told none found (owing.whole holds fits) = owing.whole (holds told) fits
 reading_whole old new cap name told none found (owing.long far) = long_held old cap name (old.held name) refl (far told)
 reading_whole old new cap name told none found (owing.unread cause) = owing.none (none cause)
 
-source_whole : (old new : InputState) (spec : SpecName) → IsTrue old.tells → ((name : List ℕ) → Contains (spec_inputs spec) name → CouldNotRead old new name → old.held name ≡ None)
-    → (found : Result (List ℕ) Refusal) → SourceOf (Gave old new) spec found → SourceOf (Holds old.held) spec found
-source_whole old new (input name) told none found gave = reading_whole old new source_cap name told (none name (first_contained old new name)) found gave
-source_whole old new power_pc told none found is = is
-source_whole old new risc_v told none found is = is
-
 asked_whole : (old new : InputState) → IsTrue old.tells → (what : Option Request) → ((name : List ℕ) → Contains (names_in what) name → CouldNotRead old new name → old.held name ≡ None)
     → (outcome : Outcome) → Steps (Gave old new) what outcome → Steps (Holds old.held) what outcome
-asked_whole old new told None none outcome is = is
-asked_whole old new told (Some (call request)) none outcome steps =
-    each _ (SourceOf (Holds old.held) request.spec) _ _ (source_whole old new request.spec told none) (λ source found further. further) outcome steps
-asked_whole old new told (Some _) none outcome is = is
+asked_whole old new told what none outcome steps =
+    elim (asked_either (Gave old new) (Holds old.held) Never what
+    (λ cap name named found gave. inl (reading_whole old new cap name told (none name (is_named (capped_in what) name cap named)) found gave)) outcome steps) [
+      | inl owes ↦ owes
+      | inr fault ↦ absurd (no_fault_of outcome fault)
+    ]
 
 module _ (words : List (List ℕ)) (old new : InputState) (told : IsTrue old.tells) where
   -- an outcome is owed, but for a read fault
@@ -186,12 +123,16 @@ module _ (words : List (List ℕ)) (old new : InputState) (told : IsTrue old.tel
   owes_outcome outcome owes = record { outcome = outcome; owed = owes; has_status = refl; has_line = refl }
 
   due_outcome : (outcome : Outcome) → ComesTo words old new outcome → Due words old new (status_of outcome) (line_of outcome)
-  due_outcome (Ok text) comes = owed (λ e. cc) (owes_outcome (Ok text) (comes_owed (Ok text) comes (λ e. cc)))
+  due_outcome (Ok (answers.text bytes)) comes = owed (λ e. cc) (owes_outcome (Ok (answers.text bytes)) (comes_owed (Ok (answers.text bytes)) comes (λ e. cc)))
+  due_outcome (Ok (answers.undecodable bytes)) comes = owed (λ e. cc) (owes_outcome (Ok (answers.undecodable bytes)) (comes_owed (Ok (answers.undecodable bytes)) comes (λ e. cc)))
+  due_outcome (Ok (answers.calls_ended bytes)) comes = owed (λ e. cc) (owes_outcome (Ok (answers.calls_ended bytes)) (comes_owed (Ok (answers.calls_ended bytes)) comes (λ e. cc)))
   due_outcome (Err bad_words) comes = owed (λ e. cc) (owes_outcome (Err bad_words) (comes_owed (Err bad_words) comes (λ e. cc)))
   due_outcome (Err not_built) comes = owed (λ e. cc) (owes_outcome (Err not_built) (comes_owed (Err not_built) comes (λ e. cc)))
   due_outcome (Err (cannot_read name)) comes = unread (unread_outcome words old new (Err (cannot_read name)) comes refl)
   due_outcome (Err (too_long name)) comes = owed (λ e. cc) (owes_outcome (Err (too_long name)) (comes_owed (Err (too_long name)) comes (λ e. cc)))
   due_outcome (Err (spec_refused fault)) comes = owed (λ e. cc) (owes_outcome (Err (spec_refused fault)) (comes_owed (Err (spec_refused fault)) comes (λ e. cc)))
+  due_outcome (Err (code_refused fault)) comes = owed (λ e. cc) (owes_outcome (Err (code_refused fault)) (comes_owed (Err (code_refused fault)) comes (λ e. cc)))
+  due_outcome (Err (entry_refused fault)) comes = owed (λ e. cc) (owes_outcome (Err (entry_refused fault)) (comes_owed (Err (entry_refused fault)) comes (λ e. cc)))
   due_outcome (Err calls_spent) comes = owed (λ e. cc) (owes_outcome (Err calls_spent) (comes_owed (Err calls_spent) comes (λ e. cc)))
 
   -- where an input fails only because there is nothing to read, what comes is the one status and text that are owed
@@ -203,12 +144,16 @@ module _ (words : List (List ℕ)) (old new : InputState) (told : IsTrue old.tel
 -- ---- what follows
 
 no_write_fault : (outcome : Outcome) → status_of outcome ≡ s.WriteFault → ⊥
-no_write_fault (Ok text) is = cc
+no_write_fault (Ok (answers.text bytes)) is = cc
+no_write_fault (Ok (answers.undecodable bytes)) is = cc
+no_write_fault (Ok (answers.calls_ended bytes)) is = cc
 no_write_fault (Err bad_words) is = cc
 no_write_fault (Err not_built) is = cc
 no_write_fault (Err (cannot_read name)) is = cc
 no_write_fault (Err (too_long name)) is = cc
 no_write_fault (Err (spec_refused fault)) is = cc
+no_write_fault (Err (code_refused fault)) is = cc
+no_write_fault (Err (entry_refused fault)) is = cc
 no_write_fault (Err calls_spent) is = cc
 
 no_answer : (status other : Status) → status ≡ other → IsAnswer status → IsAnswer other
@@ -223,18 +168,11 @@ rose old new by_one = omega (arith, by_one)
 asks_bad : (words : List (List ℕ)) (old new : InputState) (outcome : Outcome) → asked words ≡ None → ComesTo words old new outcome → outcome ≡ Err bad_words
 asks_bad words old new outcome asks comes = subst (λ (what : Option Request). Steps (Gave old new) what outcome) asks comes
 
-shipped_not_built : (old new : InputState) (spec : SpecName) → is_input spec ≡ false → (found : Result (List ℕ) Refusal) → SourceOf (Gave old new) spec found → found ≡ Err not_built
-shipped_not_built old new (input name) unbuilt found gave = absurd (cc)
-shipped_not_built old new power_pc unbuilt found is = is
-shipped_not_built old new risc_v unbuilt found is = is
-
-call_not_built : (old new : InputState) (request : CallRequest) → is_input request.spec ≡ false → (outcome : Outcome) → CallSteps (Gave old new) request outcome → outcome ≡ Err not_built
-call_not_built old new request unbuilt outcome (refused {refusal = refusal} p) = let is = shipped_not_built old new request.spec unbuilt (Err refusal) p in cc
-call_not_built old new request unbuilt outcome (goes_on {given = source} p more) = let is = shipped_not_built old new request.spec unbuilt (Ok source) p in absurd (cc)
-
 not_built_by : (old new : InputState) (what : Option Request) → IsUnbuilt what → (outcome : Outcome) → Steps (Gave old new) what outcome → outcome ≡ Err not_built
 not_built_by old new None unbuilt outcome is = absurd unbuilt
-not_built_by old new (Some (call request)) unbuilt outcome steps = call_not_built old new request unbuilt outcome steps
+not_built_by old new (Some (call request)) unbuilt outcome steps = absurd (cc)
+not_built_by old new (Some (emulate request)) unbuilt outcome steps = absurd (cc)
+not_built_by old new (Some (list request)) unbuilt outcome steps = absurd (cc)
 not_built_by old new (Some _) unbuilt outcome is = is
 
 asks_not_built : (words : List (List ℕ)) (old new : InputState) (outcome : Outcome) → IsUnbuilt (asked words) → ComesTo words old new outcome → outcome ≡ Err not_built

@@ -1,7 +1,9 @@
+pub mod Causes
 pub mod Chain
 pub mod Ending
 pub mod Exists
 pub mod Giving
-pub mod Steps
+pub mod Others
+pub mod Parts
 pub mod Unique
 pub mod Whole

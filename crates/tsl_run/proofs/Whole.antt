@@ -6,10 +6,11 @@ use Rattle.tsl_io.specs.Faults.{RoseByOne}
 use Rattle.tsl_io.specs.FileList.{is_held}
 use Rattle.tsl_io.specs.InputState.{InputState}
 use Rattle.tsl_io.specs.SinkState.{SinkState}
-use Rattle.tsl_run.specs.declared.status.Status.{Status}
-use Rattle.tsl_run.specs.declared.status.Status.TheVariants as s
+use Rattle.run_steps.specs.declared.status.Status.{Status}
+use Rattle.run_steps.specs.declared.status.Status.TheVariants as s
 use Rattle.tsl_run.specs.Output.{Ends}
-use Rattle.tsl_run.specs.Owed.{Held, Owes}
+use Rattle.run_steps.specs.Reading.{Held}
+use Rattle.tsl_run.specs.Owed.{Owes}
 use Rattle.tsl_run.proofs.Ending.{ends_follow}
 
 not_held : (found : Option (List ℕ)) → IsFalse (is_some found) → found ≡ None

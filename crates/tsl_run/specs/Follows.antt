@@ -4,12 +4,13 @@ use Rattle.std.specs.Bool.{IsFalse}
 use Rattle.tsl_io.specs.Faults.{Rose}
 use Rattle.tsl_io.specs.InputState.{InputState}
 use Rattle.tsl_io.specs.SinkState.{SinkState, Appends, AppendsFront}
-use Rattle.tsl_run.specs.declared.status.Status.{Status}
-use Rattle.tsl_run.specs.declared.status.Status.TheVariants as s
-use Rattle.tsl_run.specs.Lines.{bad_words_line, cannot_read_line, not_built_line}
-use Rattle.tsl_run.specs.Owed.{CouldNotRead, Owes}
+use Rattle.run_steps.specs.declared.status.Status.{Status}
+use Rattle.run_steps.specs.declared.status.Status.TheVariants as s
+use Rattle.run_steps.specs.Lines.{bad_words_line, cannot_read_line, not_built_line}
+use Rattle.run_steps.specs.Reading.{CouldNotRead}
+use Rattle.tsl_run.specs.Owed.{Owes}
 use Rattle.tsl_run.specs.Possible.{IsLineOf}
-use Rattle.tsl_run.specs.Statuses.{IsAnswer}
+use Rattle.run_steps.specs.Statuses.{IsAnswer}
 use Rattle.command_words.specs.Words.{asked}
 use Rattle.tsl_run.specs.Words.{input_names, IsUnbuilt}
 

@@ -3,11 +3,12 @@ use Rattle.std.specs.Prelude.{◌≡◌, ℕ, List}
 use Rattle.tsl_io.specs.Faults.{RoseByOne}
 use Rattle.tsl_io.specs.InputState.{InputState}
 use Rattle.tsl_io.specs.SinkState.{SinkState}
-use Rattle.tsl_run.specs.declared.status.Status.{Status}
-use Rattle.tsl_run.specs.declared.status.Status.TheVariants as s
+use Rattle.run_steps.specs.declared.status.Status.{Status}
+use Rattle.run_steps.specs.declared.status.Status.TheVariants as s
 use Rattle.tsl_run.specs.Follows.{Follows}
 use Rattle.tsl_run.specs.Output.{Ends}
-use Rattle.tsl_run.specs.Owed.{Held, Owes}
+use Rattle.run_steps.specs.Reading.{Held}
+use Rattle.tsl_run.specs.Owed.{Owes}
 
 -- one status and text are owed at most
 abbrev pub OneAnswer : Type 0

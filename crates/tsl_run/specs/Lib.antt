@@ -1,15 +1,7 @@
-pub mod Faultless
 pub mod Follows
 pub mod Laws
-pub mod Lines
-pub mod Outcome
-pub mod Outcomes
 pub mod Output
 pub mod Owed
 pub mod Possible
-pub mod Reading
-pub mod Sources
-pub mod SpecFaults
-pub mod Statuses
 pub mod Steps
 pub mod Words

@@ -2,9 +2,9 @@
 use Rattle.std.specs.Prelude.{◌≡◌, ℕ, ◌<◌, List, length}
 use Rattle.tsl_io.specs.InputState.{InputState}
 use Rattle.tsl_io.specs.SinkState.{SinkState, Appends, AppendsFront}
-use Rattle.tsl_run.specs.declared.status.Status.{Status}
-use Rattle.tsl_run.specs.declared.status.Status.TheVariants as s
-use Rattle.tsl_run.specs.Outcome.{Outcome, line_of, status_of}
+use Rattle.run_steps.specs.declared.status.Status.{Status}
+use Rattle.run_steps.specs.declared.status.Status.TheVariants as s
+use Rattle.run_steps.specs.Outcome.{Outcome, line_of, status_of}
 use Rattle.tsl_run.specs.Owed.{ComesTo}
 
 -- The run comes to an outcome and writes its line; or the line has no room, and a front of it is written; or memory runs out.

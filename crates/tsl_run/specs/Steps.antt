@@ -1,32 +1,18 @@
 -- The steps of a run, one after another.
 use Rattle.std.specs.Prelude.{◌≡◌, ℕ, List, Option, Some, None, Result, Ok, Err}
-use Rattle.command_words.specs.Requests.{CallRequest, Request, call}
-use Rattle.command_words.specs.SpecNames.{SpecName, input, power_pc, risc_v}
+use Rattle.command_words.specs.Requests.{CallRequest, Request, call, emulate, list}
 use Rattle.spec_types.specs.declared.spec.Use.TheVariants.{Library}
 use Rattle.function_calls.specs.Calls as calls
 use Rattle.function_calls.specs.Calls.{End, call_end, value, value_line, spent}
-use Rattle.tsl_run.specs.Outcome.{Outcome, Refusal, bad_words, calls_spent, not_built}
-use Rattle.tsl_run.specs.Sources.{source_cap, Specifies}
-
--- A step says what it may give: something for the next one, or a refusal. A refusal of the first is one of both; else the
--- next one is made of what the first gave.
-pub data Then {A B : Type 0} (first : Result A Refusal → Type 0) (next : A → Result B Refusal → Type 0) : Result B Refusal → Type 0 where
-  refused : {refusal : Refusal} → first (Err refusal) → Then first next (Err refusal)
-  goes_on : {given : A} {end : Result B Refusal} → first (Ok given) → next given end → Then first next end
-
--- what a name gives under a cap of bytes
-abbrev pub Reading : Type 1
-Reading = ℕ → List ℕ → Result (List ℕ) Refusal → Type 0
-
--- The source of a specification: what its input gives. Those that are shipped are not built yet.
-abbrev pub SourceOf : Reading → SpecName → Result (List ℕ) Refusal → Type 0
-SourceOf reads (input name) found = reads source_cap name found
-SourceOf reads power_pc found = found ≡ Err not_built
-SourceOf reads risc_v found = found ≡ Err not_built
+use Rattle.run_steps.specs.Outcome.{Outcome, bad_words, calls_spent, not_built, text}
+use Rattle.run_steps.specs.Reading.{Reading}
+use Rattle.run_steps.specs.Sources.{SourceOf, Specifies}
+use Rattle.run_steps.specs.Steps.{Then}
+use Rattle.run_emulate.specs.Steps.{EmulateSteps, ListSteps}
 
 -- what is answered for the end of a call
 abbrev pub answered : End → Outcome
-answered (value v) = Ok (value_line v)
+answered (value v) = Ok (text (value_line v))
 answered calls.bad_words = Err bad_words
 answered spent = Err calls_spent
 
@@ -41,4 +27,6 @@ CallSteps reads request =
 abbrev pub Steps : Reading → Option Request → Outcome → Type 0
 Steps reads None outcome = outcome ≡ Err bad_words
 Steps reads (Some (call request)) outcome = CallSteps reads request outcome
+Steps reads (Some (emulate request)) outcome = EmulateSteps reads request outcome
+Steps reads (Some (list request)) outcome = ListSteps reads request outcome
 Steps reads (Some _) outcome = outcome ≡ Err not_built

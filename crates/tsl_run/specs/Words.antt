@@ -1,18 +1,16 @@
 -- What the words ask for of this program, and the inputs that they name.
-use Rattle.std.specs.Prelude.{◌≡◌, ℕ, Bool, true, false, List, [], Option, Some, None}
-use Rattle.command_words.specs.Requests.{Request, call}
-use Rattle.command_words.specs.SpecNames.{SpecName, input, power_pc, risc_v}
-use Rattle.command_words.specs.Words.{asked, inputs_of}
-
--- the specification is one of an input; those that are shipped are not built yet
-abbrev pub is_input : SpecName → Bool
-is_input (input name) = true
-is_input power_pc = false
-is_input risc_v = false
+use Rattle.std.specs.Prelude.{◌≡◌, ℕ, Bool, true, false, List, [], map, Option, Some, None}
+use Rattle.command_words.specs.Requests.{Request, call, emulate, list}
+use Rattle.command_words.specs.Words.{asked}
+use Rattle.run_steps.specs.Reading.{Capped}
+use Rattle.run_steps.specs.Sources.{source_inputs}
+use Rattle.run_emulate.specs.Steps.{emulate_inputs, list_inputs}
 
 -- what is asked for is built
 abbrev pub is_built : Request → Bool
-is_built (call request) = is_input request.spec
+is_built (call request) = true
+is_built (emulate request) = true
+is_built (list request) = true
 is_built _ = false
 
 -- Words ask for something, and it is not built.
@@ -20,10 +18,36 @@ abbrev pub IsUnbuilt : Option Request → Type 0
 IsUnbuilt None = ⊥
 IsUnbuilt (Some request) = is_built request ≡ false
 
--- the inputs of what is asked for
+-- the inputs of what is asked for, and how many bytes each may have
+abbrev pub capped_in : Option Request → List Capped
+capped_in None = []
+capped_in (Some (call request)) = source_inputs request.spec
+capped_in (Some (emulate request)) = emulate_inputs request
+capped_in (Some (list request)) = list_inputs request
+capped_in (Some _) = []
+
+-- their names
+abbrev pub names_of : List Capped → List (List ℕ)
+names_of inputs = map (λ input. input.0) inputs
+
 abbrev pub names_in : Option Request → List (List ℕ)
-names_in None = []
-names_in (Some request) = inputs_of request
+names_in what = names_of (capped_in what)
+
+abbrev pub capped_inputs : List (List ℕ) → List Capped
+capped_inputs words = capped_in (asked words)
 
 abbrev pub input_names : List (List ℕ) → List (List ℕ)
 input_names words = names_in (asked words)
+
+-- code is read for it
+abbrev pub has_code : Option Request → Bool
+has_code None = false
+has_code (Some (emulate request)) = true
+has_code (Some (list request)) = true
+has_code (Some _) = false
+
+-- and an entry
+abbrev pub has_entry : Option Request → Bool
+has_entry None = false
+has_entry (Some (emulate request)) = true
+has_entry (Some _) = false

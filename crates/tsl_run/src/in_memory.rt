@@ -2,12 +2,12 @@
 
 ghost use Rattle.std.specs.Prelude.{◌≡◌, ◌≤◌, IfOk, List, ℕ, length};
 ghost use Rattle.tsl_io.specs.FileList.{first_file};
-ghost use Rattle.tsl_run.specs.declared.status.Status.{Status};
+ghost use Rattle.run_steps.specs.declared.status.Status.{Status};
 ghost use Rattle.tsl_run.specs.Owed.{Owes};
 ghost use Rattle.command_words.specs.Views.{texts};
 
 use crate::run;
-use crate::status::Status;
+use run_steps::Status;
 use std::alloc::{AllocError, Global};
 use tsl_io::{SureInputs, SureSink};
 

@@ -1,13 +1,14 @@
 //! What the program does with its words, from bytes to bytes.
 //!
-//! `run` asks what its words want, reads the inputs that they name, and writes one text. What it comes to is one `Outcome`: the text
-//! that was asked for, or a `Refusal` with what it names. `Outcome::status` and `Outcome::line` say once what status and what line
-//! each has. Want of memory is no outcome: a step that finds none halts, and nothing is written.
+//! `run` asks what its words want, reads the inputs that they name, and writes one text. What it comes to is one `Outcome` of
+//! `run_steps`: an answer with its text, or a refusal with what it names. Want of memory is no outcome: a step that finds none halts,
+//! and nothing is written.
 //!
-//! `answer` shows the chain from words to text. It is the chain of the definition, specs/Steps: each step gives something to the
-//! next one, or refuses, and then that is what the run comes to. Over the bytes that the names hold (`Holds`) these steps
-//! have one outcome, which is *owed* (`Owes`). Over inputs that may fail (`Gave`) they have the same one, or that an input could not be
-//! read; the code gives just that (`Gives`, for each of its steps), and so the whole is proved step by step.
+//! `answer` shows the chain from words to answer. It is the chain of the definition, specs/Steps: each step gives something to the
+//! next one, or refuses, and then that is what the run comes to. The chain of `call` is here; those of `emulate` and `list` are
+//! those of `run_emulate`. Over the bytes that the names hold (`Holds`) these steps have one outcome, which is *owed* (`Owes`).
+//! Over inputs that may fail (`Gave`) they have the same one, or that an input could not be read; the code gives just that (`Gives`,
+//! for each of its steps), and so the whole is proved step by step.
 //!
 //! What is proved: `run` ends with an outcome that it comes to and writes its line, or a front of it where the sink fails, or
 //! nothing for want of memory (`ends`). Over inputs that tell their bytes an answer is owed (`answered`). All else that a caller
@@ -21,23 +22,19 @@ ghost use Rattle.tsl_io.specs.InputState.{InputsKept};
 ghost use Rattle.tsl_io.specs.SinkState.{Appends, SinkKept};
 ghost use Rattle.tsl_run.specs.Output.{Ends};
 ghost use Rattle.tsl_run.specs.Owed.{Owes};
-ghost use Rattle.tsl_run.specs.Reading.{IsTakenFrom};
-ghost use Rattle.tsl_run.specs.Statuses.{IsAnswer};
+ghost use Rattle.run_steps.specs.Reading.{IsTakenFrom};
+ghost use Rattle.run_steps.specs.Statuses.{IsAnswer};
 ghost use Rattle.command_words.specs.Views.{texts};
 ghost use Rattle.command_words.specs.Words.{asked};
-ghost use Rattle.tsl_run.specs.Words.{input_names, IsUnbuilt};
+ghost use Rattle.tsl_run.specs.Words.{IsUnbuilt, capped_inputs};
 
 mod answer;
 mod in_memory;
 pub mod laws;
-mod outcome;
-mod source;
-mod spec_fault;
-mod status;
 
 use answer::come_to;
 pub use in_memory::{Ended, run_in_memory};
-pub use status::Status;
+pub use run_steps::Status;
 use std::alloc::Global;
 use tsl_io::{Inputs, Sink, WriteFault, write_whole};
 
@@ -79,7 +76,7 @@ pub fn run<I: Inputs, S: Sink>(
     // No more is taken of an input than its cap and one byte, from the last time it was opened.
     ensures taken { IsTrue (I.state inputs.old).tells → (inputs.new ≡ inputs.old)
         ⊎ (IsTrue (I.state inputs.new).is_open
-        → IsTakenFrom (input_names (texts words.now)) (I.state inputs.old) (I.state inputs.new)) }
+        → IsTakenFrom (capped_inputs (texts words.now)) (I.state inputs.old) (I.state inputs.new)) }
 
     // Where memory runs out nothing is written.
     ensures no_memory { result ≡ Status.NoMemory → sink.new ≡ sink.old }
@@ -91,7 +88,7 @@ pub fn run<I: Inputs, S: Sink>(
     let Ok(line) = outcome.line(alloc) else {
         return Status::NoMemory;
     };
-    match write_whole(sink, line.as_bytes()) {
+    match write_whole(sink, &line) {
         Ok(()) => status,
         Err(WriteFault) => Status::WriteFault,
     }

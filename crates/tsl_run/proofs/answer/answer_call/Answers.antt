@@ -1,15 +1,16 @@
-use Rattle.std.proofs.Common.{◌≡◌, ◌∙◌, ℕ, Bor, List, Ok, ap, subst, rules}
-use Rattle.std.specs.String.{string_bytes}
+use Rattle.std.proofs.Common.{◌≡◌, ◌∙◌, ℕ, Bor, List, ap, subst, rules}
 use Rattle.spec_types.specs.declared.spec.Use.TheVariants.{Library}
 use Rattle.spec_types.specs.Views.{specification}
 use Rattle.command_words.specs.Views.{borrowed, call_of}
 use Rattle.function_calls.specs.Calls.{call_end}
 use Rattle.function_calls.specs.Ends.{end_of}
-use Rattle.tsl_run.specs.Outcomes.{Stops}
+use Rattle.run_steps.specs.Outcomes.{Stops, answer_of}
+use Rattle.run_steps.specs.Reading.{Gave}
+use Rattle.run_steps.specs.Sources.{IsSpecification, Specifies}
+use Rattle.run_steps.proofs.Steps.{gives_too}
 use Rattle.tsl_run.specs.Steps.{CallSteps, answered}
-use Rattle.tsl_run.specs.Owed.{Gave}
-use Rattle.tsl_run.specs.Sources.{IsSpecification, Specifies}
-use Rattle.tsl_run.proofs.Chain.{called, gives_more, no_source, no_specification}
+use Rattle.tsl_run.proofs.Chain.{called, no_source, no_specification}
+use Rattle.tsl_run.proofs.Giving.{is_accepted}
 use Rattle.tsl_run.proofs.answer.answer_call.Goals as goal
 
 pub returns-in_err-source-clause-gives : goal.returns-in_err-source-clause-gives
@@ -20,9 +21,9 @@ returns-in_err-source-clause-gives g c =
 
 pub returns-in_err-spec-clause-gives : goal.returns-in_err-spec-clause-gives
 returns-in_err-spec-clause-gives g c =
-    let refused = subst (λ (s : List ℕ). Stops (Specifies Library s) c.in_err-spec.field-0.0) c.deref.ensures.value c.in_err-spec.ensures.gives in
+    let stops = subst (λ (s : List ℕ). Stops (Specifies Library s) c.in_err-spec.field-0.0) c.deref.ensures.value c.in_err-spec.ensures in
     let gives = no_specification (Gave (g.I.Inputs.state c.args.inputs.now) (g.I.Inputs.state c.source_of.new.inputs)) (call_of c.args.request.now) c.in_err-spec.field-0.0
-    c.in_ok-source.source.items c.in_ok-source.ensures.gives refused in
+    c.in_ok-source.source.items c.in_ok-source.ensures.gives stops in
     search (rules, gives)
 
 pub returns-clause-gives : goal.returns-clause-gives
@@ -30,7 +31,13 @@ returns-clause-gives g c =
     let reads = Gave (g.I.Inputs.state c.args.inputs.now) (g.I.Inputs.state c.source_of.new.inputs) in
     let request = call_of c.args.request.now in
     let spec = specification c.in_ok-spec.spec in
-    let specified = subst (λ (s : List ℕ). IsSpecification Library s spec) c.deref.ensures.value c.in_ok-spec.ensures.gives in
+    let specified = subst (λ (s : List ℕ). IsSpecification Library s spec) c.deref.ensures.value c.in_ok-spec.ensures in
     let ends = c.in_ok-end.ensures ∙ ap (λ (numbers : List (Bor (List ℕ))). call_end spec request.calls request.fun (borrowed numbers)) c.deref-2.ensures.value in
-    gives_more (λ outcome. outcome ≡ answered (end_of c.in_ok-end.end)) (CallSteps reads request) string_bytes c.answer_of_end.result
+    gives_too (λ outcome. outcome ≡ answered (end_of c.in_ok-end.end)) (CallSteps reads request) answer_of c.answer_of_end.result
     (λ outcome is. called reads request c.in_ok-source.source.items c.in_ok-source.ensures.gives spec specified outcome (is ∙ ap answered ends)) c.answer_of_end.ensures
+
+pub call_by_words-requires : goal.call_by_words-requires
+call_by_words-requires g c =
+    let spec = specification c.in_ok-spec.spec in
+    let specified = subst (λ (s : List ℕ). IsSpecification Library s spec) c.deref.ensures.value c.in_ok-spec.ensures in
+    is_accepted Library c.in_ok-source.source.items spec specified

@@ -1,0 +1,16 @@
+//! The commands `emulate` and `list`: from their requests to what a run comes to.
+//!
+//! Each is a chain of steps (specs/Steps): the specification of a machine, its code, and for `emulate` the entry are read and
+//! examined one after another, each whole before the next input is opened; then the machine runs, or its code is listed. A refusal
+//! of a step is that of the command, and nothing more is read. `emulated` and `listed` give what these chains may give, over any
+//! inputs. The laws of src/laws.rt say that over the bytes that names hold there is one outcome at most.
+#![tactic(auto)]
+
+mod code;
+mod commands;
+mod entry;
+pub mod laws;
+mod machine;
+mod running;
+
+pub use commands::{emulated, listed};

@@ -1,0 +1,4 @@
+pub mod Giving
+pub mod OneSource
+pub mod Readings
+pub mod Steps

@@ -1,0 +1,10 @@
+pub mod Faultless
+pub mod Lines
+pub mod Outcome
+pub mod Outcomes
+pub mod Reading
+pub mod Shipped
+pub mod Sources
+pub mod SpecFaults
+pub mod Statuses
+pub mod Steps

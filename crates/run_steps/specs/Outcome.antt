@@ -1,0 +1,67 @@
+-- What a run comes to: one value for each status and line.
+use Rattle.std.specs.Prelude.{ℕ, List, Result, Ok, Err}
+use Rattle.insn_decode.specs.declared.image_error.ImageError.{ImageError}
+use Rattle.insn_decode.specs.Faults as image
+use Rattle.state_text.specs.declared.entry_error.EntryError.{EntryError}
+use Rattle.state_text.specs.FaultLines as entry
+use Rattle.run_steps.specs.declared.spec_fault.SpecFault.{SpecFault}
+use Rattle.run_steps.specs.declared.status.Status.{Status}
+use Rattle.run_steps.specs.declared.status.Status.TheVariants as s
+use Rattle.run_steps.specs.Lines.{bad_words_line, calls_spent_line, cannot_read_line, not_built_line, too_long_line}
+use Rattle.run_steps.specs.SpecFaults.{spec_line}
+
+-- the text that the words ask for; where it tells of a machine that stopped for want of a decoding or of calls, the status says so
+pub data Answer : Type 0 where
+  text : List ℕ → Answer
+  undecodable : List ℕ → Answer
+  calls_ended : List ℕ → Answer
+
+-- why a run has no text to give, with what it names
+pub data Refusal : Type 0 where
+  -- the words have no meaning
+  bad_words : Refusal
+  -- what they ask for is not built yet
+  not_built : Refusal
+  -- the input of this name could not be read
+  cannot_read : (name : List ℕ) → Refusal
+  -- it is longer than its cap
+  too_long : (name : List ℕ) → Refusal
+  -- the specification has this fault first
+  spec_refused : SpecFault → Refusal
+  -- the code has this fault first
+  code_refused : ImageError → Refusal
+  -- the entry has this fault first
+  entry_refused : EntryError → Refusal
+  -- a function had no turn left
+  calls_spent : Refusal
+
+-- an answer, or a refusal
+abbrev pub Outcome : Type 0
+Outcome = Result Answer Refusal
+
+abbrev pub status_of : Outcome → Status
+status_of (Ok (text bytes)) = s.Ok
+status_of (Ok (undecodable bytes)) = s.Undecodable
+status_of (Ok (calls_ended bytes)) = s.CallsSpent
+status_of (Err bad_words) = s.BadWords
+status_of (Err not_built) = s.NotBuilt
+status_of (Err (cannot_read name)) = s.ReadFault
+status_of (Err (too_long name)) = s.TooLong
+status_of (Err (spec_refused fault)) = s.SpecRefused
+status_of (Err (code_refused fault)) = s.CodeRefused
+status_of (Err (entry_refused fault)) = s.EntryRefused
+status_of (Err calls_spent) = s.CallsSpent
+
+-- what is written
+abbrev pub line_of : Outcome → List ℕ
+line_of (Ok (text bytes)) = bytes
+line_of (Ok (undecodable bytes)) = bytes
+line_of (Ok (calls_ended bytes)) = bytes
+line_of (Err bad_words) = bad_words_line
+line_of (Err not_built) = not_built_line
+line_of (Err (cannot_read name)) = cannot_read_line name
+line_of (Err (too_long name)) = too_long_line name
+line_of (Err (spec_refused fault)) = spec_line fault
+line_of (Err (code_refused fault)) = image.fault_line fault
+line_of (Err (entry_refused fault)) = entry.fault_line fault
+line_of (Err calls_spent) = calls_spent_line

@@ -1,0 +1,172 @@
+//! What a run comes to, and what is written of it.
+
+ghost use Rattle.std.specs.Prelude.{◌≡◌, Err, IfOk};
+ghost use Rattle.std.specs.String.{string_bytes};
+ghost use Rattle.run_steps.specs.Outcome.{line_of, status_of};
+ghost use Rattle.run_steps.specs.Outcomes.{halt_of_entry, halt_of_imaging, halt_of_words, outcome_of, refusal_of};
+ghost use Rattle.run_steps.specs.declared.outcome.Halt.TheVariants.{NoMemory, Refused};
+
+use crate::spec_fault::SpecFault;
+use crate::status::Status;
+use command_words::WordsError;
+use insn_decode::ImageError;
+use state_text::EntryError;
+use std::alloc::{AllocError, AllocFailed, Global};
+
+/// The text that the words ask for. Where it tells of a machine that stopped for want of a decoding or of calls, the status says so.
+#[derive(Debug, Drop)]
+pub enum Answer {
+    /// The run ends with the status `Ok`.
+    Text(Vec<u8>),
+    /// A machine stopped at a word that is no instruction.
+    Undecodable(Vec<u8>),
+    /// A machine stopped at a step in which a function had no turn left.
+    CallsEnded(Vec<u8>),
+}
+
+/// Why a run has no text to give, with what it names.
+#[derive(Debug, Drop)]
+pub enum Refusal<'a> {
+    /// The words have no meaning.
+    BadWords,
+    /// What they ask for is not built yet.
+    NotBuilt,
+    /// The input of this name could not be read.
+    CannotRead(&'a str),
+    /// The input of this name is longer than its cap.
+    TooLong(&'a str),
+    /// The specification has this fault first.
+    SpecRefused(SpecFault),
+    /// The code has this fault first.
+    CodeRefused(ImageError),
+    /// The entry has this fault first.
+    EntryRefused(EntryError),
+    /// A function had no turn left.
+    CallsSpent,
+}
+
+/// What a run comes to.
+#[derive(Debug, Drop)]
+pub enum Outcome<'a> {
+    /// The text that the words ask for.
+    Answered(Answer),
+    /// There is none.
+    Refused(Refusal<'a>),
+}
+
+impl Outcome<'_> {
+    /// The status that a run ends with.
+    pub fn status(&self) -> Status
+        ensures { result ≡ status_of (outcome_of self.now) }
+    {
+        match self {
+            Outcome::Answered(Answer::Text(_)) => Status::Ok,
+            Outcome::Answered(Answer::Undecodable(_)) => Status::Undecodable,
+            Outcome::Answered(Answer::CallsEnded(_)) => Status::CallsSpent,
+            Outcome::Refused(Refusal::BadWords) => Status::BadWords,
+            Outcome::Refused(Refusal::NotBuilt) => Status::NotBuilt,
+            Outcome::Refused(Refusal::CannotRead(_)) => Status::ReadFault,
+            Outcome::Refused(Refusal::TooLong(_)) => Status::TooLong,
+            Outcome::Refused(Refusal::SpecRefused(_)) => Status::SpecRefused,
+            Outcome::Refused(Refusal::CodeRefused(_)) => Status::CodeRefused,
+            Outcome::Refused(Refusal::EntryRefused(_)) => Status::EntryRefused,
+            Outcome::Refused(Refusal::CallsSpent) => Status::CallsSpent,
+        }
+    }
+
+    /// What is written: the text, or the line that says why there is none.
+    pub fn line(self, alloc: Global) -> Result<Vec<u8>, AllocError>
+        ensures { IfOk result (λ line. line.items ≡ line_of (outcome_of self.entry)) }
+    {
+        match self {
+            Outcome::Answered(Answer::Text(text)) => Ok(text),
+            Outcome::Answered(Answer::Undecodable(text)) => Ok(text),
+            Outcome::Answered(Answer::CallsEnded(text)) => Ok(text),
+            Outcome::Refused(refusal) => Ok(refusal.line(alloc)?.into_bytes()),
+        }
+    }
+}
+
+impl Refusal<'_> {
+    /// The line that says why there is no text.
+    fn line(&self, alloc: Global) -> Result<String, AllocError>
+        ensures { IfOk result (λ text. string_bytes text ≡ line_of (Err (refusal_of self.now))) }
+    {
+        match self {
+            Refusal::BadWords => String::from_str(alloc, "bad words\n"),
+            Refusal::NotBuilt => String::from_str(alloc, "not built\n"),
+            Refusal::CannotRead(name) => { format!(in alloc; "cannot read {name}\n") }
+            Refusal::TooLong(name) => format!(in alloc; "too long {name}\n"),
+            Refusal::SpecRefused(fault) => fault.line(alloc),
+            Refusal::CodeRefused(fault) => fault.fault_line(alloc),
+            Refusal::EntryRefused(fault) => fault.fault_line(alloc),
+            Refusal::CallsSpent => String::from_str(alloc, "calls spent\n"),
+        }
+    }
+}
+
+/// Why a step of a run gives nothing to the next one.
+#[derive(Debug, Drop)]
+pub enum Halt<'a> {
+    /// The run is refused.
+    Refused(Refusal<'a>),
+    /// Memory ran out.
+    NoMemory,
+}
+
+impl<'a> From<Refusal<'a>> for Halt<'a> {
+    ghost from_gives = { λ refusal halt. halt ≡ Refused refusal };
+
+    fn from(refusal: Refusal<'a>) -> Self {
+        Halt::Refused(refusal)
+    }
+}
+
+impl From<WordsError> for Halt<'_> {
+    ghost from_gives = { λ error halt. halt ≡ halt_of_words error };
+
+    fn from(error: WordsError) -> Self {
+        match error {
+            WordsError::BadWords => Halt::Refused(Refusal::BadWords),
+            WordsError::NoMemory => Halt::NoMemory,
+        }
+    }
+}
+
+impl From<ImageError> for Halt<'_> {
+    ghost from_gives = { λ error halt. halt ≡ halt_of_imaging error };
+
+    fn from(error: ImageError) -> Self {
+        match error {
+            ImageError::NoMemory => Halt::NoMemory,
+            fault => Halt::Refused(Refusal::CodeRefused(fault)),
+        }
+    }
+}
+
+impl From<EntryError> for Halt<'_> {
+    ghost from_gives = { λ error halt. halt ≡ halt_of_entry error };
+
+    fn from(error: EntryError) -> Self {
+        match error {
+            EntryError::NoMemory => Halt::NoMemory,
+            fault => Halt::Refused(Refusal::EntryRefused(fault)),
+        }
+    }
+}
+
+impl From<AllocError> for Halt<'_> {
+    ghost from_gives = { λ _ halt. halt ≡ NoMemory };
+
+    fn from(_: AllocError) -> Self {
+        Halt::NoMemory
+    }
+}
+
+impl<T: Drop> From<AllocFailed<T>> for Halt<'_> {
+    ghost from_gives = { λ _ halt. halt ≡ NoMemory };
+
+    fn from(_: AllocFailed<T>) -> Self {
+        Halt::NoMemory
+    }
+}

@@ -1,0 +1,208 @@
+-- The cause of each outcome, whatever the inputs hold.
+use Rattle.std.proofs.Common.{◌≡◌, ℕ, All, List, [], ◌∷◌, ◌++◌, Option, Some, None, IsTrue, map, refl, sym, subst, arith}
+use Rattle.std.specs.Prelude.{Contains, Result, Ok, Err}
+use Rattle.std.proofs.lemmas.List.Elements.{All-cons, All-contains, All-nil, Contains-append_left, Contains-append_right}
+use Rattle.tsl_io.specs.InputState.{InputState}
+use Rattle.command_words.specs.Code.{Code, CodePart}
+use Rattle.command_words.specs.Requests.{CallRequest, EmulateRequest, ListRequest, Request, call, emulate, list}
+use Rattle.command_words.specs.SpecNames.{SpecName, input, power_pc, risc_v}
+use Rattle.function_calls.specs.Calls as calls
+use Rattle.function_calls.specs.Calls.{call_end, spent, value, value_line}
+use Rattle.function_calls.proofs.Written.{values_are_written}
+use Rattle.insn_decode.specs.declared.image_error.ImageError.{ImageError}
+use Rattle.insn_decode.specs.Faults.{image_fault}
+use Rattle.insn_decode.specs.Image.{Image, Segment}
+use Rattle.insn_decode.specs.Listing.{listing}
+use Rattle.spec_types.specs.declared.spec.Use.{Use}
+use Rattle.spec_types.specs.declared.spec.Use.TheVariants.{Library, Machine}
+use Rattle.spec_types.specs.Specification.{Spec}
+use Rattle.state_text.specs.declared.entry_error.EntryError.{EntryError}
+use Rattle.state_text.specs.Reading.{read}
+use Rattle.tsl_values.specs.States.{State}
+use Rattle.run_steps.specs.Outcome.{Answer, Outcome, Refusal, bad_words, not_built, cannot_read, too_long, spec_refused, code_refused, entry_refused, calls_spent, text}
+use Rattle.run_steps.specs.Reading as reading
+use Rattle.run_steps.specs.Reading.{Capped, CouldNotRead, Gave}
+use Rattle.run_steps.specs.Sources.{IsSpecification, SourceOf, Specifies, source_cap, source_inputs}
+use Rattle.run_steps.specs.Steps.{Then, refused, goes_on}
+use Rattle.run_emulate.specs.Code.{CodeOf, Images, Joins, SegmentsOf, code_cap, imaged, order_of, part_inputs}
+use Rattle.run_emulate.specs.Entry.{StartOf, StartsFrom, entered, entry_cap, state_in}
+use Rattle.run_emulate.specs.Machines.{MachineOf}
+use Rattle.run_emulate.specs.Running.{Runs}
+use Rattle.run_emulate.specs.Steps.{EmulateSteps, ListSteps, emulate_inputs, list_inputs}
+use Rattle.run_emulate.proofs.Chains.{AfterCode, AfterMachine, AfterStart, Lists, ListsOf, Rest}
+use Rattle.tsl_run.specs.Possible.{Answers, IsListing, IsRun, IsValue}
+use Rattle.tsl_run.specs.Steps.{CallSteps, Steps, answered}
+use Rattle.tsl_run.specs.Words.{capped_in, has_code, has_entry, names_in, names_of}
+use Rattle.tsl_run.proofs.Chain.{Called, Ended}
+use Rattle.tsl_run.proofs.Giving.{is_accepted}
+use Rattle.tsl_run.proofs.Others.{only}
+
+-- ---- names
+
+all_named : (xs : List Capped) (ns : List (List ℕ)) → ((name : List ℕ) → Contains (names_of xs) name → Contains ns name) → All (λ (x : Capped). Contains ns x.0) xs
+all_named [] ns among = All-nil (λ (x : Capped). Contains ns x.0)
+all_named (x ∷ xs) ns among =
+    All-cons (λ (x : Capped). Contains ns x.0) x xs (among x.0 (0, omega arith, refl)) (all_named xs ns (λ name named. among name (Contains-append_right (x.0 ∷ []) (names_of xs) name named)))
+
+-- the name of an input
+pub is_named : (xs : List Capped) (name : List ℕ) (cap : ℕ) → Contains xs (name, cap) → Contains (names_of xs) name
+is_named xs name cap named = All-contains (λ (x : Capped). Contains (names_of xs) x.0) xs (name, cap) (all_named xs (names_of xs) (λ name named. named)) named
+
+-- ---- steps that end with something known
+
+abbrev pub Knows : {A : Type 0} → (Refusal → Type 0) → (A → Type 0) → Result A Refusal → Type 0
+Knows cause good (Ok found) = good found
+Knows cause good (Err refusal) = cause refusal
+
+abbrev Anything : {A : Type 0} → A → Type 0
+Anything found = Unit {0}
+
+module _ {A B : Type 0} (first : Result A Refusal → Type 0) (next : A → Result B Refusal → Type 0) (cause : Refusal → Type 0) (good : B → Type 0) where
+  both_know : ((found : Result A Refusal) → first found → Knows cause Anything found) → ((given : A) → first (Ok given) → (found : Result B Refusal) → next given found → Knows cause good found)
+      → (found : Result B Refusal) → Then first next found → Knows cause good found
+  both_know by_first by_next found (refused {refusal = e} p) = by_first (Err e) p
+  both_know by_first by_next found (goes_on {given = a} p r) = by_next a p found r
+
+-- ---- the cause of each refusal
+
+module _ (old new : InputState) (what : Option Request) where
+  abbrev pub Cause : Refusal → Type 0
+  Cause bad_words = Unit {0}
+  Cause not_built = Unit {0}
+  Cause (cannot_read name) = Contains (names_in what) name × CouldNotRead old new name
+  Cause (too_long name) = Contains (names_in what) name
+  Cause (spec_refused fault) = Unit {0}
+  Cause (code_refused fault) = IsTrue (has_code what)
+  Cause (entry_refused fault) = IsTrue (has_entry what)
+  Cause calls_spent = Unit {0}
+
+  abbrev KnowsCause : {A : Type 0} → Result A Refusal → Type 0
+  KnowsCause found = Knows Cause Anything found
+
+  reading_known : (cap : ℕ) (name : List ℕ) → Contains (capped_in what) (name, cap) → (found : Result (List ℕ) Refusal) → Gave old new cap name found → KnowsCause found
+  reading_known cap name named found (reading.whole holds fits) = tt
+  reading_known cap name named found (reading.long far) = is_named (capped_in what) name cap named
+  reading_known cap name named found (reading.unread why) = (is_named (capped_in what) name cap named, why)
+
+  -- these inputs are of those of what is asked for
+  abbrev Among : List Capped → Type 0
+  Among inputs = (x : Capped) → Contains inputs x → Contains (capped_in what) x
+
+  first_among : (xs ys : List Capped) → Among (xs ++ ys) → Among xs
+  first_among xs ys among x named = among x (Contains-append_left xs ys x named)
+
+  behind_among : (xs ys : List Capped) → Among (xs ++ ys) → Among ys
+  behind_among xs ys among x named = among x (Contains-append_right xs ys x named)
+
+  source_known : (spec : SpecName) → Among (source_inputs spec) → (found : Result (List ℕ) Refusal) → SourceOf (Gave old new) spec found → KnowsCause found
+  source_known (input name) among found gave = reading_known source_cap name (among (name, source_cap) (only (name, source_cap))) found gave
+  source_known power_pc among found is = subst (λ (f : Result (List ℕ) Refusal). KnowsCause f) (sym is) tt
+  source_known risc_v among found is = subst (λ (f : Result (List ℕ) Refusal). KnowsCause f) (sym is) tt
+
+  specified_known : (wanted : Use) (source : List ℕ) (found : Result Spec Refusal) → Specifies wanted source found → KnowsCause found
+  specified_known wanted source (Ok spec) p = tt
+  specified_known wanted source (Err bad_words) p = tt
+  specified_known wanted source (Err not_built) p = tt
+  specified_known wanted source (Err (cannot_read name)) p = absurd p
+  specified_known wanted source (Err (too_long name)) p = absurd p
+  specified_known wanted source (Err (spec_refused fault)) p = tt
+  specified_known wanted source (Err (code_refused fault)) p = absurd p
+  specified_known wanted source (Err (entry_refused fault)) p = absurd p
+  specified_known wanted source (Err calls_spent) p = tt
+
+  machine_known : (spec : SpecName) → Among (source_inputs spec) → (found : Result Spec Refusal) → MachineOf (Gave old new) spec found → KnowsCause found
+  machine_known spec among found steps =
+      both_know (SourceOf (Gave old new) spec) (Specifies Machine) Cause Anything (source_known spec among) (λ source gave found further. specified_known Machine source found further) found steps
+
+  joined_known : (base : ℕ) (bytes : List ℕ) (segments : List Segment) (found : Result (List Segment) Refusal) → Joins base bytes segments found → KnowsCause found
+  joined_known base bytes segments found is = subst (λ (f : Result (List Segment) Refusal). KnowsCause f) (sym is) tt
+
+  segments_known : (parts : List CodePart) → Among (part_inputs parts) → (found : Result (List Segment) Refusal) → SegmentsOf (Gave old new) parts found → KnowsCause found
+  segments_known [] among found is = subst (λ (f : Result (List Segment) Refusal). KnowsCause f) (sym is) tt
+  segments_known (part ∷ parts) among found steps =
+      both_know (Gave old new code_cap part.name) (Rest (Gave old new) part parts) Cause Anything
+      (reading_known code_cap part.name (among (part.name, code_cap) (Contains-append_left ((part.name, code_cap) ∷ []) (part_inputs parts) (part.name, code_cap) (only (part.name, code_cap)))))
+      (λ bytes gave. both_know (SegmentsOf (Gave old new) parts) (Joins part.base bytes) Cause Anything
+      (segments_known parts (behind_among ((part.name, code_cap) ∷ []) (part_inputs parts) among)) (λ segments given found further. joined_known part.base bytes segments found further)) found steps
+
+  by_fault : IsTrue (has_code what) → (code : Code) (segments : List Segment) (fault : Option ImageError) → KnowsCause (imaged (order_of code.order) segments fault)
+  by_fault has code segments None = tt
+  by_fault has code segments (Some fault) = has
+
+  images_known : IsTrue (has_code what) → (code : Code) (segments : List Segment) (found : Result Image Refusal) → Images (order_of code.order) segments found → KnowsCause found
+  images_known has code segments found is =
+      subst (λ (f : Result Image Refusal). KnowsCause f) (sym is) (by_fault has code segments (image_fault segments))
+
+  code_known : IsTrue (has_code what) → (code : Code) → Among (part_inputs code.parts) → (found : Result Image Refusal) → CodeOf (Gave old new) code found → KnowsCause found
+  code_known has code among found steps =
+      both_know (SegmentsOf (Gave old new) code.parts) (Images (order_of code.order)) Cause Anything (segments_known code.parts among) (λ segments given found further. images_known has code segments found further) found steps
+
+  entered_known : IsTrue (has_entry what) → (state : Result State EntryError) → KnowsCause (entered state)
+  entered_known has (Ok state) = tt
+  entered_known has (Err fault) = has
+
+  starts_known : IsTrue (has_entry what) → (spec : Spec) (bytes : List ℕ) (found : Result State Refusal) → StartsFrom spec bytes found → KnowsCause found
+  starts_known has spec bytes found is = subst (λ (f : Result State Refusal). KnowsCause f) (sym is) (entered_known has (state_in spec (read spec bytes)))
+
+  start_known : IsTrue (has_entry what) → (spec : Spec) (name : List ℕ) → Among ((name, entry_cap) ∷ []) → (found : Result State Refusal) → StartOf (Gave old new) spec name found → KnowsCause found
+  start_known has spec name among found steps =
+      both_know (Gave old new entry_cap name) (StartsFrom spec) Cause Anything (reading_known entry_cap name (among (name, entry_cap) (only (name, entry_cap)))) (λ bytes gave found further. starts_known has spec bytes found further) found steps
+
+-- ---- the commands
+
+module _ (old new : InputState) where
+  abbrev pub Caused : Option Request → Outcome → Type 0
+  Caused what outcome = Knows (Cause old new what) (Answers what) outcome
+
+  ended_known : (request : CallRequest) (source : List ℕ) (spec : Spec) → IsSpecification Library source spec
+      → (end : calls.End) → call_end spec request.calls request.fun request.numbers ≡ end → Caused (Some (call request)) (answered end)
+  ended_known request source spec specified (value v) is =
+      record { value = v; written = values_are_written spec request.calls request.fun request.numbers v (is_accepted Library source spec specified) is; line = refl }
+  ended_known request source spec specified calls.bad_words is = tt
+  ended_known request source spec specified spent is = tt
+
+  call_known : (request : CallRequest) (outcome : Outcome) → CallSteps (Gave old new) request outcome → Caused (Some (call request)) outcome
+  call_known request outcome steps =
+      let what = Some (call request) in
+      both_know (SourceOf (Gave old new) request.spec) (Called request) (Cause old new what) (Answers what) (source_known old new what request.spec (λ x named. named)) (λ source gave.
+      both_know (Specifies Library source) (Ended request) (Cause old new what) (Answers what) (specified_known old new what Library source) (λ spec specified found is.
+      subst (λ (o : Outcome). Caused what o) (sym is) (ended_known request source spec specified (call_end spec request.calls request.fun request.numbers) refl))) outcome steps
+
+  run_known : (request : EmulateRequest) (spec : Spec) (image : Image) (start : State) (outcome : Outcome) → Runs spec image request.calls request.steps start outcome → Caused (Some (emulate request)) outcome
+  run_known request spec image start (Ok answer) runs = record { spec = spec; image = image; start = start; runs = runs }
+  run_known request spec image start (Err refusal) runs = absurd runs
+
+  emulate_known : (request : EmulateRequest) (outcome : Outcome) → EmulateSteps (Gave old new) request outcome → Caused (Some (emulate request)) outcome
+  emulate_known request outcome steps =
+      let what = Some (emulate request) in
+      let sources = source_inputs request.spec in
+      let parts = part_inputs request.code.parts in
+      let entry = (request.entry, entry_cap) ∷ [] in
+      both_know (MachineOf (Gave old new) request.spec) (AfterMachine (Gave old new) request) (Cause old new what) (Answers what)
+      (machine_known old new what request.spec (first_among old new what sources parts (first_among old new what (sources ++ parts) entry (λ x named. named)))) (λ spec specified.
+      both_know (CodeOf (Gave old new) request.code) (AfterCode (Gave old new) request spec) (Cause old new what) (Answers what)
+      (code_known old new what refl request.code (behind_among old new what sources parts (first_among old new what (sources ++ parts) entry (λ x named. named)))) (λ image is_image.
+      both_know (StartOf (Gave old new) spec request.entry) (AfterStart (Gave old new) request spec image) (Cause old new what) (Answers what)
+      (start_known old new what refl spec request.entry (behind_among old new what (sources ++ parts) entry (λ x named. named))) (λ start started found further.
+      run_known request spec image start found further))) outcome steps
+
+  list_known : (request : ListRequest) (outcome : Outcome) → ListSteps (Gave old new) request outcome → Caused (Some (list request)) outcome
+  list_known request outcome steps =
+      let what = Some (list request) in
+      let sources = source_inputs request.spec in
+      let parts = part_inputs request.code.parts in
+      both_know (MachineOf (Gave old new) request.spec) (ListsOf (Gave old new) request) (Cause old new what) (Answers what)
+      (machine_known old new what request.spec (first_among old new what sources parts (λ x named. named))) (λ spec specified.
+      both_know (CodeOf (Gave old new) request.code) (Lists (Gave old new) request spec) (Cause old new what) (Answers what)
+      (code_known old new what refl request.code (behind_among old new what sources parts (λ x named. named))) (λ image is_image found is.
+      subst (λ (o : Outcome). Caused what o) (sym is) (record { spec = spec; image = image; lists = refl }))) outcome steps
+
+  unbuilt_known : (what : Option Request) (outcome : Outcome) → outcome ≡ Err not_built → Caused what outcome
+  unbuilt_known what outcome is = subst (λ (o : Outcome). Caused what o) (sym is) tt
+
+  pub asked_known : (what : Option Request) (outcome : Outcome) → Steps (Gave old new) what outcome → Caused what outcome
+  asked_known None outcome is = subst (λ (o : Outcome). Caused None o) (sym is) tt
+  asked_known (Some (call request)) outcome steps = call_known request outcome steps
+  asked_known (Some (emulate request)) outcome steps = emulate_known request outcome steps
+  asked_known (Some (list request)) outcome steps = list_known request outcome steps
+  asked_known (Some other) outcome is = unbuilt_known (Some other) outcome is

@@ -1,0 +1,141 @@
+-- The code that words ask for has few parts.
+use Rattle.std.proofs.Common.{◌≡◌, ℕ, ◌≤◌, Bool, true, false, List, [], ◌∷◌, Option, Some, None, length, map, refl, sym, ◌∙◌, ap, subst, arith, leb-true}
+use Rattle.std.specs.Prelude.{if◌then◌else◌, nat_le, option_and_then, option_map, suc}
+use Rattle.std.specs.List.{slice_split}
+use Rattle.std.proofs.lemmas.List.{length-map}
+use Rattle.command_words.specs.declared.commands.CommandName.{CommandName}
+use Rattle.command_words.specs.declared.commands.CommandName.TheVariants as c
+use Rattle.command_words.specs.declared.code_word.CodePart as code-part
+use Rattle.command_words.specs.declared.requests.EmulateRequest as code-emulate
+use Rattle.command_words.specs.declared.requests.ListRequest as code-list
+use Rattle.command_words.specs.Code.{Code, CodePart, code_parts, is_comma, part_at, part_in, parts_from, parts_in}
+use Rattle.command_words.specs.CommandLine.{Given, given_in}
+use Rattle.command_words.specs.Commands.{command_named}
+use Rattle.command_words.specs.OptionValues.{address_of, calls_of, order_of, steps_of}
+use Rattle.command_words.specs.Requests.{AnalyseRequest, CallRequest, CheckRequest, ClaimsRequest, ConvertRequest, EmulateRequest, ListRequest, Request, SliceRequest, StressRequest, call, emulate, analyse, check, convert, list, slice, claims, stress}
+use Rattle.command_words.specs.SpecNames.{spec_in}
+use Rattle.command_words.specs.Views as view
+use Rattle.command_words.specs.Views.{part_of}
+use Rattle.command_words.specs.Words as w
+use Rattle.command_words.specs.Words.{asked, asked_by, code_of, emulate_of, list_of, request_of, takes_all}
+
+-- ---- steps that give something
+
+bound : {A B : Type 0} (given : Option A) (next : A → Option B) (end : B) → option_and_then next given ≡ Some end → (a : A) × (given ≡ Some a) × (next a ≡ Some end)
+bound None next end is = absurd (cc)
+bound (Some a) next end is = (a, refl, is)
+
+mapped : {A B : Type 0} (made : A → B) (given : Option A) (end : B) → option_map made given ≡ Some end → (a : A) × (given ≡ Some a) × (made a ≡ end)
+mapped made None end is = absurd (cc)
+mapped made (Some a) end is = (a, refl, let same : Some (made a) ≡ Some end = is in cc)
+
+guarded : {A : Type 0} (b : Bool) (given : Option A) (end : A) → (if b then given else None) ≡ Some end → (b ≡ true) × (given ≡ Some end)
+guarded true given end is = (refl, is)
+guarded false given end is = absurd (cc)
+
+-- ---- parts
+
+as_many : (pieces : List (List ℕ)) (parts : List CodePart) → parts_in pieces ≡ Some parts → length parts ≡ length pieces
+as_many [] parts is = let same : [] ≡ parts = cc in ap (λ (xs : List CodePart). length xs) (sym same)
+as_many (piece ∷ pieces) parts is =
+    let first = bound (part_in piece) (λ part. option_and_then (λ rest. Some (part ∷ rest)) (parts_in pieces)) parts is in
+    let rest = bound (parts_in pieces) (λ rest. Some (first.0 ∷ rest)) parts first.2 in
+    let made : Some (first.0 ∷ rest.0) ≡ Some parts = rest.2 in
+    let same : first.0 ∷ rest.0 ≡ parts = cc in
+    ap (λ (xs : List CodePart). length xs) (sym same) ∙ ap suc (as_many pieces rest.0 rest.1)
+
+as_many_from : (base : ℕ) (pieces : List (List ℕ)) (parts : List CodePart) → parts_from base pieces ≡ Some parts → length parts ≡ length pieces
+as_many_from base [] parts is = absurd (cc)
+as_many_from base (piece ∷ pieces) parts is =
+    let first = bound (part_at piece base) (λ part. option_and_then (λ rest. Some (part ∷ rest)) (parts_in pieces)) parts is in
+    let rest = bound (parts_in pieces) (λ rest. Some (first.0 ∷ rest)) parts first.2 in
+    let made : Some (first.0 ∷ rest.0) ≡ Some parts = rest.2 in
+    let same : first.0 ∷ rest.0 ≡ parts = cc in
+    ap (λ (xs : List CodePart). length xs) (sym same) ∙ ap suc (as_many pieces rest.0 rest.1)
+
+few_parts : (base : ℕ) (word : List ℕ) (parts : List CodePart) → code_parts base word ≡ Some parts → length parts ≤ 16
+unfolding code_parts
+few_parts base word parts is =
+    let pieces = slice_split is_comma word in
+    let found = guarded (nat_le (length pieces) 16) (parts_from base pieces) parts is in
+    subst (λ (n : ℕ). n ≤ 16) (sym (as_many_from base pieces parts found.1)) (omega (arith, leb-true (length pieces) 16 found.0))
+
+few_in_code : (given : Given) (word : List ℕ) (code : Code) → code_of given word ≡ Some code → length code.parts ≤ 16
+unfolding code_of
+few_in_code given word code is =
+    let base = bound (address_of given) (λ base. option_and_then (λ order. option_and_then (λ parts. Some (record { parts = parts; order = order })) (code_parts base word)) (order_of given)) code is in
+    let order = bound (order_of given) (λ order. option_and_then (λ parts. Some (record { parts = parts; order = order })) (code_parts base.0 word)) code base.2 in
+    let parts = bound (code_parts base.0 word) (λ parts. Some (record { parts = parts; order = order.0 })) code order.2 in
+    let made : Some (record { parts = parts.0; order = order.0 }) ≡ Some code = parts.2 in
+    let same : record { parts = parts.0; order = order.0 } ≡ code = cc in
+    subst (λ (c : Code). length c.parts ≤ 16) same (few_parts base.0 word parts.0 parts.1)
+
+-- ---- requests
+
+-- its code has few parts
+abbrev pub IsFew : Request → Type 0
+IsFew (emulate request) = length request.code.parts ≤ 16
+IsFew (list request) = length request.code.parts ≤ 16
+IsFew _ = Unit {0}
+
+few_in_emulate : (given : Given) (words : List (List ℕ)) (request : EmulateRequest) → emulate_of given words ≡ Some request → length request.code.parts ≤ 16
+unfolding emulate_of
+few_in_emulate given (spec ∷ word ∷ entry ∷ []) request is =
+    let code = bound (code_of given word) (λ code. option_and_then (λ steps. option_and_then (λ calls. Some (record { spec = spec_in spec; code = code; entry = entry; steps = steps; calls = calls })) (calls_of given)) (steps_of given)) request is in
+    let steps = bound (steps_of given) (λ steps. option_and_then (λ calls. Some (record { spec = spec_in spec; code = code.0; entry = entry; steps = steps; calls = calls })) (calls_of given)) request code.2 in
+    let calls = bound (calls_of given) (λ calls. Some (record { spec = spec_in spec; code = code.0; entry = entry; steps = steps.0; calls = calls })) request steps.2 in
+    let made : Some (record { spec = spec_in spec; code = code.0; entry = entry; steps = steps.0; calls = calls.0 }) ≡ Some request = calls.2 in
+    let same : record { spec = spec_in spec; code = code.0; entry = entry; steps = steps.0; calls = calls.0 } ≡ request = cc in
+    subst (λ (r : EmulateRequest). length r.code.parts ≤ 16) same (few_in_code given word code.0 code.1)
+few_in_emulate given [] request is = absurd (cc)
+few_in_emulate given (spec ∷ []) request is = absurd (cc)
+few_in_emulate given (spec ∷ word ∷ []) request is = absurd (cc)
+few_in_emulate given (spec ∷ word ∷ entry ∷ more ∷ rest) request is = absurd (cc)
+
+few_in_list : (given : Given) (words : List (List ℕ)) (request : ListRequest) → list_of given words ≡ Some request → length request.code.parts ≤ 16
+unfolding list_of
+few_in_list given (spec ∷ word ∷ []) request is =
+    let code = bound (code_of given word) (λ code. Some (record { spec = spec_in spec; code = code })) request is in
+    let made : Some (record { spec = spec_in spec; code = code.0 }) ≡ Some request = code.2 in
+    let same : record { spec = spec_in spec; code = code.0 } ≡ request = cc in
+    subst (λ (r : ListRequest). length r.code.parts ≤ 16) same (few_in_code given word code.0 code.1)
+few_in_list given [] request is = absurd (cc)
+few_in_list given (spec ∷ []) request is = absurd (cc)
+few_in_list given (spec ∷ word ∷ more ∷ rest) request is = absurd (cc)
+
+few_by : (command : CommandName) (given : Given) (request : Request) → request_of command given ≡ Some request → IsFew request
+few_by c.Call given request is = let m = mapped call (w.call_of given given.words) request is in subst IsFew m.2 tt
+few_by c.Emulate given request is = let m = mapped emulate (emulate_of given given.words) request is in subst IsFew m.2 (few_in_emulate given given.words m.0 m.1)
+few_by c.Analyse given request is = let m = mapped analyse (w.analyse_of given given.words) request is in subst IsFew m.2 tt
+few_by c.Check given request is = let m = mapped check (w.check_of given given.words) request is in subst IsFew m.2 tt
+few_by c.Convert given request is = let m = mapped convert (w.convert_of given given.words) request is in subst IsFew m.2 tt
+few_by c.List given request is = let m = mapped list (list_of given given.words) request is in subst IsFew m.2 (few_in_list given given.words m.0 m.1)
+few_by c.Slice given request is = let m = mapped slice (w.slice_of given given.words) request is in subst IsFew m.2 tt
+few_by c.Claims given request is = let m = mapped claims (w.claims_of given given.words) request is in subst IsFew m.2 tt
+few_by c.Stress given request is = let m = mapped stress (w.stress_of given given.words) request is in subst IsFew m.2 tt
+
+few_given : (given : Given) (request : Request) → asked_by given ≡ Some request → IsFew request
+unfolding asked_by
+few_given given request is =
+    let name = bound given.command (λ name. option_and_then (λ command. if takes_all command given then request_of command given else None) (command_named name)) request is in
+    let command = bound (command_named name.0) (λ command. if takes_all command given then request_of command given else None) request name.2 in
+    let found = guarded (takes_all command.0 given) (request_of command.0 given) request command.2 in
+    few_by command.0 given request found.1
+
+-- what words ask for
+pub few_asked : (words : List (List ℕ)) (request : Request) → asked words ≡ Some request → IsFew request
+unfolding asked
+few_asked words request is =
+    let given = bound (given_in words) (λ given. asked_by given) request is in
+    few_given given.0 request given.2
+
+-- ---- the code's requests
+
+few_of : (parts : List code-part.CodePart) → length (map part_of parts) ≤ 16 → length parts ≤ 16
+few_of parts few = subst (λ (n : ℕ). n ≤ 16) (length-map parts part_of) few
+
+pub few_emulated : (words : List (List ℕ)) (request : code-emulate.EmulateRequest) → asked words ≡ Some (emulate (view.emulate_of request)) → length request.code.parts.items ≤ 16
+few_emulated words request is = few_of request.code.parts.items (few_asked words (emulate (view.emulate_of request)) is)
+
+pub few_listed : (words : List (List ℕ)) (request : code-list.ListRequest) → asked words ≡ Some (list (view.list_of request)) → length request.code.parts.items ≤ 16
+few_listed words request is = few_of request.code.parts.items (few_asked words (list (view.list_of request)) is)
