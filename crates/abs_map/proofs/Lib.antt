@@ -1,0 +1,7 @@
+pub mod Ascending
+pub mod ByKey
+pub mod Equality
+pub mod Folding
+pub mod Merging
+pub mod Putting
+pub mod Whole

@@ -1,0 +1,117 @@
+//! Maps as sorted lists of cells.
+
+ghost use Rattle.std.specs.Prelude.{◌≡◌, ◌<◌, [], Some, length, slice_get, slice_index, IfOk};
+ghost use Rattle.word_ops.specs.Width.{IsWidth};
+ghost use Rattle.base_trait.specs.Lists.{IsAscending};
+ghost use Rattle.map_laws.specs.Maps.{Fits, cell, keys};
+
+use super::cells::{CellOf, copied};
+use super::listed::{listed_at, push_copies};
+use base_trait::Base;
+use map_laws::Cell;
+use std::alloc::{AllocError as NoMemory, Global};
+use std::marker::Model;
+
+/// Listed cells, ascending by their keys, and a rest for every other key. It describes each concrete map whose cell at
+/// each key the listed cell describes, or else the rest.
+#[derive(Drop)]
+#[derive_where(Debug)]
+pub struct AMap<B: Base> {
+    pub(crate) width: u32,
+    pub(crate) rest: CellOf<B>,
+    pub(crate) cells: Vec<(u64, CellOf<B>)>,
+}
+
+impl<B: Base> Model for AMap<B> {
+    ghost use Rattle.map_laws.specs.Maps.{Map};
+
+    ghost Value = { Map B.Word B.Note };
+
+    ghost view = { λ m. record { width = m.width; rest = m.rest; cells = m.cells.items } };
+}
+
+impl<B: Base> AMap<B> {
+    /// The map that lists no cell: it describes each concrete map all of whose cells the word and the note describe.
+    ///
+    /// The width of its words is counted in bits.
+    pub fn new(
+        alloc: Global,
+        ctx: &B::Ctx,
+        w: u32,
+        rest: B::Word,
+        note: B::Note,
+    ) -> Result<AMap<B>, NoMemory>
+        requires width { IsWidth w }
+        requires word { B.algebra.words.fits ctx.now w rest }
+        ensures value { IfOk result (λ r. r ≡ record { width = w; rest = record { word = rest; note = note }; cells = [] }) }
+        ensures fits { IfOk result (λ r. Fits B.algebra ctx.now B.CAP r) }
+    {
+        Ok(AMap {
+            width: w,
+            rest: Cell { word: rest, note },
+            cells: Vec::new(alloc),
+        })
+    }
+
+    /// The width of its words, in bits.
+    pub fn width(&self) -> u32
+        ensures { result ≡ self.now.width }
+    {
+        self.width
+    }
+
+    /// How many cells are listed.
+    pub fn listed(&self) -> u64
+        ensures { result ≡ length self.now.cells }
+    {
+        self.cells.len() as u64
+    }
+
+    /// The listed key at a place, counted from 0. Keys ascend.
+    pub fn key_at(&self, place: u64) -> u64
+        requires { place < length self.now.cells }
+        ensures { slice_get (keys self.now) place ≡ Some result }
+    {
+        self.cells[place as usize].0
+    }
+
+    /// The listed cell at a place: it describes what a concrete map has at the key of that place.
+    pub fn cell_at(&self, place: u64) -> (&B::Word, &B::Note)
+        requires { place < length self.now.cells }
+        ensures { slice_get self.now.cells place ≡ Some (slice_index (keys self.now) place, record { word = result.0.now; note = result.1.now }) }
+    {
+        let cell = &self.cells[place as usize].1;
+        (&cell.word, &cell.note)
+    }
+
+    /// The rest: it describes what a concrete map has at each key that is not listed.
+    pub fn rest(&self) -> (&B::Word, &B::Note)
+        ensures { self.now.rest ≡ record { word = result.0.now; note = result.1.now } }
+    {
+        (&self.rest.word, &self.rest.note)
+    }
+
+    /// The cell at a key.
+    pub(crate) fn cell(&self, key: u64) -> &CellOf<B>
+        requires order { IsAscending (keys self.now) }
+        ensures value { result.now ≡ cell self.now key }
+    {
+        match listed_at(&self.cells, key) {
+            Some(cell) => cell,
+            None => &self.rest,
+        }
+    }
+
+    /// The same map once more. It describes the same concrete maps.
+    pub fn copy(&self, alloc: Global, ctx: &B::Ctx) -> Result<AMap<B>, NoMemory>
+        ensures { IfOk result (λ r. r ≡ self.now) }
+    {
+        let mut cells = Vec::with_capacity(alloc, self.cells.len())?;
+        push_copies::<B>(alloc, ctx, &mut cells, &self.cells)?;
+        Ok(AMap {
+            width: self.width,
+            rest: copied::<B>(alloc, ctx, &self.rest)?,
+            cells,
+        })
+    }
+}

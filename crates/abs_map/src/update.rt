@@ -1,0 +1,121 @@
+//! Writing at a key.
+
+ghost use Rattle.std.specs.Prelude.{◌≡◌, IfOk, if◌then◌else◌, map};
+ghost use Rattle.word_ops.specs.Width.{IsWidth};
+ghost use Rattle.base_trait.specs.Lists.{Each};
+ghost use Rattle.map_laws.specs.Calls.{update_of, written};
+ghost use Rattle.map_laws.specs.Cells.{CellFits, join_cells};
+ghost use Rattle.map_laws.specs.Keys.{IsKeyed, has_key, one, some};
+ghost use Rattle.map_laws.specs.Maps.{Fits};
+ghost use Rattle.abs_map.specs.Unfolded.{FitsUnfolded};
+ghost use Rattle.abs_map.specs.View.{keys_of};
+
+use super::amap::AMap;
+use super::cells::{CellOf, copied, joined_if};
+use super::keys::KeySet;
+use super::listed::put;
+use base_trait::Base;
+use map_laws::Cell;
+use std::alloc::{AllocError as NoMemory, Global};
+
+impl<B: Base> AMap<B> {
+    /// The map after a write: it describes each concrete map with a described cell written at a key that may be meant.
+    /// Of a base that does not join, that is owed at one key alone. Keys are below 2^32, and those of a set are listed.
+    ///
+    /// At one key, that key is listed with the word and the note. Else they are joined into each listed cell that may be
+    /// meant, and into the rest unless the key can be no other, so what was there before stays described.
+    pub fn update(
+        &self,
+        alloc: Global,
+        ctx: &B::Ctx,
+        key: &KeySet,
+        v: &B::Word,
+        note: &B::Note,
+    ) -> Result<AMap<B>, NoMemory>
+        requires map { Fits B.algebra ctx.now B.CAP self.now }
+        requires key { IsKeyed (keys_of key.now) }
+        requires word { B.algebra.words.fits ctx.now self.now.width v.now }
+        ensures value { IfOk result (λ r. r ≡ update_of B.algebra ctx.now B.CAP self.now (keys_of key.now) (record { word = v.now; note = note.now })) }
+        ensures fits { IfOk result (λ r. Fits B.algebra ctx.now B.CAP r) }
+    {
+        let cell = Cell {
+            word: B::copy(alloc, ctx, v)?,
+            note: B::copy_note(alloc, note)?,
+        };
+        match key {
+            KeySet::One(key) => self.written(alloc, ctx, *key, cell)?.folded(alloc, ctx),
+            KeySet::Some { listed, all_listed } => {
+                self.joined_at(alloc, ctx, listed, *all_listed, &cell)
+            }
+        }
+    }
+
+    /// The map with a cell written at a key, however many are listed then.
+    fn written(
+        &self,
+        alloc: Global,
+        ctx: &B::Ctx,
+        key: u64,
+        cell: CellOf<B>,
+    ) -> Result<AMap<B>, NoMemory>
+        requires map { Fits B.algebra ctx.now B.CAP self.now }
+        requires key { IsKeyed (one key) }
+        requires cell { CellFits B.algebra ctx.now self.now.width cell }
+        ensures value { IfOk result (λ r. r ≡ written self.now key cell) }
+        ensures fits { IfOk result (λ r. FitsUnfolded B.algebra ctx.now r) }
+    {
+        let cells = put::<B>(alloc, ctx, &self.cells, key, cell)?;
+        Ok(AMap {
+            width: self.width,
+            rest: copied::<B>(alloc, ctx, &self.rest)?,
+            cells,
+        })
+    }
+
+    /// The map with a cell joined into each of these listed ones, and into the rest unless they are all.
+    fn joined_at(
+        &self,
+        alloc: Global,
+        ctx: &B::Ctx,
+        listed: &[u64],
+        all_listed: bool,
+        cell: &CellOf<B>,
+    ) -> Result<AMap<B>, NoMemory>
+        requires map { Fits B.algebra ctx.now B.CAP self.now }
+        requires cell { CellFits B.algebra ctx.now self.now.width cell.now }
+        ensures value { IfOk result (λ r. r ≡ update_of B.algebra ctx.now B.CAP self.now (some listed.now all_listed) cell.now) }
+        ensures fits { IfOk result (λ r. Fits B.algebra ctx.now B.CAP r) }
+    {
+        let cells = joined_named::<B>(alloc, ctx, self.width, &self.cells, listed, cell)?;
+        let rest = copied::<B>(alloc, ctx, &self.rest)?;
+        let rest = joined_if::<B>(alloc, ctx, self.width, !all_listed, rest, cell)?;
+        Ok(AMap {
+            width: self.width,
+            rest,
+            cells,
+        })
+    }
+}
+
+/// The cells, with one joined into each whose key is named.
+fn joined_named<B: Base>(
+    alloc: Global,
+    ctx: &B::Ctx,
+    w: u32,
+    cells: &[(u64, CellOf<B>)],
+    named: &[u64],
+    cell: &CellOf<B>,
+) -> Result<Vec<(u64, CellOf<B>)>, NoMemory>
+    requires width { IsWidth w }
+    requires old { Each (λ e. CellFits B.algebra ctx.now w e.1) cells.now }
+    requires new { CellFits B.algebra ctx.now w cell.now }
+    ensures value { IfOk result (λ r. r.items ≡ map (λ e. (e.0, if has_key named.now e.0 then join_cells B.algebra ctx.now w e.1 cell.now else e.1)) cells.now) }
+{
+    let mut out = Vec::with_capacity(alloc, cells.len())?;
+    for (key, old) in cells {
+        let old = copied::<B>(alloc, ctx, old)?;
+        let new = joined_if::<B>(alloc, ctx, w, named.contains(key), old, cell)?;
+        out.push((*key, new))?;
+    }
+    Ok(out)
+}

@@ -1,0 +1,72 @@
+//! Widening a map by a new one.
+
+ghost use Rattle.std.specs.Prelude.{◌≡◌, IfOk, map};
+ghost use Rattle.map_laws.specs.Calls.{news, widen_of};
+ghost use Rattle.map_laws.specs.Cells.{CellFits, joined, widen_cells};
+ghost use Rattle.map_laws.specs.Maps.{Fits, cell};
+
+use super::amap::AMap;
+use super::cells::{CellOf, copied, joined_if, widened};
+use super::listed::is_listed;
+use base_trait::Base;
+use std::alloc::{AllocError as NoMemory, Global};
+
+impl<B: Base> AMap<B> {
+    /// A map that describes each concrete map that either describes, such that no chain of widenings grows for ever: it
+    /// is the old map where that absorbs the new one, and else of lesser rank. Both have one width.
+    ///
+    /// It lists the old keys. Each is widened with what the new map has there, and the rest with the join of the new rest
+    /// and of the cells that the new map alone lists.
+    pub fn widen(&self, alloc: Global, ctx: &B::Ctx, new: &AMap<B>) -> Result<AMap<B>, NoMemory>
+        requires old { Fits B.algebra ctx.now B.CAP self.now }
+        requires new { Fits B.algebra ctx.now B.CAP new.now }
+        requires width { self.now.width ≡ new.now.width }
+        ensures value { IfOk result (λ r. r ≡ widen_of B.algebra ctx.now self.now new.now) }
+        ensures fits { IfOk result (λ r. Fits B.algebra ctx.now B.CAP r) }
+    {
+        let cells = self.widened_cells(alloc, ctx, new)?;
+        let others = self.new_rest(alloc, ctx, new)?;
+        let rest = widened::<B>(alloc, ctx, self.width, &self.rest, &others)?;
+        Ok(AMap {
+            width: self.width,
+            rest,
+            cells,
+        })
+    }
+
+    /// The old cells, each widened with what the new map has at its key.
+    fn widened_cells(
+        &self,
+        alloc: Global,
+        ctx: &B::Ctx,
+        new: &AMap<B>,
+    ) -> Result<Vec<(u64, CellOf<B>)>, NoMemory>
+        requires old { Fits B.algebra ctx.now B.CAP self.now }
+        requires new { Fits B.algebra ctx.now B.CAP new.now }
+        requires width { self.now.width ≡ new.now.width }
+        ensures value { IfOk result (λ r. r.items ≡ map (λ e. (e.0, widen_cells B.algebra ctx.now self.now.width e.1 (cell new.now e.0))) self.now.cells) }
+    {
+        let mut cells = Vec::with_capacity(alloc, self.cells.len())?;
+        for (key, old) in &self.cells {
+            let cell = widened::<B>(alloc, ctx, self.width, old, new.cell(*key))?;
+            cells.push((*key, cell))?;
+        }
+        Ok(cells)
+    }
+
+    /// The new rest, joined with the cells that the new map alone lists.
+    fn new_rest(&self, alloc: Global, ctx: &B::Ctx, new: &AMap<B>) -> Result<CellOf<B>, NoMemory>
+        requires old { Fits B.algebra ctx.now B.CAP self.now }
+        requires new { Fits B.algebra ctx.now B.CAP new.now }
+        requires width { self.now.width ≡ new.now.width }
+        ensures value { IfOk result (λ r. r ≡ joined B.algebra ctx.now self.now.width new.now.rest (news self.now new.now)) }
+        ensures fits { IfOk result (λ r. CellFits B.algebra ctx.now self.now.width r) }
+    {
+        let mut rest = copied::<B>(alloc, ctx, &new.rest)?;
+        for (key, cell) in &new.cells {
+            let is_new = !is_listed(&self.cells, *key);
+            rest = joined_if::<B>(alloc, ctx, self.width, is_new, rest, cell)?;
+        }
+        Ok(rest)
+    }
+}

@@ -1,0 +1,10 @@
+pub mod Absorbing
+pub mod CellLaws
+pub mod Fitting
+pub mod Joining
+pub mod KeyLists
+pub mod Places
+pub mod Ranks
+pub mod Reading
+pub mod Widening
+pub mod Writing
