@@ -3,7 +3,9 @@
 ghost use Rattle.std.specs.Prelude.{◌≡◌, ◌<◌, [], Some, length, slice_get, slice_index, IfOk};
 ghost use Rattle.word_ops.specs.Width.{IsWidth};
 ghost use Rattle.base_trait.specs.Lists.{IsAscending};
+ghost use Rattle.map_laws.specs.Calls.{folded};
 ghost use Rattle.map_laws.specs.Maps.{Fits, cell, keys};
+ghost use Rattle.abs_map.specs.Unfolded.{FitsUnfolded};
 
 use super::cells::{CellOf, copied};
 use super::listed::{listed_at, push_copies};
@@ -51,6 +53,29 @@ impl<B: Base> AMap<B> {
             rest: Cell { word: rest, note },
             cells: Vec::new(alloc),
         })
+    }
+
+    /// The map of these listed cells and the rest, keys ascending below 2^32. Past what the base may list, the cell of the
+    /// greatest key goes into the rest.
+    ///
+    /// The width of its words is counted in bits.
+    pub fn of_cells(
+        alloc: Global,
+        ctx: &B::Ctx,
+        w: u32,
+        rest: Cell<B::Word, B::Note>,
+        cells: Vec<(u64, Cell<B::Word, B::Note>)>,
+    ) -> Result<AMap<B>, NoMemory>
+        requires map { FitsUnfolded B.algebra ctx.now (record { width = w; rest = rest; cells = cells.items }) }
+        ensures value { IfOk result (λ r. r ≡ folded B.algebra ctx.now B.CAP (record { width = w; rest = rest; cells = cells.items })) }
+        ensures fits { IfOk result (λ r. Fits B.algebra ctx.now B.CAP r) }
+    {
+        let map = AMap {
+            width: w,
+            rest,
+            cells,
+        };
+        map.folded(alloc, ctx)
     }
 
     /// The width of its words, in bits.

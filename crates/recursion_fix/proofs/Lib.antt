@@ -1,7 +1,10 @@
 pub mod Absorbed
+pub mod Answered
 pub mod Driving
 pub mod Ending
+pub mod Fitted
+pub mod Measured
 pub mod Ordered
 pub mod Parts
-pub mod Settled
+pub mod Remains
 pub mod Steps

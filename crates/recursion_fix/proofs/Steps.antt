@@ -7,7 +7,7 @@ use Rattle.recursion_fix.specs.declared.after.After.TheVariants.{Another, Ended,
 use Rattle.recursion_fix.specs.declared.policy.Policy.{Policy}
 use Rattle.recursion_fix.specs.declared.policy.Policy.TheVariants.{Stop, Widen}
 use Rattle.recursion_fix.specs.Activation.{Activation, AnswersAfter, after_turn, after_next}
-use Rattle.recursion_fix.specs.Meaning.{Meaning}
+use Rattle.recursion_fix.specs.Moves.{Moves}
 use Rattle.recursion_fix.specs.Rule.{Follows, Ends}
 
 -- So much of the policy is left before the turn of a number.
@@ -23,7 +23,7 @@ one_less (Stop turns) = Stop (turns - 1)
 one_less (Widen unroll delay) = if nat_lt 0 unroll then Widen (unroll - 1) delay else Widen 0 (delay - 1)
 
 pub one_less_left :
-    {A O : Type 0} (m : Meaning A O) (policy : Policy) (number : ℕ) (left : Policy) (args next new : A)
+    {A O : Type 0} (m : Moves A O) (policy : Policy) (number : ℕ) (left : Policy) (args next new : A)
     → IsLeft policy number left → Follows m policy number args next new → IsLeft policy (number + 1) (one_less left)
 one_less_left m (Stop turns) number (Stop left) args next new is follows = (omega arith, omega arith)
 one_less_left m (Stop turns) number (Widen u d) args next new is follows = absurd is
@@ -34,7 +34,7 @@ one_less_left m (Widen unroll delay) number (Widen u d) args next new is follows
 
 -- Where the rule has other arguments follow, they are asked for.
 pub asks_if_follows :
-    {A O : Type 0} (m : Meaning A O) (policy : Policy) (number : ℕ) (left : Policy) (args next new : A)
+    {A O : Type 0} (m : Moves A O) (policy : Policy) (number : ℕ) (left : Policy) (args next new : A)
     → IsLeft policy number left → Follows m policy number args next new → after_next m left args next ≡ Another (one_less left) new
 asks_if_follows m (Stop turns) number (Stop left) args next new is follows = grind (arith, nat_tests)
 asks_if_follows m (Stop turns) number (Widen u d) args next new is follows = absurd is
@@ -42,7 +42,7 @@ asks_if_follows m (Widen unroll delay) number (Stop left) args next new is follo
 asks_if_follows m (Widen unroll delay) number (Widen u d) args next new is follows = grind (arith, nat_tests)
 
 stop_asks :
-    {A O : Type 0} (m : Meaning A O) (turns number left : ℕ) (more : Bool) (args next : A) (leaves : Option O) (new : Activation A O)
+    {A O : Type 0} (m : Moves A O) (turns number left : ℕ) (more : Bool) (args next : A) (leaves : Option O) (new : Activation A O)
     → nat_lt 1 left ≡ more → IsLeft (Stop turns) number (Stop left)
     → AnswersAfter (if more then Another (Stop (left - 1)) next else TooDeep) leaves Turn new
     → Follows m (Stop turns) number args next new.args × (new.left ≡ Stop (left - 1)) × (new.leaves ≡ leaves)
@@ -51,7 +51,7 @@ stop_asks m turns number left true args next leaves new e is asks =
 stop_asks m turns number left false args next leaves new e is asks = cc
 
 widen_asks :
-    {A O : Type 0} (m : Meaning A O) (unroll delay number u d : ℕ) (more absorbed joins : Bool) (args next : A) (leaves : Option O) (new : Activation A O)
+    {A O : Type 0} (m : Moves A O) (unroll delay number u d : ℕ) (more absorbed joins : Bool) (args next : A) (leaves : Option O) (new : Activation A O)
     → nat_lt 0 u ≡ more → m.absorbs args next ≡ absorbed → nat_lt 0 d ≡ joins → IsLeft (Widen unroll delay) number (Widen u d)
     → AnswersAfter
     (if more then Another (Widen (u - 1) d) next
@@ -99,7 +99,7 @@ widen_asks m unroll delay number u d false false false args next leaves new e a 
 
 -- What is asked for follows by the rule.
 pub follows_if_asks :
-    {A O : Type 0} (m : Meaning A O) (policy : Policy) (number : ℕ) (left : Policy) (args next : A) (leaves : Option O) (new : Activation A O)
+    {A O : Type 0} (m : Moves A O) (policy : Policy) (number : ℕ) (left : Policy) (args next : A) (leaves : Option O) (new : Activation A O)
     → IsLeft policy number left → AnswersAfter (after_next m left args next) leaves Turn new
     → Follows m policy number args next new.args × (new.left ≡ one_less left) × (new.leaves ≡ leaves)
 follows_if_asks m (Stop turns) number (Stop left) args next leaves new is asks =
@@ -110,57 +110,57 @@ follows_if_asks m (Widen unroll delay) number (Widen u d) args next leaves new i
     widen_asks m unroll delay number u d (nat_lt 0 u) (m.absorbs args next) (nat_lt 0 d) args next leaves new refl refl refl is asks
 
 stop_ends :
-    {A O : Type 0} (m : Meaning A O) (turns number left : ℕ) (more : Bool) (args next : A) (leaves : Option O) (answer : Asked O) (new : Activation A O)
-    → nat_lt 1 left ≡ more → IsLeft (Stop turns) number (Stop left) → answer ≢ Turn
-    → AnswersAfter (if more then Another (Stop (left - 1)) next else TooDeep) leaves answer new
-    → Ends m (Stop turns) number args (Some next) leaves answer
-stop_ends m turns number left true args next leaves answer new e is ends answers = absurd (ends answers.0)
-stop_ends m turns number left false args next leaves answer new e is ends answers = (grind (arith, nat_tests), answers)
+    {A O : Type 0} (m : Moves A O) (turns number left : ℕ) (more : Bool) (args next : A) (leaves : Option O) (asked : Asked O) (new : Activation A O)
+    → nat_lt 1 left ≡ more → IsLeft (Stop turns) number (Stop left) → asked ≢ Turn
+    → AnswersAfter (if more then Another (Stop (left - 1)) next else TooDeep) leaves asked new
+    → Ends m (Stop turns) number args (Some next) leaves asked
+stop_ends m turns number left true args next leaves asked new e is ends answers = absurd (ends answers.0)
+stop_ends m turns number left false args next leaves asked new e is ends answers = (grind (arith, nat_tests), answers)
 
 widen_ends :
-    {A O : Type 0} (m : Meaning A O) (unroll delay number u d : ℕ) (more absorbed joins : Bool) (args next : A) (leaves : Option O) (answer : Asked O)
+    {A O : Type 0} (m : Moves A O) (unroll delay number u d : ℕ) (more absorbed joins : Bool) (args next : A) (leaves : Option O) (asked : Asked O)
     (new : Activation A O)
-    → nat_lt 0 u ≡ more → m.absorbs args next ≡ absorbed → nat_lt 0 d ≡ joins → IsLeft (Widen unroll delay) number (Widen u d) → answer ≢ Turn
+    → nat_lt 0 u ≡ more → m.absorbs args next ≡ absorbed → nat_lt 0 d ≡ joins → IsLeft (Widen unroll delay) number (Widen u d) → asked ≢ Turn
     → AnswersAfter
     (if more then Another (Widen (u - 1) d) next
     else if absorbed then Ended
     else if joins then Another (Widen 0 (d - 1)) (m.join_args args next)
     else Another (Widen 0 0) (m.widen_args args next))
-    leaves answer new
-    → Ends m (Widen unroll delay) number args (Some next) leaves answer
-widen_ends m unroll delay number u d true absorbed joins args next leaves answer new e a j is ends answers = absurd (ends answers.0)
-widen_ends m unroll delay number u d false true joins args next leaves answer new e a j is ends answers = (grind (arith, nat_tests), a, answers)
-widen_ends m unroll delay number u d false false true args next leaves answer new e a j is ends answers = absurd (ends answers.0)
-widen_ends m unroll delay number u d false false false args next leaves answer new e a j is ends answers = absurd (ends answers.0)
+    leaves asked new
+    → Ends m (Widen unroll delay) number args (Some next) leaves asked
+widen_ends m unroll delay number u d true absorbed joins args next leaves asked new e a j is ends answers = absurd (ends answers.0)
+widen_ends m unroll delay number u d false true joins args next leaves asked new e a j is ends answers = (grind (arith, nat_tests), a, answers)
+widen_ends m unroll delay number u d false false true args next leaves asked new e a j is ends answers = absurd (ends answers.0)
+widen_ends m unroll delay number u d false false false args next leaves asked new e a j is ends answers = absurd (ends answers.0)
 
 -- Where something else is answered, the turn ends the activation with it.
 pub ends_if_answers :
-    {A O : Type 0} (m : Meaning A O) (policy : Policy) (number : ℕ) (left : Policy) (args : A) (next : Option A) (leaves : Option O) (answer : Asked O)
+    {A O : Type 0} (m : Moves A O) (policy : Policy) (number : ℕ) (left : Policy) (args : A) (next : Option A) (leaves : Option O) (asked : Asked O)
     (new : Activation A O)
-    → IsLeft policy number left → answer ≢ Turn → AnswersAfter (after_turn m left args next) leaves answer new
-    → Ends m policy number args next leaves answer
-ends_if_answers m policy number left args None leaves answer new is ends answers = answers
-ends_if_answers m (Stop turns) number (Stop left) args (Some next) leaves answer new is ends answers =
-    stop_ends m turns number left (nat_lt 1 left) args next leaves answer new refl is ends answers
-ends_if_answers m (Stop turns) number (Widen u d) args (Some next) leaves answer new is ends answers = absurd is
-ends_if_answers m (Widen unroll delay) number (Stop left) args (Some next) leaves answer new is ends answers = absurd is
-ends_if_answers m (Widen unroll delay) number (Widen u d) args (Some next) leaves answer new is ends answers =
-    widen_ends m unroll delay number u d (nat_lt 0 u) (m.absorbs args next) (nat_lt 0 d) args next leaves answer new refl refl refl is ends answers
+    → IsLeft policy number left → asked ≢ Turn → AnswersAfter (after_turn m left args next) leaves asked new
+    → Ends m policy number args next leaves asked
+ends_if_answers m policy number left args None leaves asked new is ends answers = answers
+ends_if_answers m (Stop turns) number (Stop left) args (Some next) leaves asked new is ends answers =
+    stop_ends m turns number left (nat_lt 1 left) args next leaves asked new refl is ends answers
+ends_if_answers m (Stop turns) number (Widen u d) args (Some next) leaves asked new is ends answers = absurd is
+ends_if_answers m (Widen unroll delay) number (Stop left) args (Some next) leaves asked new is ends answers = absurd is
+ends_if_answers m (Widen unroll delay) number (Widen u d) args (Some next) leaves asked new is ends answers =
+    widen_ends m unroll delay number u d (nat_lt 0 u) (m.absorbs args next) (nat_lt 0 d) args next leaves asked new refl refl refl is ends answers
 
 -- Where the rule ends the activation, so does the driver, with the same answer.
 pub answers_if_ends :
-    {A O : Type 0} (m : Meaning A O) (policy : Policy) (number : ℕ) (left : Policy) (args : A) (next : Option A) (leaves : Option O) (answer : Asked O)
+    {A O : Type 0} (m : Moves A O) (policy : Policy) (number : ℕ) (left : Policy) (args : A) (next : Option A) (leaves : Option O) (asked : Asked O)
     (new : Activation A O)
-    → IsLeft policy number left → Ends m policy number args next leaves answer
-    → (answer ≢ Turn) × AnswersAfter (after_turn m left args next) leaves answer new
-answers_if_ends m policy number left args None leaves answer new is ends = (λ e. cc, ends)
-answers_if_ends m (Stop turns) number (Stop left) args (Some next) leaves answer new is ends = (
-  λ e. let d : answer ≡ Deep = ends.1 in cc,
+    → IsLeft policy number left → Ends m policy number args next leaves asked
+    → (asked ≢ Turn) × AnswersAfter (after_turn m left args next) leaves asked new
+answers_if_ends m policy number left args None leaves asked new is ends = (λ e. cc, ends)
+answers_if_ends m (Stop turns) number (Stop left) args (Some next) leaves asked new is ends = (
+  λ e. let d : asked ≡ Deep = ends.1 in cc,
   (let e : nat_lt 1 left ≡ false = grind (arith, nat_tests) in rw e ends.1),
 )
-answers_if_ends m (Stop turns) number (Widen u d) args (Some next) leaves answer new is ends = absurd is
-answers_if_ends m (Widen unroll delay) number (Stop left) args (Some next) leaves answer new is ends = absurd is
-answers_if_ends m (Widen unroll delay) number (Widen u d) args (Some next) leaves answer new is ends = (
-  λ e. let d : answer ≡ Out leaves = ends.2 in cc,
+answers_if_ends m (Stop turns) number (Widen u d) args (Some next) leaves asked new is ends = absurd is
+answers_if_ends m (Widen unroll delay) number (Stop left) args (Some next) leaves asked new is ends = absurd is
+answers_if_ends m (Widen unroll delay) number (Widen u d) args (Some next) leaves asked new is ends = (
+  λ e. let d : asked ≡ Out leaves = ends.2 in cc,
   (let e : nat_lt 0 u ≡ false = grind (arith, nat_tests) in rw (e, ends.1) ends.2),
 )

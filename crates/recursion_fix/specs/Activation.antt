@@ -1,12 +1,13 @@
 -- How an activation stands, and what a turn makes of it.
-use Rattle.std.specs.Prelude.{◌≡◌, ◌-◌, ◌≤◌, Bool, true, Option, None, Some, IsTrue, IfSome, nat_lt, if◌then◌else◌}
+use Rattle.std.specs.Prelude.{◌≡◌, ◌-◌, ◌≤◌, Bool, true, Option, None, Some, IfSome, nat_lt, if◌then◌else◌}
 use Rattle.recursion_fix.specs.declared.asked.Asked.{Asked}
 use Rattle.recursion_fix.specs.declared.asked.Asked.TheVariants.{Turn, Out, Deep}
 use Rattle.recursion_fix.specs.declared.after.After.{After}
 use Rattle.recursion_fix.specs.declared.after.After.TheVariants.{Another, Ended, TooDeep}
 use Rattle.recursion_fix.specs.declared.policy.Policy.{Policy}
 use Rattle.recursion_fix.specs.declared.policy.Policy.TheVariants.{Stop, Widen}
-use Rattle.recursion_fix.specs.Meaning.{Meaning}
+use Rattle.recursion_fix.specs.Meaning.{Meaning, ArgsFit, OutFits}
+use Rattle.recursion_fix.specs.Moves.{Moves}
 use Rattle.recursion_fix.specs.Leaves.{join_leaves}
 
 -- An activation between two turns.
@@ -31,7 +32,7 @@ HasTurn (Stop turns) = 1 ≤ turns
 HasTurn (Widen unroll delay) = Unit {0}
 
 -- what follows a turn on `args` that asks for `next`
-abbrev pub after_next : {A O : Type 0} → Meaning A O → Policy → A → A → After A
+abbrev pub after_next : {A O : Type 0} → Moves A O → Policy → A → A → After A
 after_next m (Stop turns) args next = if nat_lt 1 turns then Another (Stop (turns - 1)) next else TooDeep
 after_next m (Widen unroll delay) args next =
     if nat_lt 0 unroll then Another (Widen (unroll - 1) delay) next
@@ -40,7 +41,7 @@ after_next m (Widen unroll delay) args next =
     else Another (Widen 0 0) (m.widen_args args next)
 
 -- what follows a turn that may ask for another
-abbrev pub after_turn : {A O : Type 0} → Meaning A O → Policy → A → Option A → After A
+abbrev pub after_turn : {A O : Type 0} → Moves A O → Policy → A → Option A → After A
 after_turn m left args None = Ended
 after_turn m left args (Some next) = after_next m left args next
 
@@ -54,10 +55,16 @@ AnswersAfter TooDeep leaves asked new = asked ≡ Deep
 
 -- What is answered to a turn that gave the leaves `out` and the next arguments `next`, and the
 -- activation where another turn is asked for.
-abbrev pub Answers : {A O : Type 0} → Meaning A O → Activation A O → Option O → Option A → Asked O → Activation A O → Type 0
+abbrev pub Answers : {A O : Type 0} → Moves A O → Activation A O → Option O → Option A → Asked O → Activation A O → Type 0
 Answers m now out next asked new = AnswersAfter (after_turn m now.left now.args next) (join_leaves m now.leaves out) asked new
 
 -- What an activation holds fits.
 pub record Fits {A O : Type 0} (m : Meaning A O) (now : Activation A O) : Type 0 where
-  pub args : IsTrue (m.fits_args now.args)
-  pub leaves : IfSome now.leaves (λ x. IsTrue (m.fits_out x))
+  pub args : ArgsFit m now.args
+  pub leaves : IfSome now.leaves (OutFits m)
+
+-- Where an activation ends with `Out`, its leaves fit.
+abbrev pub ResultFits : {A O : Type 0} → Meaning A O → Asked O → Type 0
+ResultFits m Turn = Unit {0}
+ResultFits m (Out leaves) = IfSome leaves (OutFits m)
+ResultFits m Deep = Unit {0}

@@ -1,8 +1,14 @@
 pub mod Absorbing
 pub mod Activation
+pub mod Answer
+pub mod Driving
+pub mod Evaluation
+pub mod Fitting
 pub mod Laws
 pub mod Leaves
 pub mod Meaning
 pub mod Measure
+pub mod Moves
 pub mod Rule
 pub mod Turns
+pub mod Views

@@ -1,7 +1,9 @@
 //! What follows a turn.
 
-ghost use Rattle.std.specs.Prelude.{◌≡◌, IfOk, IsTrue};
+ghost use Rattle.std.specs.Prelude.{◌≡◌, IfOk};
 ghost use Rattle.recursion_fix.specs.Activation.{after_next};
+ghost use Rattle.recursion_fix.specs.Meaning.{ArgsFit};
+ghost use Rattle.recursion_fix.specs.Views as view;
 
 use crate::{Policy, Turn};
 use std::alloc::{AllocError, Global};
@@ -25,9 +27,9 @@ pub fn after_asking<T: Turn>(
     args: &T::Args,
     next: T::Args,
 ) -> Result<After<T::Args>, AllocError>
-    requires args_fit { IsTrue ((T.meaning turn.old).fits_args args.now) }
-    requires next_fit { IsTrue ((T.meaning turn.old).fits_args next) }
-    ensures value { IfOk result (λ r. r ≡ after_next (T.meaning turn.old) left args.now next) }
+    requires args_fit { ArgsFit (T.meaning turn.old) (T.args_view args.now) }
+    requires next_fit { ArgsFit (T.meaning turn.old) (T.args_view next) }
+    ensures value { IfOk result (λ r. view.after T.args_view r ≡ after_next (T.meaning turn.old).moves left (T.args_view args.now) (T.args_view next)) }
     ensures kept { T.meaning turn.new ≡ T.meaning turn.old }
 {
     match left {

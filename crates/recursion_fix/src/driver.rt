@@ -1,8 +1,11 @@
 //! The driver of an activation.
 
-ghost use Rattle.std.specs.Prelude.{◌≡◌, IfOk, IfSome, IsTrue};
-ghost use Rattle.recursion_fix.specs.Activation.{Answers, Fits, HasTurn, start};
-ghost use Rattle.recursion_fix.specs.Measure.{LowersRankUnder, Falls};
+ghost use Rattle.std.specs.Prelude.{◌≡◌, ◌↔◌, IfOk, IfSome, IsTrue, option_map};
+ghost use Rattle.recursion_fix.specs.Activation.{Answers, Fits, HasTurn, ResultFits, start};
+ghost use Rattle.recursion_fix.specs.Meaning.{ArgsFit, OutFits};
+ghost use Rattle.recursion_fix.specs.Measure.{CanEnd, Falls};
+ghost use Rattle.recursion_fix.specs.Views as view;
+ghost use Rattle.recursion_fix.specs.Views.{activation as plain};
 ghost use Rattle.recursion_fix.specs.declared.asked.Asked.TheVariants.{Turn};
 
 use crate::after::{After, after_asking};
@@ -66,14 +69,17 @@ impl<T: Turn> Driver<T> {
         next: Option<T::Args>,
     ) -> Result<Asked<T::Out>, AllocError>
         requires running { IsTrue self.old.running }
-        requires fits { Fits (T.meaning turn.old) self.old }
-        requires out_fits { IfSome out (λ x. IsTrue ((T.meaning turn.old).fits_out x)) }
-        requires next_fits { IfSome next (λ x. IsTrue ((T.meaning turn.old).fits_args x)) }
+        requires fits { Fits (T.meaning turn.old) (plain T.args_view T.out_view self.old) }
+        requires out_fits { IfSome (option_map T.out_view out) (OutFits (T.meaning turn.old)) }
+        requires next_fits { IfSome (option_map T.args_view next) (ArgsFit (T.meaning turn.old)) }
 
-        ensures answer { IfOk result (λ asked. Answers (T.meaning turn.old) self.old out next asked self.new) }
-        ensures fits { IfOk result (λ asked. asked ≡ Turn → Fits (T.meaning turn.old) self.new) }
+        ensures answer { IfOk result (λ asked. Answers (T.meaning turn.old).moves (plain T.args_view T.out_view self.old) (option_map T.out_view out) (option_map T.args_view next) (view.asked T.out_view asked) (plain T.args_view T.out_view self.new)) }
+        ensures running { IfOk result (λ asked. IsTrue self.new.running ↔ asked ≡ Turn) }
+        ensures fits { IfOk result (λ asked. asked ≡ Turn → Fits (T.meaning turn.old) (plain T.args_view T.out_view self.new)) }
+        ensures result_fits { IfOk result (λ asked. ResultFits (T.meaning turn.old) (view.asked T.out_view asked)) }
         // Each further turn lowers a measure, so there are finitely many.
-        ensures falls { IfOk result (λ asked. asked ≡ Turn → LowersRankUnder (T.meaning turn.old) self.old.left → Falls (T.meaning turn.old) self.old self.new) }
+        ensures can_end { IfOk result (λ asked. asked ≡ Turn → CanEnd (T.meaning turn.old) self.old.left → CanEnd (T.meaning turn.old) self.new.left) }
+        ensures falls { IfOk result (λ asked. asked ≡ Turn → CanEnd (T.meaning turn.old) self.old.left → Falls (T.meaning turn.old).rank (plain T.args_view T.out_view self.old) (plain T.args_view T.out_view self.new)) }
         ensures kept { T.meaning turn.new ≡ T.meaning turn.old }
     {
         prove!(self.running);

@@ -1,7 +1,8 @@
 //! The joins of leaves.
 
-ghost use Rattle.std.specs.Prelude.{◌≡◌, IfOk, IfSome, IsTrue};
+ghost use Rattle.std.specs.Prelude.{◌≡◌, IfOk, IfSome, option_map};
 ghost use Rattle.recursion_fix.specs.Leaves.{join_leaves};
+ghost use Rattle.recursion_fix.specs.Meaning.{OutFits};
 
 use crate::Turn;
 use std::alloc::{AllocError, Global};
@@ -13,9 +14,9 @@ pub fn join_of_leaves<T: Turn>(
     before: Option<T::Out>,
     out: Option<T::Out>,
 ) -> Result<Option<T::Out>, AllocError>
-    requires before_fit { IfSome before (λ x. IsTrue ((T.meaning turn.old).fits_out x)) }
-    requires out_fits { IfSome out (λ x. IsTrue ((T.meaning turn.old).fits_out x)) }
-    ensures value { IfOk result (λ r. r ≡ join_leaves (T.meaning turn.old) before out) }
+    requires before_fit { IfSome (option_map T.out_view before) (OutFits (T.meaning turn.old)) }
+    requires out_fits { IfSome (option_map T.out_view out) (OutFits (T.meaning turn.old)) }
+    ensures value { IfOk result (λ r. option_map T.out_view r ≡ join_leaves (T.meaning turn.old).moves (option_map T.out_view before) (option_map T.out_view out)) }
     ensures kept { T.meaning turn.new ≡ T.meaning turn.old }
 {
     match (before, out) {

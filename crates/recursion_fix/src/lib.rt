@@ -62,22 +62,45 @@
 //! absorb the next ones is of lesser rank. Above, the rank may be how many ends are not at 0 or 99.
 //! That widening lowers the rank is for the user to know, and only under `Widen`.
 //!
+//! Where no rank is above a height, both are one number, `measure` of `specs/Measure.antt`: in the
+//! example, with height 2, it is 3 times the turns that are left, and the rank. A loop that drives an
+//! activation has it as its measure.
+//!
 //! # What is proved, and what is not
 //!
-//! `give` answers by the step that `specs/Activation.antt` defines, from what is left of the policy.
-//! `specs/Rule.antt` says the rule once more, of whole lists of turns and by their numbers, and the
-//! law `drivers_follow_the_rule` says that a driver takes a list of turns to an answer exactly where
-//! the rule has them. The law `drivers_end` says that there is such a list whatever turns give, and
-//! `activations_are_settled` that there is no other.
+//! Contracts see arguments and results as the plain data that a `Turn` names, and an activation by
+//! `specs/Views.antt`. `give` answers by the step that `specs/Activation.antt` defines, from what is left
+//! of the policy. The driver runs exactly after `Turn`; then what it holds fits, what is left can end,
+//! and the measure is lower. The leaves of `Out` fit.
 //!
-//! Four more laws are for proofs that the result of an activation describes whatever its turns
+//! `specs/Rule.antt` says the rule once more, of whole lists of turns and by their numbers, and the
+//! law `drivers_follow_the_rule` says that a driver takes a list of turns exactly where the rule has
+//! them. The rule looks at four operations alone, `specs/Moves.antt`; laws that need to know which
+//! arguments and results fit, or a rank, take these apart. Their lemmas in proofs/ hold of every
+//! property, where a contract can range over tests alone.
+//!
+//! Six laws are for proofs that the result of an activation describes whatever its turns
 //! stand for. `turns_are_in_order` says the rule by the numbers of turns. `last_arguments_absorb`
 //! says that under `Widen` the arguments of the last turn absorb those of each turn past the first
 //! `unroll`. `arguments_are_met` says that whatever a turn asks for, some turn of an activation that is
 //! not too deep is on that or on what absorbs it. `leaves_are_part` says that the leaves of each such
 //! turn are part of the result. Two of them ask that joins and widenings absorb both of what they are
 //! made of, `arguments_are_met` only under `Widen`; `last_arguments_absorb` also asks that absorption
-//! is reflexive and transitive. The tests have turns of which all this holds.
+//! is reflexive and transitive. `turns_fit` and `results_fit` say that all turns are on arguments that
+//! fit, and that the result fits. The tests have turns of which all this holds.
+//!
+//! # Turns as a function
+//!
+//! What a turn gives may be a function of its arguments and of a state that goes from turn to turn, as
+//! the log of an evaluation. `specs/Evaluation.antt` says what an activation of such turns gives
+//! (`IsAnswer`): the joined leaves and the state behind the last turn; or a failure, which is that of
+//! the first turn that fails itself, or `deep` where no turn is left. There is one answer at most
+//! (`answers_are_one`), and there is one: under `Stop` always (`stopped_answers_exist`), under `Widen`
+//! where the widening lowers the rank (`widened_answers_exist`). It looks at turns on arguments that
+//! fit alone (`answers_carry_over`), it fits (`answers_fit`), under `Widen` it fails only where a turn
+//! does (`widened_answers_succeed`), and each turn of an activation that does not fail was evaluated
+//! (`turns_are_evaluated`). For a loop over a driver, `answers_are_driven` gives its invariant at the
+//! start, `Remaining` of `specs/Driving.antt`, and `turns_go_on` carries it through each turn.
 //!
 //! After `AllocError` of `give` nothing is said of the driver, and a body that answers nothing but
 //! this error is not refused by any contract: the tests call each function with ample memory.
@@ -94,8 +117,10 @@ mod turn;
 pub use asked::Asked;
 pub use driver::Driver;
 pub use laws::{
-    activations_are_settled, arguments_are_met, drivers_end, drivers_follow_the_rule,
-    last_arguments_absorb, leaves_are_part, turns_are_in_order,
+    answers_are_driven, answers_are_one, answers_carry_over, answers_fit, arguments_are_met,
+    drivers_follow_the_rule, last_arguments_absorb, leaves_are_part, measures_fall, results_fit,
+    stopped_answers_exist, turns_are_evaluated, turns_are_in_order, turns_fit, turns_go_on,
+    widened_answers_exist, widened_answers_succeed,
 };
 pub use policy::Policy;
 pub use turn::Turn;

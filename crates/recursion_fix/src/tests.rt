@@ -1,11 +1,14 @@
 ghost use Rattle.std.specs.Prelude.{◌≤◌, IfSome, IsTrue};
 ghost use Rattle.recursion_fix.specs.Absorbing.{Absorbing, AbsorptionOrders};
 ghost use Rattle.recursion_fix.specs.Activation.{HasTurn};
-ghost use Rattle.recursion_fix.specs.Meaning.{WideningLowersRank};
+ghost use Rattle.recursion_fix.specs.Fitting.{WideningLowersRank};
+ghost use Rattle.recursion_fix.specs.Meaning.{ArgsFit};
 
 use crate::{
-    Asked, Driver, Policy, Turn, activations_are_settled, arguments_are_met, drivers_end,
-    drivers_follow_the_rule, last_arguments_absorb, leaves_are_part, turns_are_in_order,
+    Asked, Driver, Policy, Turn, answers_are_driven, answers_are_one, answers_carry_over,
+    answers_fit, arguments_are_met, drivers_follow_the_rule, last_arguments_absorb,
+    leaves_are_part, measures_fall, results_fit, stopped_answers_exist, turns_are_evaluated,
+    turns_are_in_order, turns_fit, turns_go_on, widened_answers_exist, widened_answers_succeed,
 };
 use std::alloc::{AllocError, Global};
 use std::process::Abort;
@@ -28,23 +31,30 @@ struct Intervals;
 impl Turn for Intervals {
     ghost use Rattle.std.proofs.Common.{arith};
     ghost use Rattle.std.proofs.lemmas.Bool.Decides.{nat_tests};
-    ghost use Rattle.std.specs.Prelude.{true, refl, min, max, nat_le, nat_lt, ◌&&◌, ◌==◌, ◌+◌, if◌then◌else◌};
+    ghost use Rattle.std.specs.Prelude.{ℕ, true, refl, min, max, nat_le, nat_lt, ◌&&◌, ◌==◌, ◌+◌, if◌then◌else◌};
 
     type Args = Interval;
 
     type Out = Interval;
 
+    ghost PlainArgs = { ℕ × ℕ };
+
+    ghost PlainOut = { ℕ × ℕ };
+
+    ghost args_view = { λ x. (x.low, x.high) };
+
+    ghost out_view = { λ x. (x.low, x.high) };
+
     ghost meaning = { λ _. record {
-      fits_args = λ x. nat_le x.high 99;
-      fits_out = λ _. true;
-      join_out = λ x y. record { low = min x.low y.low; high = max x.high y.high };
-      join_args = λ x y. record { low = min x.low y.low; high = max x.high y.high };
-      widen_args = λ old new. record {
-        low = if nat_lt new.low old.low then 0 else old.low;
-        high = if nat_lt old.high new.high then 99 else old.high;
+      moves = record {
+        join_out = λ x y. (min x.0 y.0, max x.1 y.1);
+        join_args = λ x y. (min x.0 y.0, max x.1 y.1);
+        widen_args = λ old new. ((if nat_lt new.0 old.0 then 0 else old.0), (if nat_lt old.1 new.1 then 99 else old.1));
+        absorbs = λ old new. nat_le old.0 new.0 && nat_le new.1 old.1;
       };
-      absorbs = λ old new. nat_le old.low new.low && nat_le new.high old.high;
-      rank = λ x. (if x.low == 0 then 0 else 1) + (if x.high == 99 then 0 else 1);
+      fits_args = λ x. nat_le x.1 99;
+      fits_out = λ _. true;
+      rank = λ x. (if x.0 == 0 then 0 else 1) + (if x.1 == 99 then 0 else 1);
     } };
 
     fn join_out(
@@ -89,9 +99,11 @@ impl Turn for Intervals {
     }
 
     ghost keeps_fit = { λ _. record {
-      join_out = λ _ _ _ _. refl;
-      join_args = λ x y p q. Prim.grind (arith, nat_tests);
-      widen_args = λ x y p q. Prim.grind (arith, nat_tests);
+      args = record {
+        join_args = λ x y p q. Prim.grind (arith, nat_tests);
+        widen_args = λ x y p q. Prim.grind (arith, nat_tests);
+      };
+      out = record { join_out = λ _ _ _ _. refl };
     } };
 }
 
@@ -355,19 +367,29 @@ fn joins_the_leaves_of_all_turns(rt: HostRuntime) -> Result<(), Fail> {
 
 /// What the laws ask of turns holds of these.
 fn intervals_absorb(turns: &Intervals)
-    ensures absorbing { Absorbing (⟦<Intervals as Turn>⟧.meaning turns.now) }
-    ensures orders { AbsorptionOrders (⟦<Intervals as Turn>⟧.meaning turns.now) }
-    ensures falls { WideningLowersRank (⟦<Intervals as Turn>⟧.meaning turns.now) }
+    ensures absorbing { let m = ⟦<Intervals as Turn>⟧.meaning turns.now in Absorbing m.moves (ArgsFit m) }
+    ensures orders { let m = ⟦<Intervals as Turn>⟧.meaning turns.now in AbsorptionOrders m.moves (ArgsFit m) }
+    ensures falls { let m = ⟦<Intervals as Turn>⟧.meaning turns.now in WideningLowersRank m.moves (ArgsFit m) m.rank }
 {}
 
 #[test]
 fn has_laws() {
     intervals_absorb(&Intervals);
-    drivers_follow_the_rule::<Intervals>();
-    drivers_end::<Intervals>();
-    activations_are_settled::<Intervals>();
-    turns_are_in_order::<Intervals>();
-    last_arguments_absorb::<Intervals>();
-    arguments_are_met::<Intervals>();
-    leaves_are_part::<Intervals>();
+    drivers_follow_the_rule::<Interval, Interval>();
+    measures_fall::<Interval, Interval>();
+    turns_are_in_order::<Interval, Interval>();
+    turns_fit::<Interval, Interval>();
+    results_fit::<Interval, Interval>();
+    last_arguments_absorb::<Interval, Interval>();
+    arguments_are_met::<Interval, Interval>();
+    leaves_are_part::<Interval, Interval>();
+    answers_are_one::<u32, u64, Interval, Interval>();
+    stopped_answers_exist::<u32, u64, Interval, Interval>();
+    widened_answers_exist::<u32, u64, Interval, Interval>();
+    answers_carry_over::<u32, u64, Interval, Interval>();
+    answers_fit::<u32, u64, Interval, Interval>();
+    widened_answers_succeed::<u32, u64, Interval, Interval>();
+    turns_are_evaluated::<u32, u64, Interval, Interval>();
+    answers_are_driven::<u32, u64, Interval, Interval>();
+    turns_go_on::<u32, u64, Interval, Interval>();
 }

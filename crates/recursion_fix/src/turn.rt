@@ -1,7 +1,7 @@
 //! What a driver needs of the turns that it drives.
 
-ghost use Rattle.std.specs.Prelude.{◌≡◌, IfOk, IsTrue};
-ghost use Rattle.recursion_fix.specs.Meaning.{KeepsFit, Meaning};
+ghost use Rattle.std.specs.Prelude.{◌≡◌, IfOk};
+ghost use Rattle.recursion_fix.specs.Meaning.{ArgsFit, KeepsFit, Meaning, OutFits};
 
 use std::alloc::{AllocError, Global};
 
@@ -14,8 +14,17 @@ pub trait Turn {
     /// The joined leaves of a turn.
     type Out: Drop;
 
+    /// What arguments and results are as plain data.
+    ghost PlainArgs: { Type 0 };
+
+    ghost PlainOut: { Type 0 };
+
+    ghost args_view: { Self.Args → PlainArgs };
+
+    ghost out_view: { Self.Out → PlainOut };
+
     /// What the calls mean.
-    ghost meaning: { Self → Meaning Self.Args Self.Out };
+    ghost meaning: { Self → Meaning PlainArgs PlainOut };
 
     /// The join of two results.
     fn join_out(
@@ -24,9 +33,9 @@ pub trait Turn {
         x: &Self::Out,
         y: &Self::Out,
     ) -> Result<Self::Out, AllocError>
-        requires x_fits { IsTrue ((meaning self.old).fits_out x.now) }
-        requires y_fits { IsTrue ((meaning self.old).fits_out y.now) }
-        ensures value { IfOk result (λ r. r ≡ (meaning self.old).join_out x.now y.now) }
+        requires x_fits { OutFits (meaning self.old) (out_view x.now) }
+        requires y_fits { OutFits (meaning self.old) (out_view y.now) }
+        ensures value { IfOk result (λ r. out_view r ≡ (meaning self.old).moves.join_out (out_view x.now) (out_view y.now)) }
         ensures kept { meaning self.new ≡ meaning self.old };
 
     /// The join of two arguments.
@@ -36,9 +45,9 @@ pub trait Turn {
         x: &Self::Args,
         y: &Self::Args,
     ) -> Result<Self::Args, AllocError>
-        requires x_fits { IsTrue ((meaning self.old).fits_args x.now) }
-        requires y_fits { IsTrue ((meaning self.old).fits_args y.now) }
-        ensures value { IfOk result (λ r. r ≡ (meaning self.old).join_args x.now y.now) }
+        requires x_fits { ArgsFit (meaning self.old) (args_view x.now) }
+        requires y_fits { ArgsFit (meaning self.old) (args_view y.now) }
+        ensures value { IfOk result (λ r. args_view r ≡ (meaning self.old).moves.join_args (args_view x.now) (args_view y.now)) }
         ensures kept { meaning self.new ≡ meaning self.old };
 
     /// The widening of the old arguments by the new.
@@ -48,16 +57,16 @@ pub trait Turn {
         old: &Self::Args,
         new: &Self::Args,
     ) -> Result<Self::Args, AllocError>
-        requires old_fits { IsTrue ((meaning self.old).fits_args old.now) }
-        requires new_fits { IsTrue ((meaning self.old).fits_args new.now) }
-        ensures value { IfOk result (λ r. r ≡ (meaning self.old).widen_args old.now new.now) }
+        requires old_fits { ArgsFit (meaning self.old) (args_view old.now) }
+        requires new_fits { ArgsFit (meaning self.old) (args_view new.now) }
+        ensures value { IfOk result (λ r. args_view r ≡ (meaning self.old).moves.widen_args (args_view old.now) (args_view new.now)) }
         ensures kept { meaning self.new ≡ meaning self.old };
 
     /// Whether the old arguments absorb the new, so that nothing is gained by a turn on both.
     fn absorbs(&self, old: &Self::Args, new: &Self::Args) -> bool
-        requires old_fits { IsTrue ((meaning self.now).fits_args old.now) }
-        requires new_fits { IsTrue ((meaning self.now).fits_args new.now) }
-        ensures { result ≡ (meaning self.now).absorbs old.now new.now };
+        requires old_fits { ArgsFit (meaning self.now) (args_view old.now) }
+        requires new_fits { ArgsFit (meaning self.now) (args_view new.now) }
+        ensures { result ≡ (meaning self.now).moves.absorbs (args_view old.now) (args_view new.now) };
 
     /// What is joined or widened from what fits fits.
     ghost keeps_fit: { (turn : Self) → KeepsFit (meaning turn) };

@@ -1,5 +1,6 @@
+use Rattle.std.proofs.Common.{IsTrue}
 use Rattle.recursion_fix.proofs.Absorbed.{arguments_are_met}
 use Rattle.recursion_fix.proofs.laws.arguments_are_met.Goals as goal
 
 pub returns : goal.returns
-returns g c = arguments_are_met
+returns g c = λ fits. arguments_are_met (λ x. IsTrue (fits x))

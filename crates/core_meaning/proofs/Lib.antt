@@ -1,0 +1,13 @@
+pub mod Order
+pub mod Lists
+pub mod Named
+pub mod Both
+pub mod SameValues
+pub mod SameTails
+pub mod SameRuns
+pub mod NamedTypes
+pub mod Known
+pub mod Shaped
+pub mod Decides
+pub mod Chosen
+pub mod CoreTyped

@@ -1,0 +1,5 @@
+pub mod Places
+pub mod CoreTypes
+pub mod CoreCalls
+pub mod CoreDirect
+pub mod Laws

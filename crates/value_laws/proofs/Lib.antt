@@ -1,0 +1,5 @@
+pub mod Absorbing
+pub mod Both
+pub mod Joining
+pub mod Ranks
+pub mod Widening

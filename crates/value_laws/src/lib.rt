@@ -1,0 +1,23 @@
+//! Values of abstract words as plain data, and their laws over any base.
+//!
+//! A value is a flag, a word, a constructor value or a map (specs/Abs). A flag describes the truth values that it may be,
+//! a constructor value the tuple of each constructor that is present, part by part, and nothing made by one that is
+//! missing (specs/Describes). With sets as words, `{ None: present, Some: [{1, 2}] }` describes `None`, `Some(1)` and
+//! `Some(2)`.
+//!
+//! *Calls* go part by part (specs/Calls). Join and widening are one recursion, `merge_of`, over what is done with two words
+//! and with two maps: constructor by constructor, where one that is on one side alone comes as it is. So
+//! `{ None: present }` and `{ Some: [{1}] }` merge to `{ None: present, Some: [{1}] }`. They are total: two values that
+//! are not of one type give the first. What absorbs has to have each constructor that the other has.
+//!
+//! *Shapes* (specs/Shapes). A type is a finite tree, since no datatype contains itself, and a value of it has its shape. A
+//! rank is counted along the shape: a missing constructor is one more than the greatest rank that its fields can have, so
+//! that it falls where the constructor comes.
+//!
+//! *What every user may rest on* (specs/Laws). What absorbs describes all that the other does; absorption is reflexive and
+//! transitive. Of two values of one shape, join and widening describe what either does and absorb both. Widening gives
+//! the old value where it absorbs the new one, and else one of lesser rank, by each list of stamps that holds those of
+//! both; a rank is at most the height of the shape. Results fit, have the shape, and list no stamp that was not lent.
+#![tactic(auto)]
+
+pub mod laws;
