@@ -10,6 +10,7 @@ pub mod Leads
 pub mod Least
 pub mod Members
 pub mod Places
+pub mod Multiples
 pub mod OneRank
 pub mod Powers
 pub mod Ranks

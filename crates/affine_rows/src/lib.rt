@@ -55,11 +55,13 @@
 //!
 //! `Rows` is a submodule. `Rows::new` takes all the memory that it will ever need: k is at most 64, and
 //! each column has a place for a row of 65 numbers. No other call takes memory or fails.
+//! `Rows::multiple` tells whether a cell is one multiple of the first number in each member, and gives the
+//! least: with (2, 10) alone inserted the cell is 5 times the first number.
 //! Contracts see a `Rows` as `Submodule` of specs/Submodule: k and the rows that generate it, in the order
 //! of `row`, from the greatest leading column down. Which rows they are is left open; what they generate,
 //! by `IsMember`, is what each contract says. specs/Submodule has the values of forms too, specs/Rank the
-//! rank by its members, and specs/Laws the laws that the functions of `laws` ensure. Proofs elsewhere
-//! cite them as lemmas of proofs/Closure (`closed_under_sums`, `closed_under_multiples`, `holds_zero`,
+//! rank by its members, specs/Multiples which multiples cells are, and specs/Laws the laws that the functions of
+//! `laws` ensure. Proofs elsewhere cite them as lemmas of proofs/Closure (`closed_under_sums`, `closed_under_multiples`, `holds_zero`,
 //! `rows_are_members`, `append_joins`, `image_grows`), proofs/Least (`members_are_least`, `rows_within`,
 //! `relations_hold`), proofs/Ranks (`rank_falls`, `rank_is_bounded`), proofs/OneRank (`has_one_rank`) and
 //! proofs/Equal (`equal_forms`).

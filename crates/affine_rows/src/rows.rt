@@ -1,11 +1,12 @@
 //! Submodules as their kept rows.
 
-ghost use Rattle.std.specs.Prelude.{◌≡◌, ℕ, ◌+◌, ◌≤◌, ◌<◌, ◌↔◌, IsTrue, IfOk, MatchBool, length, List, [], slice_get, take, Some};
+ghost use Rattle.std.specs.Prelude.{◌≡◌, ℕ, ◌+◌, ◌≤◌, ◌<◌, ◌↔◌, IsTrue, IfNone, IfOk, IfSome, MatchBool, length, List, [], slice_get, take, Some};
+ghost use Rattle.affine_rows.specs.Multiples.{IsLeastMultiple, IsMultiple};
 ghost use Rattle.affine_rows.specs.Rank.{IsRank};
 ghost use Rattle.affine_rows.specs.Submodule.{Adds, IsImage, IsMember, Submodule, unit_row};
 
 use super::forms::{Form, add_values, forget};
-use super::slots::{exponents, holds, kept_count, kept_place, take_in, zero_slots};
+use super::slots::{exponents, holds, kept_count, kept_place, multiple, take_in, zero_slots};
 use super::vector::{Vector, unit_vector};
 use std::alloc::{AllocError, Global};
 use std::marker::Model;
@@ -106,5 +107,15 @@ impl Rows {
         ensures { IsRank self.now.k self.now.rows result }
     {
         exponents(&self.slots)
+    }
+
+    /// The least c such that in each member the cell's number is c times the first, if there is one. With (2, 10)
+    /// alone inserted it is 5; with (0, 1) inserted too there is none.
+    pub fn multiple(&self, cell: u32) -> Option<u32>
+        requires { cell < self.now.k }
+        ensures some { IfSome result (λ c. IsLeastMultiple self.now.k self.now.rows cell c) }
+        ensures none { IfNone result ((c : ℕ) → IsMultiple self.now.k self.now.rows cell c → ⊥) }
+    {
+        multiple(&self.slots, cell as usize + 1)
     }
 }

@@ -20,6 +20,7 @@ enum Step {
     Len(u32),
     Row(u32, &'static [u32]),
     Rank(u64),
+    Multiple(u32, Option<u32>),
 }
 
 fn are_equal(x: &[u32], y: &[u32]) -> bool {
@@ -50,13 +51,47 @@ fn follow(rt: &impl Abort, rows: &mut Rows, k: u32, steps: &[Step])
                 assert!(rt; are_equal(rows.row(*i), row));
             }
             Step::Rank(rank) => assert_eq!(rt; rows.rank(), *rank),
+            Step::Multiple(cell, multiple) => {
+                assert!(rt; *cell < k);
+                assert_eq!(rt; rows.multiple(*cell), *multiple);
+            }
         }
     }
 }
 
 #[test]
 fn members(rt: HostRuntime) -> Result<(), Fail> {
-    let table: [(u32, &[Step]); 7] = [
+    let table: [(u32, &[Step]); 10] = [
+        (
+            1,
+            &[
+                Step::Multiple(0, Some(0)),
+                Step::Insert(&[2, 10], true),
+                Step::Multiple(0, Some(5)),
+                Step::Insert(&[0, 1], true),
+                Step::Multiple(0, None),
+            ],
+        ),
+        (
+            1,
+            &[
+                Step::Insert(&[0x8000_0000, 0x8000_0000], true),
+                Step::Multiple(0, Some(1)),
+                Step::Insert(&[3, 6], true),
+                Step::Multiple(0, None),
+            ],
+        ),
+        (
+            2,
+            &[
+                Step::Insert(&[3, 6, 1], true),
+                Step::Multiple(0, Some(2)),
+                Step::Multiple(1, Some(0xaaaa_aaab)),
+                Step::Insert(&[0, 0, 4], true),
+                Step::Multiple(0, Some(2)),
+                Step::Multiple(1, None),
+            ],
+        ),
         (
             1,
             &[

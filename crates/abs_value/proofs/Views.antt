@@ -1,0 +1,21 @@
+-- The view of a value made from its parts.
+use Rattle.std.proofs.Common.{◌≡◌, ℕ, List, [], ◌∷◌, map, Option, Some, None, Vec, Global, refl, sym, ap, ◌∙◌}
+use Rattle.value_laws.specs.Abs.{Abs, made, cases, parts}
+use Rattle.value_laws.specs.Abs as v
+use Rattle.map_laws.specs.Maps as maps
+use Rattle.abs_value.specs.View.{abs, case_of, seen, abs_step}
+use Rattle.abs_value.specs.declared.value.AV.{AV, Data, Map, fold-roll-AV}
+use Rattle.abs_value.specs.declared.value.AV.TheOpen.{AV-F}
+use Rattle.abs_value.specs.declared.value.AV.TheVariants.{rolls-Data, rolls-Map}
+use Rattle.abs_value.specs.declared.value.AV.TheShapes.{former-AV-Data-1-at-2}
+
+cases_seen : (X W N C : Type 0) (cs : List (Option (Vec (AV X W N C) Global))) → map seen (map ((former-AV-Data-1-at-2 X W N C).map (AV X W N C) (Abs W N) abs) cs) ≡ map case_of cs
+cases_seen X W N C [] = refl
+cases_seen X W N C (None ∷ cs) = ap (λ l. None ∷ l) (cases_seen X W N C cs)
+cases_seen X W N C (Some v ∷ cs) = ap (λ l. Some (parts (map abs v.items)) ∷ l) (cases_seen X W N C cs)
+
+pub abs_Data : {X W N C : Type 0} (ty : ℕ) (v : Vec (Option (Vec (AV X W N C) Global)) Global) → abs (Data ty v) ≡ made ty (cases (map case_of v.items))
+abs_Data {X} {W} {N} {C} ty v = ap abs (sym (rolls-Data ty v)) ∙ fold-roll-AV X W N C (Abs W N) (abs_step X W N C) (AV-F.Data ty v) ∙ ap (λ l. made ty (cases l)) (cases_seen X W N C v.items)
+
+pub abs_Map : (X C : Type 0) {W N : Type 0} (n : ℕ) (m : maps.Map W N) → abs {X = X} {W = W} {N = N} {C = C} (Map n m) ≡ v.map n m
+abs_Map X C {W} {N} n m = ap abs (sym (rolls-Map n m)) ∙ fold-roll-AV X W N C (Abs W N) (abs_step X W N C) (AV-F.Map n m)

@@ -1,0 +1,162 @@
+//! The value of a concrete one.
+
+ghost use Rattle.std.specs.Prelude.{◌≡◌, ◌<◌, ◌^◌, IfOk, OnOk, ◌++◌, map, slice_get, replicate, None};
+ghost use Rattle.word_ops.specs.Width.{IsWidth};
+ghost use Rattle.map_laws.specs.Cells.{CellFits};
+ghost use Rattle.map_laws.specs.Maps.{Fits};
+ghost use Rattle.spec_types.specs.Views.{specification};
+ghost use Rattle.tsl_values.specs.Types.{environment_of};
+ghost use Rattle.tsl_values.specs.Values.{vals};
+ghost use Rattle.tsl_values.specs.Views.{val};
+ghost use Rattle.value_laws.specs.Abs.{cases, parts};
+ghost use Rattle.value_types.specs.OfValues as of;
+ghost use Rattle.value_types.specs.OfValues.{MapFits, ValueFits, ValuesFit, case_count, map_at, note_of, one_case};
+ghost use Rattle.value_types.specs.TypeShapes.{width_of};
+ghost use Rattle.abs_value.specs.View.{abs, case_of};
+
+use super::value::AV;
+use abs_map::AMap;
+use base_trait::{Base, Stamped, Tri};
+use map_laws::Cell;
+use spec_types::Spec;
+use std::alloc::{AllocError as NoMemory, Global};
+use tsl_values::{MapValue, Value};
+
+/// The value that describes a concrete one.
+#[cycle(of_value)]
+pub(crate) fn of_value<B: Base>(
+    alloc: Global,
+    ctx: &B::Ctx,
+    spec: &Spec,
+    v: &Value,
+) -> Result<AV<B>, NoMemory>
+    requires value { ValueFits (environment_of (specification spec.now)) (val v.now) }
+    ensures { IfOk result (λ r. abs r ≡ of.of_value B.algebra ctx.now B.CAP (environment_of (specification spec.now)) (val v.now)) }
+{
+    match v {
+        Value::Flag(b) => Ok(AV::Flag(Tri {
+            may_true: *b,
+            may_false: !*b,
+        })),
+        Value::Word { w, v } => Ok(AV::Word {
+            w: *w,
+            x: B::constant(alloc, ctx, *w, *v)?,
+        }),
+        Value::Made { ty, case, parts } => {
+            let parts = of_values(alloc, ctx, spec, parts)?;
+            Ok(AV::Data {
+                ty: *ty,
+                cases: one_case(alloc, case_count(spec, *ty), *case as usize, parts)?,
+            })
+        }
+        Value::Map(m) => Ok(AV::Map {
+            map: m.map,
+            m: of_map(alloc, ctx, map_width(spec, m.map), m)?,
+        }),
+    }
+}
+
+/// The values of several.
+#[cycle(of_value)]
+fn of_values<B: Base>(
+    alloc: Global,
+    ctx: &B::Ctx,
+    spec: &Spec,
+    values: &[Value],
+) -> Result<Vec<AV<B>>, NoMemory>
+    requires value { ValuesFit (environment_of (specification spec.now)) (vals (map val values.now)) }
+    ensures { IfOk result (λ r. parts (map abs r.items) ≡ of.of_values B.algebra ctx.now B.CAP (environment_of (specification spec.now)) (vals (map val values.now))) }
+{
+    let mut out = Vec::with_capacity(alloc, values.len())?;
+    for value in values {
+        out.push(of_value(alloc, ctx, spec, value)?)?;
+    }
+    Ok(out)
+}
+
+/// How many constructors a datatype has.
+fn case_count(spec: &Spec, number: u32) -> usize
+    ensures { result ≡ case_count (environment_of (specification spec.now)) number }
+{
+    match spec.datas.get(number as usize) {
+        Some(data) => data.cases.len(),
+        None => 0,
+    }
+}
+
+/// The width of the words of a map type.
+fn map_width(spec: &Spec, number: u32) -> u32
+    ensures { result ≡ width_of (slice_get (specification spec.now).maps number) }
+{
+    match spec.maps.get(number as usize) {
+        Some(ty) => ty.width,
+        None => 0,
+    }
+}
+
+/// Of so many constructors one is present.
+fn one_case<B: Base>(
+    alloc: Global,
+    count: usize,
+    case: usize,
+    values: Vec<AV<B>>,
+) -> Result<Vec<Option<Vec<AV<B>>>>, NoMemory>
+    requires { case < count }
+    ensures { IfOk result (λ r. cases (map case_of r.items) ≡ one_case count case (parts (map abs values.items))) }
+{
+    let mut cases = Vec::with_capacity(alloc, count)?;
+    push_absent(&mut cases, case)?;
+    cases.push(Some(values))?;
+    push_absent(&mut cases, count - case - 1)?;
+    Ok(cases)
+}
+
+/// So many missing constructors, behind others.
+fn push_absent<T: Drop>(cases: &mut Vec<Option<T>>, count: usize) -> Result<(), NoMemory>
+    ensures { OnOk result (cases.new.items ≡ cases.old.items ++ replicate count None) }
+{
+    for _i in 0..count {
+        cases.push(None)?;
+    }
+    Ok(())
+}
+
+/// The map of the cells of a concrete one.
+fn of_map<B: Base>(alloc: Global, ctx: &B::Ctx, w: u32, m: &MapValue) -> Result<AMap<B>, NoMemory>
+    requires map { MapFits w m.now.rest m.now.cells.items }
+    ensures value { IfOk result (λ r. r ≡ map_at B.algebra ctx.now B.CAP w m.now.rest m.now.cells.items) }
+{
+    let mut cells = Vec::with_capacity(alloc, m.cells.len())?;
+    for (key, cell) in &m.cells {
+        cells.push((*key, of_cell::<B>(alloc, ctx, w, cell)?))?;
+    }
+    let rest = of_cell::<B>(alloc, ctx, w, &m.rest)?;
+    AMap::of_cells(alloc, ctx, w, rest, cells)
+}
+
+/// The cell of a concrete one.
+fn of_cell<B: Base>(
+    alloc: Global,
+    ctx: &B::Ctx,
+    w: u32,
+    cell: &tsl_values::Cell,
+) -> Result<Cell<B::Word, B::Note>, NoMemory>
+    requires width { IsWidth w }
+    requires number { cell.now.v < 2 ^ w }
+    ensures value { IfOk result (λ r. r ≡ of.cell_of B.algebra ctx.now w cell.now) }
+{
+    Ok(Cell {
+        word: B::constant(alloc, ctx, w, cell.v)?,
+        note: note_of::<B>(alloc, cell.stamp)?,
+    })
+}
+
+/// The note of a stamp.
+fn note_of<B: Base>(alloc: Global, stamp: Stamped) -> Result<B::Note, NoMemory>
+    ensures { IfOk result (λ r. r ≡ note_of B.algebra stamp) }
+{
+    match stamp {
+        Stamped::Entry => B::entry_note(alloc),
+        Stamped::At(at) => B::stamp_note(alloc, at),
+    }
+}

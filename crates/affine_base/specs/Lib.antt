@@ -1,0 +1,12 @@
+pub mod Compare
+pub mod Exact
+pub mod Forms
+pub mod Join
+pub mod Laws
+pub mod Linear
+pub mod Meaning
+pub mod Members
+pub mod Operations
+pub mod Results
+pub mod Same
+pub mod Words

@@ -1,0 +1,6 @@
+pub mod Closed
+pub mod Elements
+pub mod Membership
+pub mod Opened
+pub mod Tracked
+pub mod Units

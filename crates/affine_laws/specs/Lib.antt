@@ -1,0 +1,7 @@
+pub mod Closed
+pub mod Elements
+pub mod Entry
+pub mod Laws
+pub mod Membership
+pub mod Opened
+pub mod Tracked

@@ -1,0 +1,5 @@
+pub mod Calls
+pub mod Cells
+pub mod Entry
+pub mod Laws
+pub mod Lines

@@ -1,0 +1,4 @@
+pub mod Domain
+pub mod Entries
+pub mod States
+pub mod Values

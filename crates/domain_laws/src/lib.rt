@@ -1,0 +1,28 @@
+//! What a domain is, as definitions: elements that stand for sets of states, and the calls by which an instruction is
+//! evaluated on them.
+//!
+//! In an analysis an element stands at each code address. An instruction is not evaluated on the element itself, but on an
+//! abstract value of the type of states. So a domain has three calls besides those of `fixed_point` specs/Elements
+//! (specs/Domain): `entry` makes the element of an entry, `open` the state value of an element at an address, and `close`
+//! the element of the state value behind an instruction. Take intervals for the two words of a state behind its counter,
+//! with the element 0..9, 5..5. At 4096 it opens to the value `State(4096, 0..9, 5..5)`. An instruction that adds both and
+//! goes on gives `State(4100, 5..14, 5..5)`, and that closes to 5..14, 5..5. The counter is dropped: an element has the
+//! address at which it stands.
+//!
+//! *Worlds.* Words of a state value may be forms over the numbers that some cells, the tracked ones, had before the
+//! instruction. The world of a state is the list of these numbers. What an element opens to describes the state in the world
+//! of that state, and what closes describes the next state in the world before.
+//!
+//! *Laws* (`DomainLaws`). The entry's element holds of each state of the entry. Where an element holds of a state, what it
+//! opens to describes the state. Where a value describes the next state, what it closes to holds of that. No call lists a
+//! stamp that it was not lent. Elements that are the same open to one value, and close to elements that are the same.
+//!
+//! *States* (specs/States). Of a specification a domain needs to know the number of the datatype of states, and the fields
+//! behind the counter: each is a word, or a map with so many keys, a width and a default. An entry fits where each line names
+//! a cell that is there, and gives numbers of its width (specs/Entries). A state value is made by the one constructor of
+//! states, and its maps list keys of their types alone (specs/Values).
+#![tactic(auto)]
+
+mod field;
+
+pub use field::Field;

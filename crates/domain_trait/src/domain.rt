@@ -1,0 +1,121 @@
+//! The trait of domains.
+
+ghost use Rattle.std.specs.Prelude.{◌≡◌, ◌-◌, ◌^◌, Bool, min, IfOk, IsTrue};
+ghost use Rattle.spec_types.specs.Specification as plain;
+ghost use Rattle.spec_types.specs.Views.{specification};
+ghost use Rattle.tsl_values.specs.States.{State};
+ghost use Rattle.fixed_point.specs.Elements.{Elements};
+ghost use Rattle.domain_laws.specs.Domain.{DomainLaws, Meaning};
+ghost use Rattle.domain_laws.specs.Entries.{LinesFit};
+ghost use Rattle.domain_laws.specs.States.{state_type};
+ghost use Rattle.domain_laws.specs.Values.{IsStateValue};
+ghost use Rattle.abs_value.specs.View.{abs};
+
+use abs_value::AV;
+use base_trait::Base;
+use spec_types::Spec;
+use std::alloc::{AllocError as NoMemory, Global};
+use tsl_values::Entry;
+
+/// Elements of an analysis, each of which describes a set of states.
+///
+/// `elements` and `meaning` have the value of each call as a function, over plain elements; `laws` are what every user may
+/// rest on. A call answers an element that is the same as its value.
+pub trait Domain {
+    /// The words of its state values.
+    type B: Base;
+
+    /// What stands at an address.
+    type Elem: Drop;
+
+    /// What elements are as plain data.
+    ghost Plain: { Type 0 };
+
+    ghost view: { Self.Elem → Plain };
+
+    /// What an analysis needs of elements.
+    ghost elements: { Self → Elements Plain State };
+
+    /// What evaluation needs of them.
+    ghost meaning: { Self → Meaning Plain Self.B.Word Self.B.Note Self.B.Ctx };
+
+    /// Whether the domain is for a specification.
+    ghost is_for: { Self → plain.Spec → Bool };
+
+    /// A copy of what its words share.
+    fn ctx(&self, alloc: Global) -> Result<<Self::B as Base>::Ctx, NoMemory>
+        ensures value { IfOk result (λ r. r ≡ (meaning self.now).context) };
+
+    /// The element of an entry: it holds of each state of the entry.
+    fn entry(&self, alloc: Global, spec: &Spec, e: &Entry) -> Result<Self::Elem, NoMemory>
+        requires made { IsTrue (is_for self.now (specification spec.now)) }
+        requires lines { LinesFit (state_type (specification spec.now)).fields e.now.lines.items }
+        ensures value { IfOk result (λ r. (elements self.now).same (view r) ((meaning self.now).entry e.now.lines.items)) }
+        ensures fits { IfOk result (λ r. (elements self.now).fits (view r)) };
+
+    /// The state value of an element at an address. It describes each state of which the element holds.
+    fn open(
+        &self,
+        alloc: Global,
+        spec: &Spec,
+        x: &Self::Elem,
+        pc: u32,
+    ) -> Result<AV<Self::B>, NoMemory>
+        requires made { IsTrue (is_for self.now (specification spec.now)) }
+        requires fits { (elements self.now).fits (view x.now) }
+        ensures value { IfOk result (λ r. abs r ≡ (meaning self.now).opened pc (view x.now)) };
+
+    /// The element behind an instruction, where `before` stood before it and `value` is the state value that it gave. The
+    /// element holds of the next state, where the value describes that.
+    fn close(
+        &self,
+        alloc: Global,
+        spec: &Spec,
+        before: &Self::Elem,
+        value: &AV<Self::B>,
+    ) -> Result<Self::Elem, NoMemory>
+        requires made { IsTrue (is_for self.now (specification spec.now)) }
+        requires fits { (elements self.now).fits (view before.now) }
+        requires state { IsStateValue Self.B.algebra (meaning self.now).context Self.B.CAP (state_type (specification spec.now)) (abs value.now) }
+        ensures value { IfOk result (λ r. (elements self.now).same (view r) ((meaning self.now).closed (view before.now) (abs value.now))) }
+        ensures fits { IfOk result (λ r. (elements self.now).fits (view r)) };
+
+    /// An element that holds of what either side holds of.
+    fn join(&self, alloc: Global, x: &Self::Elem, y: &Self::Elem) -> Result<Self::Elem, NoMemory>
+        requires left { (elements self.now).fits (view x.now) }
+        requires right { (elements self.now).fits (view y.now) }
+        ensures value { IfOk result (λ r. (elements self.now).same (view r) ((elements self.now).join (view x.now) (view y.now))) }
+        ensures fits { IfOk result (λ r. (elements self.now).fits (view r)) };
+
+    /// An element that holds of what either side holds of, such that no chain of widenings grows for ever.
+    fn widen(
+        &self,
+        alloc: Global,
+        old: &Self::Elem,
+        new: &Self::Elem,
+    ) -> Result<Self::Elem, NoMemory>
+        requires old { (elements self.now).fits (view old.now) }
+        requires new { (elements self.now).fits (view new.now) }
+        ensures value { IfOk result (λ r. (elements self.now).same (view r) ((elements self.now).widen (view old.now) (view new.now))) }
+        ensures fits { IfOk result (λ r. (elements self.now).fits (view r)) };
+
+    /// Whether the old element absorbs the new one: if so it holds of all that the new one holds of.
+    fn absorbs(&self, old: &Self::Elem, new: &Self::Elem) -> bool
+        requires old { (elements self.now).fits (view old.now) }
+        requires new { (elements self.now).fits (view new.now) }
+        ensures value { result ≡ (elements self.now).absorbs (view old.now) (view new.now) };
+
+    /// What falls where an element is widened and changes, with each note counted as 0; 2^64 - 1 where it is more than that.
+    fn rank(&self, x: &Self::Elem) -> u64
+        requires fits { (elements self.now).fits (view x.now) }
+        ensures value { result ≡ min ((meaning self.now).rank (view x.now)) (2 ^ 64 - 1) };
+
+    /// The same element once more.
+    fn copy(&self, alloc: Global, x: &Self::Elem) -> Result<Self::Elem, NoMemory>
+        requires fits { (elements self.now).fits (view x.now) }
+        ensures value { IfOk result (λ r. (elements self.now).same (view r) (view x.now)) }
+        ensures fits { IfOk result (λ r. (elements self.now).fits (view r)) };
+
+    /// What every user may rest on, with a specification that the domain is for.
+    ghost laws: { (it : Self) (spec : plain.Spec) → IsTrue (is_for it spec) → DomainLaws Self.B.algebra Self.B.CAP spec (elements it) (meaning it) };
+}

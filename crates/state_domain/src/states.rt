@@ -1,0 +1,80 @@
+//! State values.
+
+ghost use Rattle.std.specs.Prelude.{◌≡◌, IfOk, drop, map};
+ghost use Rattle.value_laws.specs.Abs as plain;
+ghost use Rattle.value_laws.specs.Abs.{parts};
+ghost use Rattle.cell_laws.specs.Calls.{behind_first, fields_of, made_state};
+ghost use Rattle.abs_value.specs.View.{abs, case_of};
+
+use crate::values::push_copies;
+use abs_value::AV;
+use base_trait::Base;
+use std::alloc::{AllocError as NoMemory, Global};
+
+/// The value of a state with this counter and these values of its other fields.
+pub(crate) fn opened<B: Base>(
+    alloc: Global,
+    ctx: &B::Ctx,
+    number: u32,
+    pc: u32,
+    values: &[AV<B>],
+) -> Result<AV<B>, NoMemory>
+    ensures { IfOk result (λ r. abs r ≡ made_state number (B.algebra.words.constant ctx.now 32 pc) (parts (map abs values.now))) }
+{
+    let mut fields = Vec::with_capacity(alloc, values.len())?;
+    fields.push(AV::Word {
+        w: 32,
+        x: B::constant(alloc, ctx, 32, u64::from(pc))?,
+    })?;
+    push_copies(alloc, ctx, &mut fields, values)?;
+    Ok(AV::Data {
+        ty: number,
+        cases: vec![in alloc; Some(fields)]?,
+    })
+}
+
+/// The fields of a state value behind the counter; none of another value.
+pub(crate) fn closed<B: Base>(
+    alloc: Global,
+    ctx: &B::Ctx,
+    value: &AV<B>,
+) -> Result<Vec<AV<B>>, NoMemory>
+    ensures { IfOk result (λ r. parts (map abs r.items) ≡ fields_of (abs value.now)) }
+{
+    let mut out = Vec::new(alloc);
+    push_copies(alloc, ctx, &mut out, behind_counter(value))?;
+    Ok(out)
+}
+
+/// The fields of a state value behind the counter; none of another value.
+fn behind_counter<B: Base>(value: &AV<B>) -> &[AV<B>]
+    ensures { parts (map abs result.now) ≡ fields_of (abs value.now) }
+{
+    match value {
+        AV::Data { ty: _ty, cases } => of_one(cases),
+        _ => &[],
+    }
+}
+
+/// The fields of the one constructor but the first; none where there are more constructors.
+fn of_one<B: Base>(cases: &[Option<Vec<AV<B>>>]) -> &[AV<B>]
+    ensures { parts (map abs result.now) ≡ behind_first (plain.cases (map case_of cases.now)) }
+{
+    if cases.len() != 1 {
+        return &[];
+    }
+    match &cases[0] {
+        Some(fields) => behind_first(fields),
+        None => &[],
+    }
+}
+
+/// All but the first.
+fn behind_first<B: Base>(values: &[AV<B>]) -> &[AV<B>]
+    ensures { result.now ≡ drop 1 values.now }
+{
+    match values.split_first() {
+        Some((_first, rest)) => rest,
+        None => &[],
+    }
+}

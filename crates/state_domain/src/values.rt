@@ -1,0 +1,92 @@
+//! Lists of values, one by one.
+
+ghost use Rattle.std.specs.Prelude.{◌≡◌, ◌++◌, ◌-◌, ◌^◌, IfOk, OnOk, map, min};
+ghost use Rattle.value_laws.specs.Abs.{parts};
+ghost use Rattle.value_laws.specs.Calls.{absorbs_parts, join_parts, widen_parts};
+ghost use Rattle.value_laws.specs.Fits.{PartsFit};
+ghost use Rattle.cell_laws.specs.Calls.{values_rank};
+ghost use Rattle.abs_value.specs.View.{abs};
+
+use abs_value::AV;
+use base_trait::Base;
+use std::alloc::{AllocError as NoMemory, Global};
+
+/// The same values once more, behind others.
+pub(crate) fn push_copies<B: Base>(
+    alloc: Global,
+    ctx: &B::Ctx,
+    out: &mut Vec<AV<B>>,
+    values: &[AV<B>],
+) -> Result<(), NoMemory>
+    ensures { OnOk result (map abs out.new.items ≡ map abs out.old.items ++ map abs values.now) }
+{
+    for value in values {
+        out.push(value.copy(alloc, ctx)?)?;
+    }
+    Ok(())
+}
+
+/// The joins of the values of two lists, as many as both have.
+pub(crate) fn joined<B: Base>(
+    alloc: Global,
+    ctx: &B::Ctx,
+    xs: &[AV<B>],
+    ys: &[AV<B>],
+) -> Result<Vec<AV<B>>, NoMemory>
+    requires left { PartsFit B.algebra ctx.now B.CAP (parts (map abs xs.now)) }
+    requires right { PartsFit B.algebra ctx.now B.CAP (parts (map abs ys.now)) }
+    ensures { IfOk result (λ r. parts (map abs r.items) ≡ join_parts B.algebra ctx.now B.CAP (parts (map abs xs.now)) (parts (map abs ys.now))) }
+{
+    let mut out = Vec::with_capacity(alloc, xs.len())?;
+    for i in 0..xs.len().min(ys.len()) {
+        out.push(xs[i].join(alloc, ctx, &ys[i])?)?;
+    }
+    Ok(out)
+}
+
+/// The values of one list widened by those of another, as many as both have.
+pub(crate) fn widened<B: Base>(
+    alloc: Global,
+    ctx: &B::Ctx,
+    olds: &[AV<B>],
+    news: &[AV<B>],
+) -> Result<Vec<AV<B>>, NoMemory>
+    requires old { PartsFit B.algebra ctx.now B.CAP (parts (map abs olds.now)) }
+    requires new { PartsFit B.algebra ctx.now B.CAP (parts (map abs news.now)) }
+    ensures { IfOk result (λ r. parts (map abs r.items) ≡ widen_parts B.algebra ctx.now (parts (map abs olds.now)) (parts (map abs news.now))) }
+{
+    let mut out = Vec::with_capacity(alloc, olds.len())?;
+    for i in 0..olds.len().min(news.len()) {
+        out.push(olds[i].widen(alloc, ctx, &news[i])?)?;
+    }
+    Ok(out)
+}
+
+/// Whether each value of one list absorbs that of another, and there are as many.
+pub(crate) fn absorbed<B: Base>(ctx: &B::Ctx, olds: &[AV<B>], news: &[AV<B>]) -> bool
+    requires old { PartsFit B.algebra ctx.now B.CAP (parts (map abs olds.now)) }
+    requires new { PartsFit B.algebra ctx.now B.CAP (parts (map abs news.now)) }
+    ensures { result ≡ absorbs_parts B.algebra ctx.now (parts (map abs olds.now)) (parts (map abs news.now)) }
+{
+    if olds.len() != news.len() {
+        return false;
+    }
+    for i in 0..olds.len() {
+        if !olds[i].absorbs(ctx, &news[i]) {
+            return false;
+        }
+    }
+    true
+}
+
+/// The sum of the ranks of the words; 2^64 - 1 where it is more than that.
+pub(crate) fn ranked<B: Base>(ctx: &B::Ctx, values: &[AV<B>]) -> u64
+    requires fits { PartsFit B.algebra ctx.now B.CAP (parts (map abs values.now)) }
+    ensures { result ≡ min (values_rank B.algebra ctx.now (parts (map abs values.now))) (2 ^ 64 - 1) }
+{
+    let mut sum: u64 = 0;
+    for value in values {
+        sum = sum.saturating_add(value.rank(ctx));
+    }
+    sum
+}
