@@ -17,6 +17,10 @@ def sources(kind, size):
         calls = max(1, (size // 1024 - 45) // 9)
         body = lambda n: "+".join(f"g{(n * 7 + k) % (n or 1)}(x)" for k in range(calls)) if n else "x"
         return "".join(f"fun g{n}(x: INT32) -> INT32 = {body(n)};\n" for n in range(1024))
+    if kind == "chain":
+        line = lambda n, operators: f"fun g{n}(x: INT32) -> INT32 = {'~' * operators}{f'g{n - 1}(x)' if n else 'x'};\n"
+        operators = max(1, (size - sum(len(line(n, 0)) for n in range(1024))) // 1024)
+        return "".join(line(n, operators) for n in range(1024))
     if kind == "parentheses":
         one = "(" * 250 + "1:32" + ")" * 250
         return "fun f(x: INT32) -> INT32 = f(" + ", ".join([one] * (size // (len(one) + 2) - 1)) + ");\n"

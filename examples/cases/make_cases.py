@@ -4,7 +4,7 @@ usage: python3 make_cases.py [--check]
 
 Writes, from `ppc_cases.py` and `rv_cases.py` with the expected states of `ppc_model.py` and `rv_model.py`:
 
-- ppc.txt, rv.txt here: all cases and all words that are refused, a paragraph each;
+- ppc.txt, rv.txt here and in data/ of the crate step_tests: all cases and all words that are refused, a paragraph each;
 - src/cases/ of the crates ppc_spec and rv_spec: up to four cases of each mnemonic as arrays, and the refused words.
 
 With --check nothing is written, and the exit status is 1 where a file is not what would be written.
@@ -149,7 +149,8 @@ def files():
     """All files that are written, by path."""
     made = {}
     for isa, model, cases, groups in (('ppc', ppc_model, ppc_cases, PPC_GROUPS), ('rv', rv_model, rv_cases, RV_GROUPS)):
-        made[os.path.join(HERE, isa + '.txt')] = text_of(isa, model, cases)
+        for folder in (HERE, os.path.join(CRATES, 'step_tests', 'data')):
+            made[os.path.join(folder, isa + '.txt')] = text_of(isa, model, cases)
         folder = os.path.join(CRATES, isa + '_spec', 'src', 'cases')
         named = [n for _, _, mnemonics in groups for n in mnemonics.split()]
         assert sorted(named) == sorted(cases.CASES), set(named) ^ set(cases.CASES)

@@ -1,5 +1,12 @@
+pub mod Binds
 pub mod Evaluated
 pub mod Matched
+pub mod Opened
+pub mod Parts
+pub mod Running
+pub mod Weights
 pub mod Seen
-pub mod Turned
+pub mod Stacked
+pub mod Stepped
 pub mod Termed
+pub mod Turned

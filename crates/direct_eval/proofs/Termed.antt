@@ -7,11 +7,8 @@ use Rattle.spec_types.specs.Terms as form
 use Rattle.spec_types.specs.Views.{term, term_step}
 use Rattle.spec_types.specs.declared.term.Term.{Term, fold-roll-Term}
 use Rattle.spec_types.specs.declared.term.Term.TheOpen.{Term-F}
-use Rattle.spec_types.specs.declared.term.Term.TheVariants.{If, Match, rolls-If, rolls-Match}
+use Rattle.spec_types.specs.declared.term.Term.TheVariants.{Match, rolls-Match}
 use Rattle.direct_eval.specs.Views.{arm}
-
-pub term_If : (c x y : Box Term Global) → term (If c x y) ≡ form.if_else (term c.value) (term x.value) (term y.value)
-term_If c x y = ap term (sym (rolls-If c x y)) ∙ fold-roll-Term form.Term term_step (Term-F.If c x y)
 
 pub term_Match : (x : Box Term Global) (arms : Vec (Pattern × Term) Global) → term (Match x arms) ≡ form.match_on (term x.value) (form.arms (map arm arms.items))
 term_Match x arms =

@@ -20,18 +20,19 @@ use Rattle.entry_laws.proofs.Cells.{both, and_true}
 use Rattle.entry_laws.proofs.OneStates.{one_states_are_described}
 use Rattle.entry_laws.proofs.Reading.{entries_fit}
 
-each_at : {A : Type 0} (P : A → Bool) (xs : List A) (i : ℕ) (x : A) → list_all P xs ≡ true → slice_get xs i ≡ Some x → P x ≡ true
+pub each_at : {A : Type 0} (P : A → Bool) (xs : List A) (i : ℕ) (x : A) → list_all P xs ≡ true → slice_get xs i ≡ Some x → P x ≡ true
 each_at P [] i x h e = cc
 each_at P (y ∷ ys) zero x h e = let same : y ≡ x = cc in subst (λ z. P z ≡ true) same (both (P y) (list_all P ys) h).0
 each_at P (y ∷ ys) (suc i) x h e = each_at P ys i x (both (P y) (list_all P ys) h).1 e
 
+pub none_within : (xs : List MapTy) (m : ℕ) → m < length xs → slice_get xs m ≡ None → ⊥
+none_within [] m h e = absurd (omega (arith, h))
+none_within (x ∷ xs) zero h e = cc
+none_within (x ∷ xs) (suc m) h e = none_within xs m (omega (arith, h)) e
+
 module _ (env : Environment) (maps : list_all (is_map env) env.maps ≡ true) where
   default_of : (m : ℕ) → m < length env.maps → (o : Option MapTy) → slice_get env.maps m ≡ o → has_default env o ≡ true
-  default_of m within None there = absurd (none_within env.maps m within there) where
-    none_within : (xs : List MapTy) (m : ℕ) → m < length xs → slice_get xs m ≡ None → ⊥
-    none_within [] m h e = absurd (omega (arith, h))
-    none_within (x ∷ xs) zero h e = cc
-    none_within (x ∷ xs) (suc m) h e = none_within xs m (omega (arith, h)) e
+  default_of m within None there = absurd (none_within env.maps m within there)
   default_of m within (Some d) there =
       let is = each_at (is_map env) env.maps m d maps there in
       let rest = (both (is_key_type env d.key) (is_width d.width && nat_lt d.default (2 ^ d.width)) is).1 in
@@ -54,14 +55,20 @@ behind : (fields : List Field) (t : Ty) (parts : List Ty) → map (λ f. f.1) fi
 behind [] t parts h = cc
 behind (f ∷ fields) t parts h = cc
 
-machine_cells : (spec : Spec) (m : Machine) → IsAccepted spec → IsMachine spec m → list_all (is_cell (environment_of spec)) (types_behind (fields_in spec (Some m))) ≡ true
-machine_cells spec m a k =
-    let env = environment_of spec in
-    let cases = each_at (λ d. list_all (λ c. list_all (is_type env) (field_types c)) d.cases) spec.datas m.state k.states a.types.fields k.states_there in
-    let one = (both (list_all (is_type env) (field_types k.one)) true (rw k.one_alone at cases)).0 in
-    let typed = (both (is_type env (Word 32)) (list_all (is_type env) k.parts) (rw k.counter at one)).1 in
-    let is : types_behind (fields_in spec (Some m)) ≡ k.parts = rw (k.states_there, k.one_alone) (behind k.one.fields (Word 32) k.parts k.counter) in
-    rw is (cells_of env a.maps k.parts k.words_or_maps typed)
+module _ (spec : Spec) (m : Machine) (a : IsAccepted spec) (k : IsMachine spec m) where
+  -- the types of the fields behind the counter are there
+  pub parts_typed : list_all (is_type (environment_of spec)) k.parts ≡ true
+  parts_typed =
+      let env = environment_of spec in
+      let cases = each_at (λ d. list_all (λ c. list_all (is_type env) (field_types c)) d.cases) spec.datas m.state k.states a.types.fields k.states_there in
+      let one = (both (list_all (is_type env) (field_types k.one)) true (rw k.one_alone at cases)).0 in
+      (both (is_type env (Word 32)) (list_all (is_type env) k.parts) (rw k.counter at one)).1
+
+  pub fields_behind : types_behind (fields_in spec (Some m)) ≡ k.parts
+  fields_behind = rw (k.states_there, k.one_alone) (behind k.one.fields (Word 32) k.parts k.counter)
+
+  machine_cells : list_all (is_cell (environment_of spec)) (types_behind (fields_in spec (Some m))) ≡ true
+  machine_cells = rw fields_behind (cells_of (environment_of spec) a.maps k.parts k.words_or_maps parts_typed)
 
 pub accepted_have_cells : AcceptedHaveCells
 accepted_have_cells spec m a h =

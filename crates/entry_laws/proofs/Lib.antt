@@ -1,4 +1,7 @@
-pub mod Cells
-pub mod OneStates
-pub mod Reading
 pub mod Accepted
+pub mod Cells
+pub mod Differing
+pub mod Fields
+pub mod OneStates
+pub mod ParsedNames
+pub mod Reading

@@ -1,13 +1,20 @@
 -- Entries that are read, and their states.
 use Rattle.std.specs.Prelude.{◌≡◌, ℕ, ◌<◌, ◌^◌, true, List, Ok, Some}
 use Rattle.std.specs.List.{list_all}
-use Rattle.spec_types.specs.declared.spec.Machine.{Machine}
+use Rattle.tsl_lexer.specs.declared.token.Token.{Token}
+use Rattle.tsl_lexer.specs.Source.{IsLexedFrom}
+use Rattle.tsl_parser.specs.Exact.{HasTree}
+use Rattle.tsl_parser.specs.Tree.{Tree}
+use Rattle.spec_types.specs.declared.spec.Machine.{Machine as MachineNumbers}
+use Rattle.spec_types.specs.declared.spec.Use.TheVariants.{Machine}
 use Rattle.spec_types.specs.Specification.{Spec}
+use Rattle.tsl_types.specs.Check.{IsFaultless, IsSpecOf}
 use Rattle.tsl_values.specs.States.{State}
 use Rattle.tsl_values.specs.Types.{environment_of}
 use Rattle.meaning.specs.Entries.{IsEntryState}
 use Rattle.meaning_laws.specs.Accepted.{IsAccepted}
 use Rattle.cell_text.specs.Places.{state_fields}
+use Rattle.state_text.specs.Laws.{HasFields}
 use Rattle.state_text.specs.OneState.{one_state, types_behind}
 use Rattle.state_text.specs.Reading.{Entry, read}
 use Rattle.entry_laws.specs.Fitting.{is_cell, line_fits}
@@ -33,9 +40,15 @@ OneStatesAreDescribed = (spec : Spec) (e : Entry) (s : State) → HasCells spec 
 
 -- Machines of accepted specifications have such fields.
 abbrev pub AcceptedHaveCells : Type 0
-AcceptedHaveCells = (spec : Spec) (m : Machine) → IsAccepted spec → spec.machine ≡ Some m → HasCells spec
+AcceptedHaveCells = (spec : Spec) (m : MachineNumbers) → IsAccepted spec → spec.machine ≡ Some m → HasCells spec
 
 -- The one state of an entry that is read, of an accepted machine, is one that the entry describes.
 abbrev pub ReadStatesAreDescribed : Type 0
-ReadStatesAreDescribed = (spec : Spec) (m : Machine) (bytes : List ℕ) (e : Entry) (s : State) → IsAccepted spec → spec.machine ≡ Some m → read spec bytes ≡ Ok e → one_state spec e ≡ Ok s
+ReadStatesAreDescribed = (spec : Spec) (m : MachineNumbers) (bytes : List ℕ) (e : Entry) (s : State) → IsAccepted spec → spec.machine ≡ Some m → read spec bytes ≡ Ok e → one_state spec e ≡ Ok s
     → IsEntryState (environment_of spec) (types_behind (state_fields spec)) e.pc e.lines s × (s.pc < 2 ^ 32)
+
+-- The machine that is checked of a text without faults has such fields of states as the laws of their texts rely on: few, of different
+-- names, each behind the program counter a word or a map.
+abbrev pub MachinesHaveFields : Type 0
+MachinesHaveFields = (source : List ℕ) (tokens : List Token) (end : ℕ) (tree : Tree) (spec : Spec) → IsLexedFrom source tokens → HasTree tokens end tree
+    → IsFaultless Machine tree → IsSpecOf tree Machine spec → HasFields spec

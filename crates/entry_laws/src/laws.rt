@@ -1,6 +1,6 @@
 //! Laws of entries, stated in specs/Laws.antt. Nothing runs.
 
-ghost use Rattle.entry_laws.specs.Laws.{AcceptedHaveCells, EntriesFit, OneStatesAreDescribed, ReadStatesAreDescribed};
+ghost use Rattle.entry_laws.specs.Laws.{AcceptedHaveCells, EntriesFit, MachinesHaveFields, OneStatesAreDescribed, ReadStatesAreDescribed};
 
 /// An entry that is read fits the fields of states.
 pub fn entries_fit()
@@ -20,4 +20,9 @@ pub fn accepted_have_cells()
 /// Of an accepted machine, the one state of an entry that is read is a state that the entry describes.
 pub fn read_states_are_described()
     ensures { ReadStatesAreDescribed }
+{}
+
+/// The machine of a text without faults has few fields of states, of different names, each behind the program counter a word or a map.
+pub fn machines_have_fields()
+    ensures { MachinesHaveFields }
 {}

@@ -11,15 +11,17 @@ use Rattle.cell_text.specs.Digits.{hex_number}
 abbrev pub is_word_byte : ℕ → Bool
 is_word_byte b = is_ascii_alphanumeric b || b == 95
 
+-- whether a text begins with a letter or `_`
 abbrev pub begins_name : List ℕ → Bool
 begins_name [] = false
 begins_name (b ∷ bytes) = is_ascii_alphabetic b || b == 95
 
--- a letter or `_`, and letters, digits and `_` behind it; `_` alone is no name
+-- whether a text is `_` alone
 abbrev pub is_mark : List ℕ → Bool
 is_mark [] = false
 is_mark (b ∷ bytes) = b == 95 && not (nat_lt 0 (length bytes))
 
+-- a letter or `_`, and letters, digits and `_` behind it, but not `_` alone
 abbrev pub is_name : List ℕ → Bool
 is_name name = begins_name name && (list_all is_word_byte name && not (is_mark name))
 

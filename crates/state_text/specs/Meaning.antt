@@ -16,7 +16,7 @@ use Rattle.state_text.specs.declared.fault.Fault.TheVariants.{Form as BadForm, U
 use Rattle.state_text.specs.Forms.{Form, single, run, Part, whole, rest, at}
 use Rattle.state_text.specs.Parsing.{form}
 
--- Nothing; the number of the program counter; what is given of cells of a field; or a fault that does not depend on
+-- Nothing; what is given of the program counter; what is given of cells of a field; or a fault that does not depend on
 -- other lines.
 pub data Said : Type 0 where
   nothing : Said
@@ -24,19 +24,21 @@ pub data Said : Type 0 where
   cells : ℕ → List (KeyAt × Given) → Said
   faulty : Fault → Said
 
--- whether the numbers of a value have at most w bits
+-- whether the numbers of a value have at most w bits; of a range the last is the greatest
 abbrev pub given_fits : Given → ℕ → Bool
 given_fits (One v) w = nat_lt v (2 ^ w)
 given_fits Any w = true
 given_fits (Range lo hi) w = nat_lt hi (2 ^ w)
 
+-- what a line says that gives a cell of w bits this
 abbrev pub sized : Given → ℕ → Said → Said
 sized given w said = if given_fits given w then said else faulty TooBig
 
+-- one cell
 abbrev pub cell : ℕ → KeyAt → Given → Said
 cell field key given = cells field ((key, given) ∷ [])
 
--- the cell of a map of w bits at a key
+-- the cell at a key of a map with values of w bits; an unknown key comes before a number that is too big
 abbrev pub at_key : ℕ → ℕ → Given → Option ℕ → Said
 at_key field w given None = faulty Unknown
 at_key field w given (Some k) = sized given w (cell field (At k) given)
@@ -47,7 +49,7 @@ run_cells k [] = []
 run_cells k (b ∷ bytes) = (At k, One b) ∷ run_cells (suc k) bytes
 
 module _ (spec : Spec) where
-  -- a value of a cell, or of the rest of a map
+  -- A value of a cell, or of the rest of a map: a word has no key, a map has one or `*`, and the program counter is a word of 32 bits.
   abbrev pub single_says : Option Place → Part → Given → Said
   single_says (Some place.Counter) whole given = sized given 32 (counter given)
   single_says (Some (place.Word field w)) whole given = sized given w (cell field Whole given)
@@ -55,12 +57,13 @@ module _ (spec : Spec) where
   single_says (Some (place.Map field key w)) (at text) given = at_key field w given (key_number spec key text)
   single_says _ _ given = faulty Unknown
 
-  -- bytes for successive keys, of which none is past the last; the numbers of keys have 64 bits
+  -- bytes for successive keys, of which none is past the last. Keys of accepted specifications have at most 32 bits, so that there the
+  -- first test holds where the second does.
   abbrev pub run_at : ℕ → Ty → List ℕ → Option ℕ → Said
   run_at field key bytes None = faulty Unknown
   run_at field key bytes (Some k) = if nat_lt (k + length bytes) (2 ^ 64) && nat_le (k + length bytes) (key_count (environment_of spec) key) then cells field (run_cells k bytes) else faulty Unknown
 
-  -- a run of bytes: its map has values of 8 bits
+  -- a run of bytes, where its map has values of 8 bits
   abbrev pub run_says : Option Place → List ℕ → List ℕ → Said
   run_says (Some (place.Map field key w)) text bytes = if w == 8 then run_at field key bytes (key_number spec key text) else faulty Unknown
   run_says _ text bytes = faulty Unknown

@@ -28,12 +28,12 @@ pub record Found : Type 0 where
 abbrev pub none_found : Found
 none_found = record { counter = None; lines = [] }
 
--- whether a cell was given
+-- whether a cell was given: one cell, or the rest of a map, by a line before
 abbrev pub is_given : List Line → ℕ → KeyAt → Bool
 is_given [] field key = false
 is_given (l ∷ ls) field key = if l.field == field && is_key l.key key then true else is_given ls field key
 
--- whether one of some cells of a field was given
+-- whether one of these cells of a field was given
 abbrev pub any_given : List Line → ℕ → List (KeyAt × Given) → Bool
 any_given ls field [] = false
 any_given ls field (c ∷ cs) = if is_given ls field c.0 then true else any_given ls field cs
@@ -41,11 +41,11 @@ any_given ls field (c ∷ cs) = if is_given ls field c.0 then true else any_give
 abbrev pub line_of : ℕ → ℕ → KeyAt × Given → Line
 line_of n field c = record { field = field; key = c.0; given = c.1; line = n }
 
--- what is found with the cells of line number n, none of which was given
+-- what is found with the cells of line number n, or that one of them was given before
 abbrev pub with_cells : ℕ → ℕ → List (KeyAt × Given) → Found → Result Found EntryError
 with_cells n field cs found = if any_given found.lines field cs then Err (Twice n) else Ok (record { counter = found.counter; lines = found.lines ++ map (line_of n field) cs })
 
--- what is found with the program counter of line number n, which was not given
+-- what is found with the program counter of line number n, or that it was given before
 abbrev pub with_counter : ℕ → Given → Found → Result Found EntryError
 with_counter n given found = if is_some found.counter then Err (Twice n) else Ok (record { counter = Some given; lines = found.lines })
 
@@ -64,21 +64,23 @@ pub record Entry : Type 0 where
 abbrev pub entry_of : EntryOf → Entry
 entry_of e = record { pc = e.pc; lines = e.lines.items }
 
--- the one number that is given, if it is one
+-- the one number that is given, where it is one: a range from a number to itself gives it
 abbrev pub single_number : Given → Option ℕ
 single_number (One v) = Some v
 single_number Any = None
 single_number (Range lo hi) = if lo == hi then Some lo else None
 
+-- the entry, where the program counter is given one number
 abbrev pub counted : Option ℕ → List Line → Result Entry EntryError
 counted None ls = Err NoPc
 counted (Some pc) ls = Ok (record { pc = pc; lines = ls })
 
+-- the one number of a cell that may be given
 abbrev pub number_given : Option Given → Option ℕ
 number_given None = None
 number_given (Some given) = single_number given
 
--- behind the last line
+-- the entry that was found behind the last line
 abbrev pub entry_found : Found → Result Entry EntryError
 entry_found found = counted (number_given found.counter) found.lines
 

@@ -1,0 +1,35 @@
+-- The fields of the states of a machine.
+use Rattle.std.proofs.Common.{◌≡◌, Option, Some, List, [], ◌∷◌, map, slice_get, sym, ◌∙◌, ap, subst}
+use Rattle.spec_types.specs.declared.ty.Ty.{Ty}
+use Rattle.spec_types.specs.declared.ty.Ty.TheVariants.{Word, Data as DataTy}
+use Rattle.spec_types.specs.declared.spec.Machine.{Machine}
+use Rattle.spec_types.specs.Environment.{Case, Data}
+use Rattle.spec_types.specs.Specification.{Spec}
+use Rattle.spec_types.specs.Texts.{case_at, cases_of, fields_at}
+use Rattle.tsl_values.specs.Types.{environment_of}
+use Rattle.meaning_laws.specs.Accepted.{IsAccepted, IsMachine, IsMachineIfAny}
+use Rattle.cell_text.specs.Places.{Field, fields_in, fields_of, state_fields}
+use Rattle.state_text.specs.OneState.{types_behind}
+
+behind_are : (fields : List Field) (ty : Ty) (parts : List Ty) → map (λ f. f.1) fields ≡ ty ∷ parts → types_behind fields ≡ parts
+behind_are [] ty parts is = absurd (cc)
+behind_are (f ∷ fields) ty parts is = cc
+
+module _ (spec : Spec) (m : Machine) (ok : IsAccepted spec) (e : spec.machine ≡ Some m) where
+  is : IsMachine spec m
+  is = subst (IsMachineIfAny spec) e ok.machine
+
+  fields_are : state_fields spec ≡ is.one.fields
+  fields_are =
+      ap (fields_in spec) e ∙ ap (λ (d : Option Data). fields_of (slice_get (cases_of d) 0)) is.states_there
+      ∙ ap (λ (cases : List Case). fields_of (slice_get cases 0)) is.one_alone
+
+  types_are : types_behind (state_fields spec) ≡ is.parts
+  types_are = ap (λ (fields : List Field). types_behind fields) fields_are ∙ behind_are is.one.fields (Word 32) is.parts is.counter
+
+  -- the first field of states is the counter
+  pub fields_of_states : fields_at (case_at (environment_of spec) (DataTy m.state) 0) ≡ Word 32 ∷ types_behind (state_fields spec)
+  fields_of_states =
+      ap (λ (d : Option Data). fields_at (slice_get (cases_of d) 0)) is.states_there
+      ∙ ap (λ (cases : List Case). fields_at (slice_get cases 0)) is.one_alone ∙ is.counter
+      ∙ ap (λ (types : List Ty). Word 32 ∷ types) (sym types_are)
