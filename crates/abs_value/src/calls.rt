@@ -11,6 +11,7 @@ ghost use Rattle.value_types.specs.OfValues.{ValueFits};
 ghost use Rattle.value_types.specs.Ranks.{leaf_rank};
 ghost use Rattle.value_types.specs.Types as types;
 ghost use Rattle.abs_value.specs.View.{abs};
+ghost use Rattle.abs_value.specs.Ways.{merged};
 
 use super::absorbs::absorbs;
 use super::copies::copy;
@@ -48,6 +49,21 @@ impl<B: Base> AV<B> {
         ensures fits { IfOk result (λ r. Fits B.algebra ctx.now B.CAP (abs r)) }
     {
         merge(alloc, ctx, Way::Widen, self, new)
+    }
+
+    /// The join with another value, or the widening by it.
+    pub fn merge(
+        &self,
+        alloc: Global,
+        ctx: &B::Ctx,
+        way: Way,
+        other: &AV<B>,
+    ) -> Result<AV<B>, NoMemory>
+        requires left { Fits B.algebra ctx.now B.CAP (abs self.now) }
+        requires right { Fits B.algebra ctx.now B.CAP (abs other.now) }
+        ensures { IfOk result (λ r. abs r ≡ merged B.algebra ctx.now B.CAP way (abs self.now) (abs other.now)) }
+    {
+        merge(alloc, ctx, way, self, other)
     }
 
     /// Whether it absorbs the new value, part by part: if so it describes all that the new one does. A constructor that it

@@ -33,4 +33,6 @@ mod typed;
 mod value;
 mod way;
 
+pub use of_value::{case_count, one_case};
 pub use value::AV;
+pub use way::Way;

@@ -75,7 +75,7 @@ fn of_values<B: Base>(
 }
 
 /// How many constructors a datatype has.
-fn case_count(spec: &Spec, number: u32) -> usize
+pub fn case_count(spec: &Spec, number: u32) -> usize
     ensures { result ≡ case_count (environment_of (specification spec.now)) number }
 {
     match spec.datas.get(number as usize) {
@@ -94,8 +94,8 @@ fn map_width(spec: &Spec, number: u32) -> u32
     }
 }
 
-/// Of so many constructors one is present.
-fn one_case<B: Base>(
+/// Of so many constructors one is present, with these fields.
+pub fn one_case<B: Base>(
     alloc: Global,
     count: usize,
     case: usize,

@@ -10,9 +10,9 @@ use abs_map::AMap;
 use base_trait::{Base, Tri};
 use std::alloc::{AllocError as NoMemory, Global};
 
-/// What is done with two words, and with two maps.
+/// What is done with two words, and with two maps: a join, or the widening of the first by the second.
 #[derive(Clone, Copy, Debug, PartialEq, Eq)]
-pub(crate) enum Way {
+pub enum Way {
     Join,
     Widen,
 }

@@ -1,0 +1,16 @@
+pub mod Logs
+pub mod LoggedTerms
+pub mod LoggedTurns
+pub mod LoggedCalls
+pub mod Merging
+pub mod KeysKept
+pub mod States
+pub mod Evaluated
+pub mod Elements
+pub mod Transfers
+pub mod Keeping
+pub mod NextStates
+pub mod Sound
+pub mod Alone
+pub mod Runs
+pub mod Ordered

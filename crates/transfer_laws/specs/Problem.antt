@@ -1,0 +1,31 @@
+-- What is analysed, whatever the domain.
+use Rattle.std.specs.Prelude.{◌≡◌, ℕ, ◌<◌, ◌^◌, is_some, Option, Some, List, IsTrue}
+use Rattle.spec_types.specs.declared.spec.Machine.{Machine}
+use Rattle.spec_types.specs.Specification.{Spec}
+use Rattle.tsl_values.specs.declared.entry.Line.{Line}
+use Rattle.meaning_laws.specs.Accepted.{IsAccepted}
+use Rattle.fixed_point.specs.Code.{IsImage, is_code}
+use Rattle.domain_laws.specs.Entries.{LinesFit}
+use Rattle.domain_laws.specs.States.{state_type}
+
+-- A machine with its specification, code, an entry, and how many targets an instruction may have.
+pub record Problem : Type 0 where
+  pub spec : Spec
+  pub machine : Machine
+  -- the addresses of code words, and the word at an address
+  pub addresses : List ℕ
+  pub word_at : ℕ → Option ℕ
+  -- the entry's counter and lines
+  pub pc : ℕ
+  pub lines : List Line
+  pub limit : ℕ
+
+-- The specification is accepted, code words stand at their addresses, which are of 32 bits, and the entry fits.
+pub record IsWellPosed (p : Problem) : Type 0 where
+  pub accepted : IsAccepted p.spec
+  pub machine : p.spec.machine ≡ Some p.machine
+  pub image : IsImage p.addresses
+  pub words : (a : ℕ) → is_code p.addresses a ≡ is_some (p.word_at a)
+  pub addressed : (a : ℕ) → IsTrue (is_code p.addresses a) → a < 2 ^ 32
+  pub counter : p.pc < 2 ^ 32
+  pub lines : LinesFit (state_type p.spec).fields p.lines
