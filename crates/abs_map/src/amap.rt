@@ -4,11 +4,12 @@ ghost use Rattle.std.specs.Prelude.{◌≡◌, ◌<◌, [], Some, length, slice_
 ghost use Rattle.word_ops.specs.Width.{IsWidth};
 ghost use Rattle.base_trait.specs.Lists.{IsAscending};
 ghost use Rattle.map_laws.specs.Calls.{folded};
+ghost use Rattle.map_laws.specs.Keys.{has_key};
 ghost use Rattle.map_laws.specs.Maps.{Fits, cell, keys};
 ghost use Rattle.abs_map.specs.Unfolded.{FitsUnfolded};
 
 use super::cells::{CellOf, copied};
-use super::listed::{listed_at, push_copies};
+use super::listed::{is_listed, listed_at, push_copies};
 use base_trait::Base;
 use map_laws::Cell;
 use std::alloc::{AllocError as NoMemory, Global};
@@ -90,6 +91,14 @@ impl<B: Base> AMap<B> {
         ensures { result ≡ length self.now.cells }
     {
         self.cells.len() as u64
+    }
+
+    /// Whether a cell is listed at a key.
+    pub fn lists(&self, key: u64) -> bool
+        requires order { IsAscending (keys self.now) }
+        ensures { result ≡ has_key (keys self.now) key }
+    {
+        is_listed(&self.cells, key)
     }
 
     /// The listed key at a place, counted from 0. Keys ascend.

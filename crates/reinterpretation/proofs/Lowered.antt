@@ -52,7 +52,7 @@ module _ {W N C : Type 0} (B : Algebra W N C) (laws : Laws W N C B) (c : C) (cap
   shaped : (ty : Ty) (x : Abs W N) → IsOf B c cap (environment_of spec) (ListsStamps B stamps) ty x → HasShape (shape_of (environment_of spec) ty) x
   shaped ty x h = (types_are_shapes B (environment_of spec) ty x formed (type_is B c cap (environment_of spec) (ListsStamps B stamps) ty x h)).0 h.has
 
-  args_high : (ts : List Ty) (xs : List (Abs W N)) → AreOf B c cap (environment_of spec) (ListsStamps B stamps) ts xs → args_rank B c cap spec stamps ts xs ≤ args_height B c cap spec stamps ts
+  pub args_high : (ts : List Ty) (xs : List (Abs W N)) → AreOf B c cap (environment_of spec) (ListsStamps B stamps) ts xs → args_rank B c cap spec stamps ts xs ≤ args_height B c cap spec stamps ts
   args_high [] [] h = omega arith
   args_high [] (x ∷ xs) h = absurd h
   args_high (t ∷ ts) [] h = absurd h

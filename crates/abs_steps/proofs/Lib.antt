@@ -1,0 +1,4 @@
+pub mod Fitting
+pub mod Picking
+pub mod Putting
+pub mod Steps

@@ -1,0 +1,12 @@
+pub mod Closed
+pub mod Domain
+pub mod Entry
+pub mod Fields
+pub mod Numbers
+pub mod Opened
+pub mod Places
+pub mod States
+pub mod Tracked
+pub mod Types
+pub mod Whole
+pub mod Words

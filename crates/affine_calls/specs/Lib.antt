@@ -1,0 +1,6 @@
+pub mod Calls
+pub mod Closed
+pub mod Entry
+pub mod Laws
+pub mod Opened
+pub mod Tracked

@@ -1,0 +1,10 @@
+pub mod Fitting
+pub mod Kept
+pub mod Laws
+pub mod Listing
+pub mod Merging
+pub mod Nothing
+pub mod Told
+pub mod Turning
+pub mod Typed
+pub mod Views
