@@ -20,7 +20,8 @@ pub record Problem : Type 0 where
   pub lines : List Line
   pub limit : ℕ
 
--- The specification is accepted, code words stand at their addresses, which are of 32 bits, and the entry fits.
+-- The specification is accepted, and the machine is its own. The addresses are those of an image (ascending, and not too many), have 32 bits,
+-- and are those at which a code word stands. The counter has 32 bits, and the lines of the entry fit.
 pub record IsWellPosed (p : Problem) : Type 0 where
   pub accepted : IsAccepted p.spec
   pub machine : p.spec.machine ≡ Some p.machine

@@ -1,0 +1,15 @@
+-- What is read is a well-posed problem.
+use Rattle.std.specs.Prelude.{◌≡◌, ℕ, List, Ok, Some}
+use Rattle.spec_types.specs.declared.spec.Machine.{Machine}
+use Rattle.spec_types.specs.Specification.{Spec}
+use Rattle.meaning_laws.specs.Accepted.{IsAccepted}
+use Rattle.insn_decode.specs.Faults.{IsImage}
+use Rattle.insn_decode.specs.Image.{Image}
+use Rattle.state_text.specs.Reading.{Entry, read}
+use Rattle.transfer_laws.specs.Problem.{IsWellPosed}
+use Rattle.posed_problems.specs.Problems.{problem_of}
+
+-- The machine of an accepted specification, an image without faults and an entry that is read are a well-posed problem, under any limit.
+abbrev pub ReadProblemsAreWellPosed : Type 0
+ReadProblemsAreWellPosed = (spec : Spec) (m : Machine) (image : Image) (bytes : List ℕ) (e : Entry) (limit : ℕ)
+    → IsAccepted spec → spec.machine ≡ Some m → IsImage image → read spec bytes ≡ Ok e → IsWellPosed (problem_of spec m image e limit)

@@ -1,0 +1,12 @@
+-- The problem of a specification, an image and an entry.
+use Rattle.std.specs.Prelude.{ℕ}
+use Rattle.spec_types.specs.declared.spec.Machine.{Machine}
+use Rattle.spec_types.specs.Specification.{Spec}
+use Rattle.insn_decode.specs.Image.{Image, addresses, code_at}
+use Rattle.state_text.specs.Reading.{Entry}
+use Rattle.transfer_laws.specs.Problem.{Problem}
+
+-- The machine with its specification, the words of the image at their addresses, the entry, and how many targets an instruction may have.
+abbrev pub problem_of : Spec → Machine → Image → Entry → ℕ → Problem
+problem_of spec m image e limit =
+    record { spec = spec; machine = m; addresses = addresses image.segments; word_at = code_at image; pc = e.pc; lines = e.lines; limit = limit }
