@@ -20,7 +20,7 @@ use std::alloc::{AllocError as NoMemory, Global};
 use tsl_values::{Given, KeyAt, Line};
 
 /// Whether both are one part of a field.
-fn is_key(x: KeyAt, y: KeyAt) -> bool
+pub fn is_key(x: KeyAt, y: KeyAt) -> bool
     ensures { result ≡ meaning.is_key x y }
 {
     match (x, y) {
@@ -31,7 +31,7 @@ fn is_key(x: KeyAt, y: KeyAt) -> bool
 }
 
 /// What the first line gives that speaks of a part of a field.
-fn given_at(lines: &[Line], field: u64, key: KeyAt) -> Option<Given>
+pub fn given_at(lines: &[Line], field: u64, key: KeyAt) -> Option<Given>
     ensures { result ≡ meaning.given_at lines.now field key }
 {
     for l in lines {
@@ -43,7 +43,7 @@ fn given_at(lines: &[Line], field: u64, key: KeyAt) -> Option<Given>
 }
 
 /// What is given of a word: 0, where no line names it.
-fn given_word(lines: &[Line], field: u64) -> Given
+pub fn given_word(lines: &[Line], field: u64) -> Given
     ensures { result ≡ meaning.given_word lines.now field }
 {
     match given_at(lines, field, KeyAt::Whole) {
@@ -53,7 +53,7 @@ fn given_word(lines: &[Line], field: u64) -> Given
 }
 
 /// What is given of the cells of a map that no line names by their key.
-fn given_rest(lines: &[Line], field: u64, default: u64) -> Given
+pub fn given_rest(lines: &[Line], field: u64, default: u64) -> Given
     ensures { result ≡ meaning.given_rest lines.now field default }
 {
     match given_at(lines, field, KeyAt::Rest) {

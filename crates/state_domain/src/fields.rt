@@ -95,7 +95,7 @@ fn behind(fields: &[(Text, Ty)]) -> &[(Text, Ty)]
 }
 
 /// The fields of states behind the counter.
-pub(crate) fn fields_of(alloc: Global, spec: &Spec) -> Result<Vec<Field>, NoMemory>
+pub fn fields_of(alloc: Global, spec: &Spec) -> Result<Vec<Field>, NoMemory>
     requires right { list_all is_field (states.state_type (specification spec.now)).fields ≡ true }
     ensures { IfOk result (λ r. r.items ≡ (states.state_type (specification spec.now)).fields) }
 {
@@ -108,7 +108,7 @@ pub(crate) fn fields_of(alloc: Global, spec: &Spec) -> Result<Vec<Field>, NoMemo
 }
 
 /// The number of the datatype of states, or 0 where the specification has no machine.
-pub(crate) fn state_number(spec: &Spec) -> u32
+pub fn state_number(spec: &Spec) -> u32
     ensures { result ≡ (states.state_type (specification spec.now)).number }
 {
     match spec.machine {

@@ -17,3 +17,6 @@ mod states;
 mod values;
 
 pub use domain::StateDomain;
+pub use entry::{given_at, given_rest, given_word, is_key};
+pub use fields::{fields_of, state_number};
+pub use states::behind_counter;

@@ -47,7 +47,7 @@ pub(crate) fn closed<B: Base>(
 }
 
 /// The fields of a state value behind the counter; none of another value.
-fn behind_counter<B: Base>(value: &AV<B>) -> &[AV<B>]
+pub fn behind_counter<B: Base>(value: &AV<B>) -> &[AV<B>]
     ensures { parts (map abs result.now) ≡ fields_of (abs value.now) }
 {
     match value {
