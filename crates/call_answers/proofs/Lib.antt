@@ -1,0 +1,4 @@
+pub mod Activated
+pub mod Arguments
+pub mod Driving
+pub mod Right
