@@ -1,0 +1,12 @@
+-- The plain plan of one of the code's.
+use Rattle.std.proofs.Common.{◌≡◌, ◌∙◌, ℕ, map, sym, ap, Vec, Global}
+use Rattle.abs_value.specs.View.{abs}
+use Rattle.abs_value.specs.declared.value.AV.{AV}
+use Rattle.eval_forms.specs.declared.next.Plan.{Arm, fold-roll-Plan}
+use Rattle.eval_forms.specs.declared.next.Plan.TheVariants.{rolls-Arm}
+use Rattle.eval_forms.specs.declared.next.Plan.TheOpen.{Plan-F}
+use Rattle.eval_forms.specs.Plans.{Plan, arm}
+use Rattle.eval_forms.specs.Views.{plan, plan_step}
+
+pub plan_Arm : {X W N C : Type 0} (n : ℕ) (v : Vec (AV X W N C) Global) → plan (Arm n v) ≡ arm n (map abs v.items)
+plan_Arm {X} {W} {N} {C} n v = ap plan (sym (rolls-Arm n v)) ∙ fold-roll-Plan X W N C (Plan W N) (plan_step X W N C) (Plan-F.Arm n v)

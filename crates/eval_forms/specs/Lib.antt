@@ -1,0 +1,7 @@
+pub mod Forms
+pub mod Lines
+pub mod Next
+pub mod Operands
+pub mod Plans
+pub mod Views
+pub mod Weights

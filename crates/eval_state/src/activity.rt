@@ -1,0 +1,101 @@
+//! An activation between its turns.
+
+ghost use Rattle.std.specs.Prelude.{◌≡◌, ◌<◌, [], length, map, option_map, IfOk, IfSome, IsTrue};
+ghost use Rattle.abs_value.specs.View.{abs};
+ghost use Rattle.recursion_fix.specs.Answer.{next_of, out_of};
+ghost use Rattle.reinterpretation.specs.Calls.{AreArguments};
+ghost use Rattle.eval_state.specs.Activities.{After, Goes, Taken, due, measure};
+ghost use Rattle.eval_state.specs.Ready.{IsReady};
+ghost use Rattle.eval_state.specs.Settings.{spec_of};
+ghost use Rattle.eval_state.specs.Views.{all_abs, group_args, yield};
+ghost use Rattle.eval_state.specs.declared.activity.Step.TheVariants.{Again};
+
+use crate::given::Given;
+use crate::setting::{Known, Setting};
+use crate::steps::{copy_all, group_of};
+use abs_value::AV;
+use base_trait::Base;
+use group_turns::{Specified, Turning, only};
+use recursion_fix::{Asked, Driver};
+use std::alloc::{AllocError as NoMemory, Global};
+use std::marker::PhantomData;
+
+/// An activation of a function.
+#[derive(Drop)]
+pub struct Activity<B: Base, K: Specified> {
+    pub driver: Driver<Turning<B, K>>,
+    pub turns: Turning<B, K>,
+}
+
+/// What follows a turn: another, the value of the activation, or that no turn is left.
+#[derive(Drop)]
+pub enum Step<B: Base> {
+    Again,
+    Done(Option<AV<B>>),
+    Deep,
+}
+
+/// An activation before its first turn.
+pub fn begin<B: Base, K: Known<B>>(
+    alloc: Global,
+    setting: &Setting<B>,
+    fun: u32,
+    args: &[AV<B>],
+) -> Result<Activity<B, K>, NoMemory>
+    requires setting { IsReady B.algebra B.CAP setting.now K.spec K.rank (K.calls setting.now.ctx.now) }
+    requires there { fun < length (spec_of setting.now).funs }
+    requires args { AreArguments B.algebra setting.now.ctx.now B.CAP (spec_of setting.now) fun (map abs args.now) }
+    ensures { IfOk result (λ a. Goes B.algebra B.CAP setting.now (K.calls setting.now.ctx.now) fun (map abs args.now) a []) }
+{
+    let turns = Turning {
+        ctx: B::copy_ctx(alloc, setting.ctx)?,
+        group: group_of(setting.spec, fun),
+        at: setting.at,
+        origin: copy_all(alloc, setting.ctx, args)?,
+        of: PhantomData,
+    };
+    let first = only(alloc, fun, copy_all(alloc, setting.ctx, args)?)?;
+    let driver = Driver::new(first, setting.policy);
+    Ok(Activity { driver, turns })
+}
+
+/// The group arguments of the turn that is due.
+pub fn args_of<B: Base, K: Known<B>>(activity: &Activity<B, K>) -> &[Option<Vec<AV<B>>>]
+    requires running { IsTrue activity.now.driver.running }
+    ensures { map (option_map all_abs) result.now ≡ due activity.now }
+{
+    activity.driver.args()
+}
+
+/// The two sides of what a turn gives.
+fn sides<B: Base>(given: Option<Given<B>>) -> (Option<AV<B>>, Option<Vec<Option<Vec<AV<B>>>>>)
+    ensures out { option_map abs result.0 ≡ out_of (option_map yield given) }
+    ensures next { option_map group_args result.1 ≡ next_of (option_map yield given) }
+{
+    match given {
+        Some(given) => (given.out, given.next),
+        None => (None, None),
+    }
+}
+
+/// What follows a turn that gave this. After an error nothing is known of the activation.
+pub fn advance<B: Base, K: Known<B>>(
+    alloc: Global,
+    setting: &Setting<B>,
+    fun: u32,
+    activity: &mut Activity<B, K>,
+    given: Option<Given<B>>,
+) -> Result<Step<B>, NoMemory>
+    requires setting { IsReady B.algebra B.CAP setting.now K.spec K.rank (K.calls setting.now.ctx.now) }
+    requires there { fun < length (spec_of setting.now).funs }
+    requires taken { Taken B.algebra B.CAP setting.now (K.calls setting.now.ctx.now) fun activity.old (option_map yield given) }
+    ensures after { IfOk result (λ s. After B.algebra B.CAP setting.now (K.calls setting.now.ctx.now) fun activity.old (option_map yield given) s activity.new) }
+    ensures falls { IfOk result (λ s. s ≡ Again → measure B.algebra B.CAP K.spec activity.new < measure B.algebra B.CAP K.spec activity.old) }
+{
+    let (out, next) = sides(given);
+    match activity.driver.give(alloc, &mut activity.turns, out, next)? {
+        Asked::Turn => Ok(Step::Again),
+        Asked::Out(leaves) => Ok(Step::Done(leaves)),
+        Asked::Deep => Ok(Step::Deep),
+    }
+}

@@ -1,0 +1,49 @@
+//! Where an evaluation takes place.
+
+ghost use Rattle.std.specs.Prelude.{ℕ, List};
+ghost use Rattle.value_laws.specs.Abs.{Abs};
+ghost use Rattle.reinterpretation.specs.Answers.{Answer};
+
+use base_trait::Base;
+use cir_lower::Cir;
+use group_turns::Specified;
+use recursion_fix::Policy;
+use spec_types::Spec;
+use std::marker::Brand;
+
+/// What does not change while a call is evaluated: the specification with its code, what the words share, the address
+/// of the instruction, and how many turns activations have.
+#[derive(Drop)]
+pub struct Setting<'a, B: Base> {
+    pub spec: &'a Spec,
+    pub cir: &'a Cir,
+    pub ctx: &'a B::Ctx,
+    pub at: u32,
+    pub policy: Policy,
+}
+
+/// What contracts speak of, and no code holds: beside the specification, ranks of groups, and how many entries the memo had and
+/// steps were ticked when all began.
+pub trait Counted: Specified {
+    ghost rank: { ℕ → ℕ };
+
+    ghost before: { ℕ };
+
+    ghost ticked: { ℕ };
+}
+
+/// For a call that picks these in its proof: of itself all are 0.
+impl Counted for Brand {
+    ghost use Rattle.std.specs.Prelude.{ℕ};
+
+    ghost rank = { λ g. 0 };
+
+    ghost before = { 0 };
+
+    ghost ticked = { 0 };
+}
+
+/// What calls give, by the context of the words.
+pub trait Known<B: Base>: Counted {
+    ghost calls: { B.Ctx → ℕ → List (Abs B.Word B.Note) → Answer (Abs B.Word B.Note) };
+}

@@ -1,0 +1,10 @@
+pub mod Ending
+pub mod Following
+pub mod Parting
+pub mod Planned
+pub mod Planning
+pub mod Starting
+pub mod Tailed
+pub mod Turning
+pub mod Valuing
+pub mod Weighing

@@ -1,0 +1,754 @@
+use Rattle.std.proofs.Common.{◌≡◌, ◌∙◌, ◌++◌, [], ◌∷◌, ◌+◌, ◌*◌, Some, None, Ok, Err, true, false, length, map, option_map, take, drop, refl, sym, ap, subst, rules, arith}
+use Rattle.std.proofs.Math.Seq.{take-append_seam}
+use Rattle.std.specs.Prelude.{IfSome}
+use Rattle.std.proofs.lemmas.List.{map-append}
+use Rattle.base_trait.specs.Uses.{uses_of}
+use Rattle.spec_types.specs.Views.{core}
+use Rattle.value_laws.specs.Fits.{Fits}
+use Rattle.abs_value.specs.View.{abs}
+use Rattle.recursion_fix.specs.Answer.{gives, out_of}
+use Rattle.reinterpretation.specs.Answers.{behind}
+use Rattle.eval_state.specs.Activities.{due}
+use Rattle.eval_state.specs.Given.{Gives}
+use Rattle.eval_forms.specs.Forms.{branches, part_at, parts}
+use Rattle.eval_forms.specs.Plans.{arm, calls, given_plan, given, goes, size}
+use Rattle.eval_state.specs.Ready.{ArgsOf}
+use Rattle.eval_forms.specs.Next.{IsNext}
+use Rattle.eval_state.specs.Settings as of
+use Rattle.eval_state.specs.Settings.{group_of, group_turn, spec_of}
+use Rattle.eval_state.specs.Views.{all_abs, yield}
+use Rattle.eval_forms.specs.Views.{following, plan}
+use Rattle.eval_forms.specs.Weights.{depths, total, weight}
+use Rattle.std.proofs.lemmas.List.Elements.{All-append, All-cons, All-nil}
+use Rattle.generic_eval.proofs.Planned.{plan_Arm}
+use Rattle.generic_eval.proofs.Ending.{all_viewed, are_arguments, call_fits, failed, leaf_fits, next_is, next_none, parts_fail, parts_none}
+use Rattle.generic_eval.proofs.Parting.{branches_in_order, fewer, part_in_order, part_weighs}
+use Rattle.generic_eval.proofs.Planning.{arm_is, arm_missing}
+use Rattle.generic_eval.proofs.Valuing.{leaf_failed, leaf_gave, leaf_gives, values_end, values_fail, values_more, values_none}
+use Rattle.eval_state.proofs.Items.{drop_here}
+use Rattle.generic_eval.proofs.Turning.{args_fit, bodies_fail, bodies_next, body_fails, body_gives, body_in_order, body_weighs, each_head, each_next}
+use Rattle.generic_eval.proofs.Weighing.{falls}
+use Rattle.eval_state.proofs.Answering.{behind_is, err_is, gave_fits}
+use Rattle.eval_state.proofs.Going.{goes_failed, goes_fits}
+use Rattle.generic_eval.proofs.evaluate.+eval.Goals as goal
+
+-- ---- values
+
+pub values-returns-in_default : goal.values-returns-in_default
+values-returns-in_default g t c =
+    let b = g.B.Base.algebra in
+    let at = c.loop-x in
+    let ts = parts (core c.args.t.now) in
+    let past : part_at ts (length at.out.items) ≡ None = search rules in
+    record {
+      value = values_end b g.B.Base.CAP (g.K.Known.calls c.args.setting.now.ctx.now) c.args.setting.now (map abs c.args.env.now.items) ts (length at.out.items) (map abs at.out.items) (uses_of at.log) _ at.invariant.whole past;
+      fits = at.invariant.fits;
+      env = at.invariant.env;
+      memo = at.invariant.memo;
+    }
+
+pub values-term-requires : goal.values-term-requires
+values-term-requires g t c κs within =
+    let b = g.B.Base.algebra in
+    let at = c.loop-x in
+    let s = c.args.setting.now in
+    let ts = parts (core c.args.t.now) in
+    let x = core c.in-Some.x.now in
+    let here : part_at ts (length at.out.items) ≡ Some x = search rules in
+    let lighter = part_weighs ts (length at.out.items) x here in (
+      omega (arith, lighter, c.decreases),
+      (
+        within.0,
+        (
+          within.1.0,
+          (
+            within.1.1.0,
+            (
+              within.1.1.1.0,
+              (
+                within.1.1.1.1.0,
+                (
+                  within.1.1.1.1.1,
+                  (
+                    record { ready = c.requires.known.ready; fits = rw at.invariant.env c.requires.known.fits; memo = at.invariant.memo },
+                    part_in_order (length (spec_of s).funs) (group_of s) g.K.Counted.rank c.args.group false ts (length at.out.items) x c.requires.order here,
+                  ),
+                ),
+              ),
+            ),
+          ),
+        ),
+      ),
+    )
+
+pub values-returns-in_err-given : goal.values-returns-in_err-given
+values-returns-in_err-given g t c =
+    let b = g.B.Base.algebra in
+    let cap = g.B.Base.CAP in
+    let on = (g.K.Known.calls c.args.setting.now.ctx.now) in
+    let at = c.loop-x in
+    let s = c.args.setting.now in
+    let env = map abs c.args.env.now.items in
+    let ts = parts (core c.args.t.now) in
+    let x = core c.in-Some.x.now in
+    let i = length at.out.items in
+    let here : part_at ts i ≡ Some x = search rules in
+    let l = uses_of at.log in
+    let runs = rw at.invariant.env at c.in_err-given.ensures in
+    failed b cap s g.K.Specified.spec g.K.Counted.rank on g.K.Counted.before g.K.Counted.ticked _ _ (yield {X = g.row.B.Denot} {W = g.row.B-Word.Denot} {N = g.row.B-Note.Denot} {C = g.row.B-Ctx.Denot}) c.in_err-given.field-0.0 _ _ (uses_of c.term.new.log) _ (of.given_of b cap on s c.args.group false env x l) _ _ _ _
+    (search rules) runs.value (λ j e. values_fail b cap on s env ts i (map abs at.out.items) l _ at.invariant.whole x here j (leaf_failed b cap on s (of.value_of b cap on s env x l) j e)) runs.memo
+
+pub values-returns-in_default-value_in : goal.values-returns-in_default-value_in
+values-returns-in_default-value_in g t c =
+    let b = g.B.Base.algebra in
+    let cap = g.B.Base.CAP in
+    let on = (g.K.Known.calls c.args.setting.now.ctx.now) in
+    let at = c.loop-x in
+    let s = c.args.setting.now in
+    let env = map abs c.args.env.now.items in
+    let ts = parts (core c.args.t.now) in
+    let x = core c.in-Some.x.now in
+    let i = length at.out.items in
+    let here : part_at ts i ≡ Some x = search rules in
+    let l = uses_of at.log in
+    let runs = c.in_ok-given.ensures in
+    let value = rw at.invariant.env at runs.value in
+    let gave = leaf_gave b cap on s (of.value_of b cap on s env x l) (option_map yield c.in_ok-given.given) (uses_of c.term.new.log) value in
+    let none : out_of (option_map yield c.in_ok-given.given) ≡ None = sym c.value_in.ensures ∙ ap (option_map abs) c.in_default-value_in.is in
+    record {
+      value = values_none b cap on s env ts i (map abs at.out.items) l _ at.invariant.whole x here (uses_of c.term.new.log) (gave ∙ ap (λ v. gives v (uses_of c.term.new.log)) none);
+      fits = tt;
+      env = runs.env ∙ at.invariant.env;
+      memo = runs.memo;
+    }
+
+pub values-loop-x-smaller : goal.values-loop-x-smaller
+values-loop-x-smaller g t c =
+    let at = c.loop-x in
+    let ts = parts (core c.args.t.now) in
+    let x = core c.in-Some.x.now in
+    let i = length at.out.items in
+    let here : part_at ts i ≡ Some x = search rules in
+    let more : length c.push.new.self.items ≡ i + 1 = search rules in
+    rw more (fewer ts i x here)
+
+pub values-loop-x-preserved : goal.values-loop-x-preserved
+values-loop-x-preserved g t c =
+    let b = g.B.Base.algebra in
+    let cap = g.B.Base.CAP in
+    let on = (g.K.Known.calls c.args.setting.now.ctx.now) in
+    let at = c.loop-x in
+    let s = c.args.setting.now in
+    let env = map abs c.args.env.now.items in
+    let ts = parts (core c.args.t.now) in
+    let x = core c.in-Some.x.now in
+    let i = length at.out.items in
+    let here : part_at ts i ≡ Some x = search rules in
+    let l = uses_of at.log in
+    let m = uses_of c.term.new.log in
+    let v = c.in-Some-value_in.v in
+    let runs = c.in_ok-given.ensures in
+    let value = rw at.invariant.env at runs.value in
+    let gave = leaf_gave b cap on s (of.value_of b cap on s env x l) (option_map yield c.in_ok-given.given) m value in
+    let some : out_of (option_map yield c.in_ok-given.given) ≡ Some (abs v) = sym c.value_in.ensures ∙ ap (option_map abs) c.in-Some-value_in.is in
+    let out : c.push.new.self.items ≡ at.out.items ++ v ∷ [] = c.in_ok-push.ensures.items in
+    let more : length c.push.new.self.items ≡ i + 1 = search rules in
+    let next = values_more b cap on s env ts i (map abs at.out.items) l _ at.invariant.whole x here (abs v) m (gave ∙ ap (λ v. gives v m) some) in
+    record {
+      whole = rw (more, out, map-append) next;
+      fits = rw out (All-append (λ v. Fits b s.ctx.now cap (abs v)) at.out.items (v ∷ []) at.invariant.fits (All-cons (λ v. Fits b s.ctx.now cap (abs v)) v [] (leaf_fits b cap s g.K.Specified.spec g.K.Counted.rank on yield c.args.group c.in_ok-given.given (abs v) runs.fits some) (All-nil (λ v. Fits b s.ctx.now cap (abs v)))));
+      env = runs.env ∙ at.invariant.env;
+      memo = runs.memo;
+    }
+
+-- ---- go
+
+pub go-returns-in_default-body-in-Arm : goal.go-returns-in_default-body-in-Arm
+go-returns-in_default-body-in-Arm g t c =
+    let b = g.B.Base.algebra in
+    let s = c.args.setting.now in
+    let ts = branches (core c.args.t.now) in
+    let n = c.in-Arm.number in
+    let vs = map abs c.in-Arm.named.items in
+    let is : plan c.args.plan ≡ arm n vs = ap plan c.in-Arm.is ∙ plan_Arm n c.in-Arm.named in
+    let past : part_at ts n ≡ None = search rules in
+    record {
+      value = rw is (arm_missing b g.B.Base.CAP (g.K.Known.calls c.args.setting.now.ctx.now) s c.args.group c.args.tail (map abs c.args.env.now.items) ts n vs (uses_of c.args.log.now) past);
+      fits = tt;
+      env = refl;
+      memo = c.requires.known.memo;
+    }
+
+pub go-term-requires : goal.go-term-requires
+go-term-requires g t c κs within =
+    let b = g.B.Base.algebra in
+    let cap = g.B.Base.CAP in
+    let s = c.args.setting.now in
+    let ts = branches (core c.args.t.now) in
+    let n = c.in-Arm.number in
+    let named = c.in-Arm.named.items in
+    let is : plan c.args.plan ≡ arm n (map abs named) = ap plan c.in-Arm.is ∙ plan_Arm n c.in-Arm.named in
+    let x = core c.in_Some-body-in-Arm.body.now in
+    let here : part_at ts n ≡ Some x = sym c.in_Some-body-in-Arm.ensures in
+    let lighter = part_weighs ts n x here in
+    let one : size (plan c.args.plan) ≡ 1 = ap size is in
+    let fits = rw is at c.requires.plan in
+    let env : c.append.new.self.items ≡ c.args.env.now.items ++ named = c.in_ok-append-in-Arm.ensures.items in (
+      omega (arith, lighter, one, c.decreases),
+      (
+        within.0,
+        (
+          within.1.0,
+          (
+            within.1.1.0,
+            (
+              within.1.1.1.0,
+              (
+                within.1.1.1.1.0,
+                (
+                  within.1.1.1.1.1,
+                  (
+                    record {
+                      ready = c.requires.known.ready;
+                      fits = rw env (All-append (λ v. Fits b s.ctx.now cap (abs v)) c.args.env.now.items named c.requires.known.fits (all_viewed (Fits b s.ctx.now cap) abs named fits));
+                      memo = c.requires.known.memo;
+                    },
+                    part_in_order (length (spec_of s).funs) (group_of s) g.K.Counted.rank c.args.group c.args.tail ts n x c.requires.order here,
+                  ),
+                ),
+              ),
+            ),
+          ),
+        ),
+      ),
+    )
+
+pub go-returns-in_err-given-in-Arm : goal.go-returns-in_err-given-in-Arm
+go-returns-in_err-given-in-Arm g t c =
+    let b = g.B.Base.algebra in
+    let cap = g.B.Base.CAP in
+    let on = (g.K.Known.calls c.args.setting.now.ctx.now) in
+    let s = c.args.setting.now in
+    let env = map abs c.args.env.now.items in
+    let ts = branches (core c.args.t.now) in
+    let n = c.in-Arm.number in
+    let named = c.in-Arm.named.items in
+    let vs = map abs named in
+    let l = uses_of c.args.log.now in
+    let is : plan c.args.plan ≡ arm n vs = ap plan c.in-Arm.is ∙ plan_Arm n c.in-Arm.named in
+    let x = core c.in_Some-body-in-Arm.body.now in
+    let here : part_at ts n ≡ Some x = sym c.in_Some-body-in-Arm.ensures in
+    let wider : c.append.new.self.items ≡ c.args.env.now.items ++ named = c.in_ok-append-in-Arm.ensures.items in
+    let runs = rw (wider, map-append) at c.in_err-given-in-Arm.ensures in
+    let so : given_plan b cap on s c.args.group c.args.tail env ts (plan c.args.plan) l ≡ of.given_of b cap on s c.args.group c.args.tail (env ++ vs) x l = rw is (arm_is b cap on s c.args.group c.args.tail env ts n vs x l here) in
+    failed b cap s g.K.Specified.spec g.K.Counted.rank on g.K.Counted.before g.K.Counted.ticked _ _ (yield {X = g.row.B.Denot} {W = g.row.B-Word.Denot} {N = g.row.B-Note.Denot} {C = g.row.B-Ctx.Denot}) c.in_err-given-in-Arm.field-0.0 _ _ (uses_of c.term.new.log) _ (of.given_of b cap on s c.args.group c.args.tail (env ++ vs) x l) _ _ _ _
+    (err_is c.from_residual-in_err-given-in-Arm.result c.in_err-given-in-Arm.field-0.0 c.from_residual-in_err-given-in-Arm.ensures) runs.value (λ j e. so ∙ e) runs.memo
+
+pub go-returns-in_ok-given-in-Arm : goal.go-returns-in_ok-given-in-Arm
+go-returns-in_ok-given-in-Arm g t c =
+    let b = g.B.Base.algebra in
+    let cap = g.B.Base.CAP in
+    let on = (g.K.Known.calls c.args.setting.now.ctx.now) in
+    let s = c.args.setting.now in
+    let env = map abs c.args.env.now.items in
+    let ts = branches (core c.args.t.now) in
+    let n = c.in-Arm.number in
+    let named = c.in-Arm.named.items in
+    let vs = map abs named in
+    let l = uses_of c.args.log.now in
+    let is : plan c.args.plan ≡ arm n vs = ap plan c.in-Arm.is ∙ plan_Arm n c.in-Arm.named in
+    let x = core c.in_Some-body-in-Arm.body.now in
+    let here : part_at ts n ≡ Some x = sym c.in_Some-body-in-Arm.ensures in
+    let wider : c.append.new.self.items ≡ c.args.env.now.items ++ named = c.in_ok-append-in-Arm.ensures.items in
+    let runs = c.in_ok-given-in-Arm.ensures in
+    let value = rw (wider, map-append) at runs.value in
+    let so : given_plan b cap on s c.args.group c.args.tail env ts (plan c.args.plan) l ≡ of.given_of b cap on s c.args.group c.args.tail (env ++ vs) x l = rw is (arm_is b cap on s c.args.group c.args.tail env ts n vs x l here) in
+    let e = c.args.env.now.items in
+    let long : c.len-outer.result ≡ length e = search rules in
+    let cut : c.truncate.new.self.items ≡ take (length e) c.term.new.env.items = rw (c.truncate.ensures.items, long) refl in
+    record { value = so ∙ value; fits = runs.fits; env = cut ∙ ap (λ zs. take (length e) zs) (runs.env ∙ wider) ∙ take-append_seam e named; memo = runs.memo }
+
+-- ---- term
+
+pub term-returns-in_err-done : goal.term-returns-in_err-done
+term-returns-in_err-done g t c =
+    let b = g.B.Base.algebra in
+    let cap = g.B.Base.CAP in
+    let on = (g.K.Known.calls c.args.setting.now.ctx.now) in
+    let s = c.args.setting.now in
+    let env = map abs c.args.env.now.items in
+    let x = core c.args.t.now in
+    let l = uses_of c.args.log.now in
+    let runs = c.in_err-done.ensures in
+    failed b cap s g.K.Specified.spec g.K.Counted.rank on g.K.Counted.before g.K.Counted.ticked _ _ (all_abs {X = g.row.B.Denot} {W = g.row.B-Word.Denot} {N = g.row.B-Note.Denot} {C = g.row.B-Ctx.Denot}) c.in_err-done.field-0.0 _ _ (uses_of c.values.new.log) _ (of.values_of b cap on s env (parts x) l) _ _ _ _
+    (search rules) runs.value (parts_fail b cap s g.K.Specified.spec g.K.Counted.rank on c.args.group c.args.tail env x l) runs.memo
+
+pub term-returns-in_default : goal.term-returns-in_default
+term-returns-in_default g t c =
+    let b = g.B.Base.algebra in
+    let cap = g.B.Base.CAP in
+    let on = (g.K.Known.calls c.args.setting.now.ctx.now) in
+    let s = c.args.setting.now in
+    let env = map abs c.args.env.now.items in
+    let x = core c.args.t.now in
+    let l = uses_of c.args.log.now in
+    let none : of.values_of b cap on s env (parts x) l ≡ gives None (uses_of c.values.new.log) = c.in_ok-done.ensures.value ∙ ap (λ o. gives (option_map all_abs o) (uses_of c.values.new.log)) c.in_default.is in
+    record { value = parts_none b cap s g.K.Specified.spec g.K.Counted.rank on c.args.group c.args.tail env x l (uses_of c.values.new.log) none; fits = tt; env = c.in_ok-done.ensures.env; memo = c.in_ok-done.ensures.memo }
+
+pub term-follow-requires-clause-env : goal.term-follow-requires-clause-env
+term-follow-requires-clause-env g t c =
+    let same : c.values.new.env.items ≡ c.args.env.now.items = c.in_ok-done.ensures.env in
+    rw (c.deref.ensures.value, same) c.requires.known.fits
+
+pub term-call-requires : goal.term-call-requires
+term-call-requires g t c κs within =
+    let b = g.B.Base.algebra in
+    let s = c.args.setting.now in
+    let f = c.in-Some-Calls.fun in
+    let ps = map abs c.in-Some-Calls.args.items in
+    let n = subst (λ o. IfSome o (λ n. IsNext b g.B.Base.CAP s g.K.Counted.rank c.args.group (core c.args.t.now) (following n))) (c.in-Some-Calls.is ∙ ap (λ z. Some z) c.in-Some-Calls.field-0-is) c.in_ok-follow.ensures.is in
+    let lower = falls (total (map core s.cir.now.funs.items)) (g.K.Counted.rank (group_of s f)) (g.K.Counted.rank c.args.group) (4 * weight (core c.args.t.now) + 1) n.1 in (
+      omega (arith, lower, c.decreases),
+      (within.0, (within.1.0, (within.1.1.0, (within.1.1.1.0, (within.1.1.1.1.0, (within.1.1.1.1.1, (record { ready = c.requires.known.ready; fits = All-nil (λ v. Fits b s.ctx.now g.B.Base.CAP (abs v)); memo = c.in_ok-done.ensures.memo }, (n.0, n.2)))))))),
+    )
+
+pub term-go-requires : goal.term-go-requires
+term-go-requires g t c κs within =
+    let b = g.B.Base.algebra in
+    let s = c.args.setting.now in
+    let p = plan c.in-Some-Goes.plan in
+    let x = core c.args.t.now in
+    let n = subst (λ o. IfSome o (λ n. IsNext b g.B.Base.CAP s g.K.Counted.rank c.args.group (core c.args.t.now) (following n))) (c.in-Some-Goes.is ∙ ap (λ z. Some z) c.in-Some-Goes.field-0-is) c.in_ok-follow.ensures.is in
+    let less = n.0 in
+    let same : c.values.new.env.items ≡ c.args.env.now.items = c.in_ok-done.ensures.env in (
+      omega (arith, less, c.decreases),
+      (
+        within.0,
+        (
+          within.1.0,
+          (
+            within.1.1.0,
+            (
+              within.1.1.1.0,
+              (
+                within.1.1.1.1.0,
+                (
+                  within.1.1.1.1.1,
+                  (
+                    record { ready = c.requires.known.ready; fits = rw same c.requires.known.fits; memo = c.in_ok-done.ensures.memo },
+                    (branches_in_order (length (spec_of s).funs) (group_of s) g.K.Counted.rank c.args.group c.args.tail x c.requires.order, n.1),
+                  ),
+                ),
+              ),
+            ),
+          ),
+        ),
+      ),
+    )
+
+-- ---- call
+
+pub call-returns-in-Some : goal.call-returns-in-Some
+call-returns-in-Some g t c =
+    let b = g.B.Base.algebra in
+    let cap = g.B.Base.CAP in
+    let on = (g.K.Known.calls c.args.setting.now.ctx.now) in
+    let s = c.args.setting.now in
+    let f = c.args.fun in
+    let ps = map abs c.args.args.items in
+    let l = uses_of c.args.log.now in
+    let is : behind l (on f ps) ≡ gives (option_map abs c.in-Some.value) (uses_of c.recalled.new.log) = search rules in
+    record {
+      value = is;
+      fits = behind_is abs (Fits b s.ctx.now cap) (Ok c.in-Some.value) l (uses_of c.recalled.new.log) (on f ps) is (call_fits b cap s g.K.Specified.spec g.K.Counted.rank on c.requires.known.ready f ps c.requires.there c.requires.args);
+      env = refl;
+      memo = c.requires.known.memo;
+    }
+
+pub call-activation-requires : goal.call-activation-requires
+call-activation-requires g t c κs within =
+    let b = g.B.Base.algebra in
+    let s = c.args.setting.now in
+    let f = c.args.fun in
+    let args = c.args.args.items in
+    let ds : c.deref-2.result.now ≡ args = c.deref-2.ensures.value in
+    let empty : uses_of c.new-own.result ≡ [] = search rules in
+    let typed = rw c.deref.ensures.value at (c.in_ok-value.ensures.typed c.in_default.is) in (
+      omega (arith, c.decreases),
+      (
+        within.0,
+        (
+          within.1.0,
+          (
+            within.1.1.0,
+            (
+              within.1.1.1.0,
+              (
+                within.1.1.1.1.0,
+                (
+                  within.1.1.1.1.1,
+                  (
+                    record { ready = c.requires.known.ready; fits = All-nil (λ v. Fits b s.ctx.now g.B.Base.CAP (abs v)); memo = c.requires.known.memo },
+                    (c.requires.there, (rw ds (are_arguments b g.B.Base.CAP s g.K.Specified.spec g.K.Counted.rank (g.K.Known.calls c.args.setting.now.ctx.now) f (map abs args) c.requires.args typed), empty)),
+                  ),
+                ),
+              ),
+            ),
+          ),
+        ),
+      ),
+    )
+
+pub term-returns-in-None : goal.term-returns-in-None
+term-returns-in-None g t c =
+    let b = g.B.Base.algebra in
+    let cap = g.B.Base.CAP in
+    let on = (g.K.Known.calls c.args.setting.now.ctx.now) in
+    let s = c.args.setting.now in
+    let env = map abs c.args.env.now.items in
+    let x = core c.args.t.now in
+    let l = uses_of c.args.log.now in
+    let m = uses_of c.values.new.log in
+    let n = uses_of c.follow.new.log in
+    let d = map abs c.in-Some.done.items in
+    let done : of.values_of b cap on s env (parts x) l ≡ gives (Some d) m = c.in_ok-done.ensures.value ∙ ap (λ o. gives (option_map all_abs o) m) c.in-Some.is in
+    let same : c.values.new.env.items ≡ c.args.env.now.items = c.in_ok-done.ensures.env in
+    let told = rw (c.deref.ensures.value, same) at c.in_ok-follow.ensures.value in
+    let none : option_map following c.in_ok-follow.field-0 ≡ None = ap (option_map following) c.in-None.is in
+    record { value = next_none b cap s g.K.Specified.spec g.K.Counted.rank on c.args.group c.args.tail env x l d m done n (told ∙ ap (λ o. gives o n) none); fits = tt; env = same; memo = c.in_ok-done.ensures.memo }
+
+pub term-returns-in-Some-Given : goal.term-returns-in-Some-Given
+term-returns-in-Some-Given g t c =
+    let b = g.B.Base.algebra in
+    let cap = g.B.Base.CAP in
+    let on = (g.K.Known.calls c.args.setting.now.ctx.now) in
+    let s = c.args.setting.now in
+    let env = map abs c.args.env.now.items in
+    let x = core c.args.t.now in
+    let l = uses_of c.args.log.now in
+    let m = uses_of c.values.new.log in
+    let n = uses_of c.follow.new.log in
+    let d = map abs c.in-Some.done.items in
+    let y = yield c.in-Some-Given.given in
+    let done : of.values_of b cap on s env (parts x) l ≡ gives (Some d) m = c.in_ok-done.ensures.value ∙ ap (λ o. gives (option_map all_abs o) m) c.in-Some.is in
+    let same : c.values.new.env.items ≡ c.args.env.now.items = c.in_ok-done.ensures.env in
+    let told = rw (c.deref.ensures.value, same) at c.in_ok-follow.ensures.value in
+    let some : option_map following c.in_ok-follow.field-0 ≡ Some (given y) = ap (option_map following) (c.in-Some-Given.is ∙ ap (λ z. Some z) c.in-Some-Given.field-0-is) in
+    let fits = subst (λ o. IfSome o (λ n. IsNext b cap s g.K.Counted.rank c.args.group x (following n))) (c.in-Some-Given.is ∙ ap (λ z. Some z) c.in-Some-Given.field-0-is) c.in_ok-follow.ensures.is in
+    record { value = next_is b cap s g.K.Specified.spec g.K.Counted.rank on c.args.group c.args.tail env x l d m done (given y) n (told ∙ ap (λ o. gives o n) some); fits = fits; env = same; memo = c.in_ok-done.ensures.memo }
+
+pub term-returns-in_err-v-in-Some-Calls : goal.term-returns-in_err-v-in-Some-Calls
+term-returns-in_err-v-in-Some-Calls g t c =
+    let stops : c.from_residual-in_err-v-in-Some-Calls.result ≡ Err c.in_err-v-in-Some-Calls.field-0.0 = err_is c.from_residual-in_err-v-in-Some-Calls.result c.in_err-v-in-Some-Calls.field-0.0 c.from_residual-in_err-v-in-Some-Calls.ensures in
+    let b = g.B.Base.algebra in
+    let cap = g.B.Base.CAP in
+    let on = (g.K.Known.calls c.args.setting.now.ctx.now) in
+    let s = c.args.setting.now in
+    let env = map abs c.args.env.now.items in
+    let x = core c.args.t.now in
+    let l = uses_of c.args.log.now in
+    let m = uses_of c.values.new.log in
+    let n = uses_of c.follow.new.log in
+    let d = map abs c.in-Some.done.items in
+    let f = c.in-Some-Calls.fun in
+    let ps = map abs c.in-Some-Calls.args.items in
+    let done : of.values_of b cap on s env (parts x) l ≡ gives (Some d) m = c.in_ok-done.ensures.value ∙ ap (λ o. gives (option_map all_abs o) m) c.in-Some.is in
+    let same : c.values.new.env.items ≡ c.args.env.now.items = c.in_ok-done.ensures.env in
+    let told = rw (c.deref.ensures.value, same) at c.in_ok-follow.ensures.value in
+    let some : option_map following c.in_ok-follow.field-0 ≡ Some (calls f ps) = ap (option_map following) (c.in-Some-Calls.is ∙ ap (λ z. Some z) c.in-Some-Calls.field-0-is) in
+    let so = next_is b cap s g.K.Specified.spec g.K.Counted.rank on c.args.group c.args.tail env x l d m done (calls f ps) n (told ∙ ap (λ o. gives o n) some) in
+    let runs = c.in_err-v-in-Some-Calls.ensures in
+    failed b cap s g.K.Specified.spec g.K.Counted.rank on g.K.Counted.before g.K.Counted.ticked _ _ (abs {X = g.row.B.Denot} {W = g.row.B-Word.Denot} {N = g.row.B-Note.Denot} {C = g.row.B-Ctx.Denot}) c.in_err-v-in-Some-Calls.field-0.0 _ _ (uses_of c.call.new.log) _ (behind n (on f ps)) _ _ _ _
+    stops runs.value (λ j e. so ∙ ap (of.leaf_of b cap on s) e) runs.memo
+
+pub term-returns-in_ok-v-in-Some-Calls : goal.term-returns-in_ok-v-in-Some-Calls
+term-returns-in_ok-v-in-Some-Calls g t c =
+    let b = g.B.Base.algebra in
+    let cap = g.B.Base.CAP in
+    let on = (g.K.Known.calls c.args.setting.now.ctx.now) in
+    let s = c.args.setting.now in
+    let env = map abs c.args.env.now.items in
+    let x = core c.args.t.now in
+    let l = uses_of c.args.log.now in
+    let m = uses_of c.values.new.log in
+    let n = uses_of c.follow.new.log in
+    let d = map abs c.in-Some.done.items in
+    let f = c.in-Some-Calls.fun in
+    let ps = map abs c.in-Some-Calls.args.items in
+    let done : of.values_of b cap on s env (parts x) l ≡ gives (Some d) m = c.in_ok-done.ensures.value ∙ ap (λ o. gives (option_map all_abs o) m) c.in-Some.is in
+    let same : c.values.new.env.items ≡ c.args.env.now.items = c.in_ok-done.ensures.env in
+    let told = rw (c.deref.ensures.value, same) at c.in_ok-follow.ensures.value in
+    let some : option_map following c.in_ok-follow.field-0 ≡ Some (calls f ps) = ap (option_map following) (c.in-Some-Calls.is ∙ ap (λ z. Some z) c.in-Some-Calls.field-0-is) in
+    let so = next_is b cap s g.K.Specified.spec g.K.Counted.rank on c.args.group c.args.tail env x l d m done (calls f ps) n (told ∙ ap (λ o. gives o n) some) in
+    let runs = c.in_ok-v-in-Some-Calls.ensures in
+    let k = uses_of c.call.new.log in
+    let v = option_map abs c.in_ok-v-in-Some-Calls.v in
+    record {
+      value = so ∙ ap (of.leaf_of b cap on s) runs.value ∙ leaf_gives b cap on s v k ∙ ap (λ o. gives o k) (sym c.leaf.ensures.value);
+      fits = c.leaf.ensures.fits;
+      env = same;
+      memo = runs.memo;
+    }
+
+pub term-returns-in-Some-Goes : goal.term-returns-in-Some-Goes
+term-returns-in-Some-Goes g t c =
+    let b = g.B.Base.algebra in
+    let cap = g.B.Base.CAP in
+    let on = (g.K.Known.calls c.args.setting.now.ctx.now) in
+    let s = c.args.setting.now in
+    let env = map abs c.args.env.now.items in
+    let x = core c.args.t.now in
+    let l = uses_of c.args.log.now in
+    let m = uses_of c.values.new.log in
+    let n = uses_of c.follow.new.log in
+    let d = map abs c.in-Some.done.items in
+    let p = plan c.in-Some-Goes.plan in
+    let done : of.values_of b cap on s env (parts x) l ≡ gives (Some d) m = c.in_ok-done.ensures.value ∙ ap (λ o. gives (option_map all_abs o) m) c.in-Some.is in
+    let same : c.values.new.env.items ≡ c.args.env.now.items = c.in_ok-done.ensures.env in
+    let told = rw (c.deref.ensures.value, same) at c.in_ok-follow.ensures.value in
+    let some : option_map following c.in_ok-follow.field-0 ≡ Some (goes p) = ap (option_map following) (c.in-Some-Goes.is ∙ ap (λ z. Some z) c.in-Some-Goes.field-0-is) in
+    let so = next_is b cap s g.K.Specified.spec g.K.Counted.rank on c.args.group c.args.tail env x l d m done (goes p) n (told ∙ ap (λ o. gives o n) some) in
+    let runs = rw same at c.go.ensures in
+    record { value = subst (λ a. Gives yield c.go.result (uses_of c.go.new.log) a) (sym so) runs.value; fits = runs.fits; env = runs.env; memo = runs.memo }
+
+-- ---- activation
+
+pub activation-turn-requires : goal.activation-turn-requires
+activation-turn-requires g t c κs within =
+    let b = g.B.Base.algebra in
+    let cap = g.B.Base.CAP in
+    let s = c.args.setting.now in
+    let inv = c.loop-activity.invariant in
+    let a = c.loop-activity.activity in
+    let same = ap (λ k. depths (total (map core s.cir.now.funs.items)) (g.K.Counted.rank k)) c.group_of-group.ensures in
+    let fits = goes_fits b g.met.B.Base.laws cap s g.K.Specified.spec g.K.Counted.rank (g.K.Known.calls c.args.setting.now.ctx.now) c.requires.known.ready c.args.fun c.requires.there (map abs c.args.args.now) a (uses_of c.loop-activity.own) inv.goes in (
+      omega (arith, same, c.decreases),
+      (
+        within.0,
+        (
+          within.1.0,
+          (
+            within.1.1.0,
+            (
+              within.1.1.1.0,
+              (
+                within.1.1.1.1.0,
+                (
+                  within.1.1.1.1.1,
+                  (
+                    record { ready = c.requires.known.ready; fits = All-nil (λ v. Fits b s.ctx.now cap (abs v)); memo = inv.memo },
+                    rw (c.args_of.ensures, c.group_of-group.ensures) fits,
+                  ),
+                ),
+              ),
+            ),
+          ),
+        ),
+      ),
+    )
+
+pub activation-returns-in_err-given : goal.activation-returns-in_err-given
+activation-returns-in_err-given g t c =
+    let b = g.B.Base.algebra in
+    let cap = g.B.Base.CAP in
+    let on = (g.K.Known.calls c.args.setting.now.ctx.now) in
+    let s = c.args.setting.now in
+    let f = c.args.fun in
+    let a = c.loop-activity.activity in
+    let l = uses_of c.loop-activity.own in
+    let told = rw (c.args_of.ensures, c.group_of-group.ensures) at c.in_err-given.ensures.value in
+    failed b cap s g.K.Specified.spec g.K.Counted.rank on g.K.Counted.before g.K.Counted.ticked _ _ (yield {X = g.row.B.Denot} {W = g.row.B-Word.Denot} {N = g.row.B-Note.Denot} {C = g.row.B-Ctx.Denot}) c.in_err-given.field-0.0 _ _ (uses_of c.turn.new.log) _
+    (group_turn b cap on s (group_of s f) (due a) l) _ _ _ _ (err_is c.from_residual-in_err-given.result c.in_err-given.field-0.0 c.from_residual-in_err-given.ensures) told
+    (goes_failed b g.met.B.Base.laws cap s g.K.Specified.spec g.K.Counted.rank on c.requires.known.ready f c.requires.there (map abs c.args.args.now) a l c.loop-activity.invariant.goes) c.in_err-given.ensures.memo
+
+pub activation-advance-requires-clause-taken : goal.activation-advance-requires-clause-taken
+activation-advance-requires-clause-taken g t c =
+    let told = rw (c.args_of.ensures, c.group_of-group.ensures) at c.in_ok-given.ensures.value in
+    record { args = map abs c.args.args.now; before = uses_of c.loop-activity.own; after = uses_of c.turn.new.log; goes = c.loop-activity.invariant.goes; gave = told }
+
+pub activation-loop-activity-preserved : goal.activation-loop-activity-preserved
+activation-loop-activity-preserved g t c =
+    let told = rw (c.args_of.ensures, c.group_of-group.ensures) at c.in_ok-given.ensures.value in
+    let after = rw c.in-Again.is at c.in_ok-advance.ensures.after in
+    record { goes = after (map abs c.args.args.now) (uses_of c.loop-activity.own) (uses_of c.turn.new.log) c.loop-activity.invariant.goes told; memo = c.in_ok-given.ensures.memo }
+
+pub activation-returns-in-Done : goal.activation-returns-in-Done
+activation-returns-in-Done g t c =
+    let b = g.B.Base.algebra in
+    let cap = g.B.Base.CAP in
+    let on = (g.K.Known.calls c.args.setting.now.ctx.now) in
+    let s = c.args.setting.now in
+    let f = c.args.fun in
+    let ps = map abs c.args.args.now in
+    let m = uses_of c.turn.new.log in
+    let told = rw (c.args_of.ensures, c.group_of-group.ensures) at c.in_ok-given.ensures.value in
+    let after = rw c.in-Done.is at c.in_ok-advance.ensures.after in
+    let is = after ps (uses_of c.loop-activity.own) m c.loop-activity.invariant.goes told in
+    record {
+      value = is;
+      fits = gave_fits abs (Fits b s.ctx.now cap) c.in-Done.value m (on f ps) is (c.requires.known.ready.results f ps c.requires.there c.requires.args);
+      env = refl;
+      memo = c.in_ok-given.ensures.memo;
+    }
+
+pub activation-returns-in-Deep : goal.activation-returns-in-Deep
+activation-returns-in-Deep g t c =
+    let told = rw (c.args_of.ensures, c.group_of-group.ensures) at c.in_ok-given.ensures.value in
+    let after = rw c.in-Deep.is at c.in_ok-advance.ensures.after in
+    record { value = after (map abs c.args.args.now) (uses_of c.loop-activity.own) (uses_of c.turn.new.log) c.loop-activity.invariant.goes told; fits = tt; env = tt; memo = c.in_ok-given.ensures.memo }
+
+-- ---- turn
+
+pub turn-body-requires : goal.turn-body-requires
+turn-body-requires g t c κs within =
+    let b = g.B.Base.algebra in
+    let cap = g.B.Base.CAP in
+    let s = c.args.setting.now in
+    let i = c.loop-i.i in
+    let inv = c.loop-i.invariant in
+    let here = drop_here c.args.args.now i c.index-args-i.result c.index-args-i.is c.loop-i-test.true in
+    let rest = map (option_map all_abs) (drop (i + 1) c.args.args.now) in (
+      omega (arith, c.decreases),
+      (
+        within.0,
+        (
+          within.1.0,
+          (
+            within.1.1.0,
+            (
+              within.1.1.1.0,
+              (
+                within.1.1.1.1.0,
+                (
+                  within.1.1.1.1.1,
+                  (
+                    record { ready = c.requires.known.ready; fits = All-nil (λ v. Fits b s.ctx.now cap (abs v)); memo = inv.memo },
+                    (each_head (ArgsOf b cap s c.args.group) i (option_map all_abs c.index-args-i.result) rest (rw here at inv.args), inv.fits),
+                  ),
+                ),
+              ),
+            ),
+          ),
+        ),
+      ),
+    )
+
+pub turn-returns-in_err-out : goal.turn-returns-in_err-out
+turn-returns-in_err-out g t c =
+    let b = g.B.Base.algebra in
+    let cap = g.B.Base.CAP in
+    let on = (g.K.Known.calls c.args.setting.now.ctx.now) in
+    let s = c.args.setting.now in
+    let i = c.loop-i.i in
+    let l = uses_of c.loop-i.log in
+    let x = option_map all_abs c.index-args-i.result in
+    let out = option_map yield c.loop-i.out in
+    let here = drop_here c.args.args.now i c.index-args-i.result c.index-args-i.is c.loop-i-test.true in
+    let rest = map (option_map all_abs) (drop (i + 1) c.args.args.now) in
+    let runs = c.in_err-out.ensures in
+    failed b cap s g.K.Specified.spec g.K.Counted.rank on g.K.Counted.before g.K.Counted.ticked _ _ (yield {X = g.row.B.Denot} {W = g.row.B-Word.Denot} {N = g.row.B-Note.Denot} {C = g.row.B-Ctx.Denot}) c.in_err-out.field-0.0 _ _ (uses_of c.body.new.log) _
+    (of.given_bodies b cap on s c.args.group i out (x ∷ []) l) _ _ _ _ (err_is c.from_residual.result c.in_err-out.field-0.0 c.from_residual.ensures) runs.value
+    (λ j e. rw here at c.loop-i.invariant.whole ∙ bodies_fail b cap on s c.args.group i out x rest l j e) runs.memo
+
+pub turn-loop-i-preserved : goal.turn-loop-i-preserved
+turn-loop-i-preserved g t c =
+    let b = g.B.Base.algebra in
+    let cap = g.B.Base.CAP in
+    let on = (g.K.Known.calls c.args.setting.now.ctx.now) in
+    let s = c.args.setting.now in
+    let i = c.loop-i.i in
+    let l = uses_of c.loop-i.log in
+    let x = option_map all_abs c.index-args-i.result in
+    let here = drop_here c.args.args.now i c.index-args-i.result c.index-args-i.is c.loop-i-test.true in
+    let rest = map (option_map all_abs) (drop (i + 1) c.args.args.now) in
+    let inv = c.loop-i.invariant in
+    let runs = c.in_ok-out.ensures in
+    record {
+      whole = rw here at inv.whole ∙ bodies_next b cap on s c.args.group i (option_map yield c.loop-i.out) x rest l (option_map yield c.in_ok-out.out) (uses_of c.body.new.log) runs.value;
+      args = each_next (ArgsOf b cap s c.args.group) i x rest (rw here at inv.args);
+      fits = runs.fits;
+      memo = runs.memo;
+    }
+
+-- ---- body
+
+pub body-term-requires : goal.body-term-requires
+body-term-requires g t c κs within =
+    let b = g.B.Base.algebra in
+    let cap = g.B.Base.CAP in
+    let s = c.args.setting.now in
+    let i = c.args.number in
+    let xs = map abs c.in-Some.args.items in
+    let x = core c.body_of-t.result.now in
+    let ready = c.requires.known.ready in
+    let are = subst (λ o. IfSome (option_map all_abs o) (ArgsOf b cap s c.args.group i)) c.in-Some.is c.requires.args in
+    let copied : map abs c.in_ok-env.env.items ≡ xs = c.in_ok-env.ensures ∙ ap (λ zs. map abs zs) c.deref.ensures.value in
+    let lighter = body_weighs b cap s x i ready.code_is c.body_of-t.ensures in (
+      omega (arith, lighter, c.decreases),
+      (
+        within.0,
+        (
+          within.1.0,
+          (
+            within.1.1.0,
+            (
+              within.1.1.1.0,
+              (
+                within.1.1.1.1.0,
+                (
+                  within.1.1.1.1.1,
+                  (
+                    record {
+                      ready = ready;
+                      fits = all_viewed (Fits b s.ctx.now cap) abs c.in_ok-env.env.items (rw copied (args_fit b cap s xs are.are.fit));
+                      memo = c.requires.known.memo;
+                    },
+                    body_in_order b cap s g.K.Specified.spec g.K.Counted.rank (g.K.Known.calls c.args.setting.now.ctx.now) ready c.args.group i x are.of_group c.body_of-t.ensures,
+                  ),
+                ),
+              ),
+            ),
+          ),
+        ),
+      ),
+    )
+
+pub body-returns-in_err-given : goal.body-returns-in_err-given
+body-returns-in_err-given g t c =
+    let b = g.B.Base.algebra in
+    let cap = g.B.Base.CAP in
+    let on = (g.K.Known.calls c.args.setting.now.ctx.now) in
+    let s = c.args.setting.now in
+    let i = c.args.number in
+    let l = uses_of c.args.log.now in
+    let first = option_map yield c.args.first in
+    let xs = map abs c.in-Some.args.items in
+    let x = core c.body_of-t.result.now in
+    let copied : map abs c.in_ok-env.env.items ≡ xs = c.in_ok-env.ensures ∙ ap (λ zs. map abs zs) c.deref.ensures.value in
+    let so : of.given_bodies b cap on s c.args.group i first (option_map all_abs c.args.args.now ∷ []) l ≡ of.given_bodies b cap on s c.args.group i first (Some xs ∷ []) l = rw c.in-Some.is refl in
+    let runs = rw copied at c.in_err-given.ensures in
+    failed b cap s g.K.Specified.spec g.K.Counted.rank on g.K.Counted.before g.K.Counted.ticked _ _ (yield {X = g.row.B.Denot} {W = g.row.B-Word.Denot} {N = g.row.B-Note.Denot} {C = g.row.B-Ctx.Denot}) c.in_err-given.field-0.0 _ _ (uses_of c.term.new.log) _
+    (of.given_of b cap on s c.args.group true xs x l) _ _ _ _ (err_is c.from_residual-in_err-given.result c.in_err-given.field-0.0 c.from_residual-in_err-given.ensures) runs.value
+    (λ j e. so ∙ body_fails b cap on s c.args.group i first xs x l c.body_of-t.ensures j e) runs.memo
+
+pub body-returns : goal.body-returns
+body-returns g t c =
+    let b = g.B.Base.algebra in
+    let cap = g.B.Base.CAP in
+    let on = (g.K.Known.calls c.args.setting.now.ctx.now) in
+    let s = c.args.setting.now in
+    let i = c.args.number in
+    let l = uses_of c.args.log.now in
+    let m = uses_of c.term.new.log in
+    let first = option_map yield c.args.first in
+    let xs = map abs c.in-Some.args.items in
+    let x = core c.body_of-t.result.now in
+    let copied : map abs c.in_ok-env.env.items ≡ xs = c.in_ok-env.ensures ∙ ap (λ zs. map abs zs) c.deref.ensures.value in
+    let so : of.given_bodies b cap on s c.args.group i first (option_map all_abs c.args.args.now ∷ []) l ≡ of.given_bodies b cap on s c.args.group i first (Some xs ∷ []) l = rw c.in-Some.is refl in
+    let runs = rw copied at c.in_ok-given.ensures in
+    record {
+      value = so ∙ body_gives b cap on s c.args.group i first xs x l c.body_of-t.ensures (option_map yield c.in_ok-given.given) m runs.value ∙ ap (λ o. gives o m) (sym c.in_ok-joined.ensures.value);
+      fits = c.in_ok-joined.ensures.fits;
+      env = refl;
+      memo = runs.memo;
+    }

@@ -1,0 +1,109 @@
+//! Calls of functions.
+
+ghost use Rattle.std.specs.Prelude.{◌≡◌, ◌+◌, ◌<◌, length, map, IfOk, IfSome};
+ghost use Rattle.base_trait.specs.Uses.{uses_of};
+ghost use Rattle.value_laws.specs.Fits.{Fits};
+ghost use Rattle.abs_value.specs.View.{abs};
+ghost use Rattle.reinterpretation.specs.Answers.{behind};
+ghost use Rattle.reinterpretation.specs.Calls.{AreArguments};
+ghost use Rattle.call_answers.specs.Answers.{answers};
+ghost use Rattle.eval_state.specs.Given.{Gives};
+ghost use Rattle.eval_state.specs.Memos.{Stands, entries};
+ghost use Rattle.eval_state.specs.Ready.{IsReady};
+ghost use Rattle.eval_state.specs.Settings.{spec_of};
+ghost use Rattle.generic_eval.specs.Calls.{IsRight, MayEvaluate, calls_of};
+
+use crate::evaluate::call;
+use crate::known::{Defined, Placed};
+use abs_value::AV;
+use base_trait::{Base, Log};
+use eval_state::{EvalError, Memo, Setting, memo_new};
+use std::alloc::Global;
+use std::marker::Brand;
+use std::sync::ledger::{Blank, Ledger};
+use step_counter::Steps;
+
+/// The value of a call, or none; its reads are added to the log.
+///
+/// The memo is one of the same setting. A call that it holds is not evaluated again; one that is new is kept there, and ticks one step.
+/// `Deep` names the function of the first activation that had no turn left. After an error the memo and the log may have grown.
+pub fn eval<B: Base, L: Ledger>(
+    alloc: Global,
+    setting: &Setting<B>,
+    function: u32,
+    args: Vec<AV<B>>,
+    memo: &mut Memo<B>,
+    steps: &mut Steps<L>,
+    log: &mut Log,
+) -> Result<Option<AV<B>>, EvalError>
+    requires ready { MayEvaluate B.algebra B.CAP setting.now }
+    requires args { AreArguments B.algebra setting.now.ctx.now B.CAP (spec_of setting.now) function (map abs args.items) }
+    requires memo { IsRight B.algebra B.CAP setting.now (entries memo.old) }
+    ensures value { Gives abs result (uses_of log.new) (behind (uses_of log.old) (calls_of B.algebra B.CAP setting.now function (map abs args.items))) }
+    ensures fits { IfOk result (λ r. IfSome r (λ v. Fits B.algebra setting.now.ctx.now B.CAP (abs v))) }
+    ensures memo { IsRight B.algebra B.CAP setting.now (entries memo.new) }
+    ensures counted { length (entries memo.new) + steps.old ≡ length (entries memo.old) + steps.new }
+{
+    evaluated::<B, Brand, L>(alloc, setting, function, args, memo, steps, log)
+}
+
+/// The same with a memo and a counter of its own.
+pub fn eval_anew<B: Base>(
+    alloc: Global,
+    setting: &Setting<B>,
+    function: u32,
+    args: Vec<AV<B>>,
+    log: &mut Log,
+) -> Result<Option<AV<B>>, EvalError>
+    requires ready { MayEvaluate B.algebra B.CAP setting.now }
+    requires args { AreArguments B.algebra setting.now.ctx.now B.CAP (spec_of setting.now) function (map abs args.items) }
+    ensures value { Gives abs result (uses_of log.new) (behind (uses_of log.old) (calls_of B.algebra B.CAP setting.now function (map abs args.items))) }
+    ensures fits { IfOk result (λ r. IfSome r (λ v. Fits B.algebra setting.now.ctx.now B.CAP (abs v))) }
+{
+    counted::<B, Brand>(alloc, setting, function, args, Blank::new(1), log)
+}
+
+/// The same, where the counter is of this blank.
+fn counted<B: Base, L: Ledger>(
+    alloc: Global,
+    setting: &Setting<B>,
+    function: u32,
+    args: Vec<AV<B>>,
+    blank: Blank,
+    log: &mut Log,
+) -> Result<Option<AV<B>>, EvalError>
+    requires name { blank.name ≡ L.name }
+    requires parts { blank.parts ≡ L.parts }
+    requires some { 0 < blank.parts }
+    requires ready { MayEvaluate B.algebra B.CAP setting.now }
+    requires args { AreArguments B.algebra setting.now.ctx.now B.CAP (spec_of setting.now) function (map abs args.items) }
+    ensures value { Gives abs result (uses_of log.new) (behind (uses_of log.old) (calls_of B.algebra B.CAP setting.now function (map abs args.items))) }
+    ensures fits { IfOk result (λ r. IfSome r (λ v. Fits B.algebra setting.now.ctx.now B.CAP (abs v))) }
+{
+    let mut memo = memo_new(alloc);
+    let mut steps: Steps<L> = Steps::new(blank);
+    eval::<B, L>(alloc, setting, function, args, &mut memo, &mut steps, log)
+}
+
+/// The same as `eval`, where what is known of the setting, of the memo and of the steps is picked by the caller's proof.
+fn evaluated<B: Base, K: Placed, L: Ledger>(
+    alloc: Global,
+    setting: &Setting<B>,
+    function: u32,
+    args: Vec<AV<B>>,
+    memo: &mut Memo<B>,
+    steps: &mut Steps<L>,
+    log: &mut Log,
+) -> Result<Option<AV<B>>, EvalError>
+    requires ready { IsReady B.algebra B.CAP setting.now K.spec K.rank (answers B.algebra setting.now.ctx.now B.CAP K.spec K.at K.policy) }
+    requires args { AreArguments B.algebra setting.now.ctx.now B.CAP (spec_of setting.now) function (map abs args.items) }
+    requires memo { Stands (answers B.algebra setting.now.ctx.now B.CAP K.spec K.at K.policy) K.before K.ticked (entries memo.old) steps.old }
+    ensures value { Gives abs result (uses_of log.new) (behind (uses_of log.old) (answers B.algebra setting.now.ctx.now B.CAP K.spec K.at K.policy function (map abs args.items))) }
+    ensures fits { IfOk result (λ r. IfSome r (λ v. Fits B.algebra setting.now.ctx.now B.CAP (abs v))) }
+    ensures memo { Stands (answers B.algebra setting.now.ctx.now B.CAP K.spec K.at K.policy) K.before K.ticked (entries memo.new) steps.new }
+{
+    if function as usize >= setting.spec.funs.len() {
+        return Ok(None);
+    }
+    call::<B, Defined<K>, L>(alloc, setting, function, args, memo, steps, log)
+}
