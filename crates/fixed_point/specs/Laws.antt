@@ -14,7 +14,7 @@ module _ {E W S : Type 0} (A : Analysis E W S) where
   FullTracesClose =
       (trace : List ℕ) (t : Listings E) → IsLegal A trace → IsFull (play A trace) → TableFits A t → IsTableOf A t (play A trace) → IsClosed A t
 
-  -- It could stand in a text beside the image.
+  -- The table of a trace is one of the image.
   abbrev pub TablesFitTheImage : Type 0
   TablesFitTheImage = (trace : List ℕ) (t : Listings E) → TableFits A t → IsTableOf A t (play A trace) → FitsImage A t
 

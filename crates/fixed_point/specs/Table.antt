@@ -57,7 +57,8 @@ module _ {E W S : Type 0} (A : Analysis E W S) where
   abbrev pub IsTableOf : Listings E → Play E → Type 0
   IsTableOf t p = (at : ℕ) → IsBlockOf at (t at) (p at)
 
-  -- The table could stand in a text beside its image: its addresses are the image's, and lists ascend.
+  -- A table of the image: its blocks and next addresses are at code addresses, the stamps of its elements and uses are the entry's
+  -- or code addresses, and next addresses and exits ascend.
   pub record IsBlockOfImage (at : ℕ) (b : Listing E) : Type 0 where
     pub code : IsTrue (is_code A.code at)
     pub stamps : AreAmong (A.elements.listed b.elem) (stamps_of A.code)

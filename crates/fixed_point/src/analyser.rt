@@ -15,7 +15,8 @@ use step_counter::Steps;
 
 /// Elements over a code image, with an entry and a transfer.
 ///
-/// `analysis` has the value of each call as a function, over plain elements; `laws` are what every user may rest on.
+/// `analysis` has the value of each call as a function, over plain elements; `laws` are what every user may rest on
+/// where the analyser is ready (`IsReady`). `is_code` and `start` may be called before that is known.
 pub trait Analyser {
     /// What stands at an address.
     type Elem: Drop;
@@ -30,6 +31,9 @@ pub trait Analyser {
 
     /// The states that elements describe.
     ghost State: { Type 0 };
+
+    /// What has to hold of an analyser before it is used.
+    ghost IsReady: { Self → Type 0 };
 
     /// What the calls mean.
     ghost analysis: { Self → Analysis Plain Self.Shown State };
@@ -47,11 +51,13 @@ pub trait Analyser {
 
     /// The entry's element: it holds of each state of the entry.
     fn entry(&self, alloc: Global) -> Result<Self::Elem, NoMemory>
+        requires ready { IsReady self.now }
         ensures value { IfOk result (λ r. (analysis self.now).elements.same (view r) (analysis self.now).entry) }
         ensures fits { IfOk result (λ r. (analysis self.now).elements.fits (view r)) };
 
     /// An element that describes what either side describes.
     fn join(&self, alloc: Global, x: &Self::Elem, y: &Self::Elem) -> Result<Self::Elem, NoMemory>
+        requires ready { IsReady self.now }
         requires left { (analysis self.now).elements.fits (view x.now) }
         requires right { (analysis self.now).elements.fits (view y.now) }
         ensures value { IfOk result (λ r. (analysis self.now).elements.same (view r) ((analysis self.now).elements.join (view x.now) (view y.now))) }
@@ -64,6 +70,7 @@ pub trait Analyser {
         old: &Self::Elem,
         new: &Self::Elem,
     ) -> Result<Self::Elem, NoMemory>
+        requires ready { IsReady self.now }
         requires left { (analysis self.now).elements.fits (view old.now) }
         requires right { (analysis self.now).elements.fits (view new.now) }
         ensures value { IfOk result (λ r. (analysis self.now).elements.same (view r) ((analysis self.now).elements.widen (view old.now) (view new.now))) }
@@ -71,13 +78,15 @@ pub trait Analyser {
 
     /// Whether the old element describes all that the new one does, as far as this test tells.
     fn absorbs(&self, old: &Self::Elem, new: &Self::Elem) -> bool
+        requires ready { IsReady self.now }
         requires left { (analysis self.now).elements.fits (view old.now) }
         requires right { (analysis self.now).elements.fits (view new.now) }
         ensures { result ≡ (analysis self.now).elements.absorbs (view old.now) (view new.now) };
 
     /// The element once more.
     fn copy(&self, alloc: Global, x: &Self::Elem) -> Result<Self::Elem, NoMemory>
-        requires { (analysis self.now).elements.fits (view x.now) }
+        requires ready { IsReady self.now }
+        requires fits { (analysis self.now).elements.fits (view x.now) }
         ensures value { IfOk result (λ r. (analysis self.now).elements.same (view r) (view x.now)) }
         ensures fits { IfOk result (λ r. (analysis self.now).elements.fits (view r)) };
 
@@ -89,6 +98,7 @@ pub trait Analyser {
         x: &Self::Elem,
         steps: &mut Steps<L>,
     ) -> Result<Transferred<Self::Elem, Self::Shown>, NoMemory>
+        requires ready { IsReady self.now }
         requires code { IsTrue (is_code (analysis self.now).code at) }
         requires fits { (analysis self.now).elements.fits (view x.now) }
         ensures value { IfOk result (λ r. SameOutcome (analysis self.now).elements (outcome view r) ((analysis self.now).transfer at (view x.now))) }
@@ -97,5 +107,5 @@ pub trait Analyser {
         ensures most { steps.new ≤ steps.old + 1 };
 
     /// What an analysis rests on.
-    ghost laws: { (it : Self) → AnalysisLaws (analysis it) };
+    ghost laws: { (it : Self) → IsReady it → AnalysisLaws (analysis it) };
 }

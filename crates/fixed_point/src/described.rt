@@ -4,7 +4,7 @@ ghost use Rattle.fixed_point.specs.Runs.{IsSound};
 
 use crate::analyser::Analyser;
 
-/// An analysis that is sound for its machine.
+/// An analysis that is sound for its machine, where the analyser is ready.
 pub trait Described: Analyser {
-    ghost sound: { (it : Self) → IsSound (Self.analysis it) (Self.machine it) };
+    ghost sound: { (it : Self) → Self.IsReady it → IsSound (Self.analysis it) (Self.machine it) };
 }

@@ -26,7 +26,7 @@
 //!
 //! # What is proved
 //!
-//! Each law is the contract of a function of `laws`, for every `Analyser`:
+//! Each law is the contract of a function of `laws`, for every `Analyser` that is ready:
 //!
 //! - there is one legal trace to an end, and of N code words and elements of height H it has at most N(H + 4)
 //!   addresses;
@@ -56,6 +56,11 @@
 //! be unique: `same` tells which are one element, and a call answers one that is the same as the value of its
 //! definition. The rows of a submodule are so: any rows that generate it will do.
 //!
+//! Not every value of the type has to keep the laws. What has to hold of one before it is used is `IsReady`, which
+//! the instance chooses; the laws ask for it, and so does each call but `is_code` and `start`. An analyser of
+//! instructions puts there that its specification is accepted and the problem well posed; one whose values all keep
+//! the laws puts `⊤` there.
+//!
 //! A domain of the product becomes an `Analyser` by a struct that holds the domain, the specification, the decoder,
 //! the image, the entry and the limit. Its elements and their laws are the domain's; `start`, `entry` and `code`
 //! are those of entry and image. `transfer` fetches the word, decodes it, opens the element as a state, evaluates
@@ -70,7 +75,7 @@
 //! | `transfer_same` | elements that are the same open to the same value, and close to elements that are the same |
 //! | `IsSound.transfer` | `open` describes the state, evaluation keeps that, members hold the counter, `close` holds of the next state, and the log covers the reads |
 //!
-//! So a domain (`Domain`, in the crate of abstract values) has for its ghost members the same `Plain` and `view`,
+//! So a domain (`Domain`, in the crate `domain_trait`) has for its ghost members the same `Plain` and `view`,
 //! its elements as a record of specs/Elements, and besides the values of `entry`, `open` and `close` as functions,
 //! with their laws. docs/DESIGN.md, "What a domain is", says how each kind of element will meet them.
 #![tactic(auto)]

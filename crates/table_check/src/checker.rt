@@ -21,7 +21,8 @@ fn is_entry_open<A: Analyser>(
     alloc: Global,
     table: &Table<A::Elem>,
 ) -> Result<bool, NoMemory>
-    requires { TableFits (A.analysis analyser.now) (listings A.view table.now) }
+    requires ready { A.IsReady analyser.now }
+    requires table { TableFits (A.analysis analyser.now) (listings A.view table.now) }
     ensures { IfOk result (λ b. b ≡ is_open (A.analysis analyser.now) (listings A.view table.now) (A.analysis analyser.now).entry (A.analysis analyser.now).start) }
 {
     let entry = analyser.entry(alloc)?;
@@ -36,7 +37,8 @@ pub fn check<A: Analyser, L: Ledger>(
     table: &Table<A::Elem>,
     steps: &mut Steps<L>,
 ) -> Result<Verdict<A::Shown>, NoMemory>
-    requires { TableFits (A.analysis analyser.now) (listings A.view table.now) }
+    requires ready { A.IsReady analyser.now }
+    requires table { TableFits (A.analysis analyser.now) (listings A.view table.now) }
     ensures value { IfOk result (λ v. v ≡ verdict_of (A.analysis analyser.now) (listings A.view table.now)) }
     ensures accepted { IfOk result (λ v. (v ≡ Verdict.Accepted) ↔ IsClosed (A.analysis analyser.now) (listings A.view table.now)) }
     ensures one { IfOk result (λ v. v ≡ Verdict.Accepted → steps.new ≡ steps.old + btree_map_len table.now.blocks) }

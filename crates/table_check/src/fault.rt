@@ -41,6 +41,7 @@ pub(crate) fn fault_of<A: Analyser, L: Ledger>(
     block: &Block<A::Elem>,
     steps: &mut Steps<L>,
 ) -> Result<Option<Verdict<A::Shown>>, NoMemory>
+    requires ready { A.IsReady analyser.now }
     requires table { TableFits (A.analysis analyser.now) (listings A.view table.now) }
     requires code { IsTrue (is_code (A.analysis analyser.now).code at) }
     requires fits { (A.analysis analyser.now).elements.fits (A.view block.now.elem) }

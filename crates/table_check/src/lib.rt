@@ -3,7 +3,7 @@
 //! `check` tests the entry first, then each listed address, ascending, by one transfer: its decoding, the number of
 //! its targets, its targets, its uses, and whether each target that is a code address is listed with an element
 //! that absorbs what the transfer gives. It answers the first part that fails. It trusts nothing of how the table
-//! was made, and takes no joins and no widening.
+//! was made, and takes no joins and no widening. It works over any `Analyser` that is ready (`IsReady`).
 //!
 //! *What is proved.* The verdict is the one of the definition (`fixed_point` specs/Verdicts), which is accepted
 //! exactly where the table is closed; the law `verdicts_mean` there says what each other verdict means. At most one

@@ -11,6 +11,7 @@ use fixed_point::{Analyser, Table};
 
 /// Whether an address is listed with an element that absorbs this one.
 fn is_absorbed<A: Analyser>(analyser: &A, table: &Table<A::Elem>, x: &A::Elem, at: u32) -> bool
+    requires ready { A.IsReady analyser.now }
     requires table { TableFits (A.analysis analyser.now) (listings A.view table.now) }
     requires fits { (A.analysis analyser.now).elements.fits (A.view x.now) }
     ensures { result ≡ does_absorb (A.analysis analyser.now) (listings A.view table.now at) (A.view x.now) }
@@ -28,6 +29,7 @@ pub(crate) fn is_open<A: Analyser>(
     x: &A::Elem,
     at: u32,
 ) -> bool
+    requires ready { A.IsReady analyser.now }
     requires table { TableFits (A.analysis analyser.now) (listings A.view table.now) }
     requires fits { (A.analysis analyser.now).elements.fits (A.view x.now) }
     ensures { result ≡ is_open (A.analysis analyser.now) (listings A.view table.now) (A.view x.now) at }
@@ -42,6 +44,7 @@ pub(crate) fn first_open<A: Analyser>(
     x: &A::Elem,
     targets: &[u32],
 ) -> Option<u32>
+    requires ready { A.IsReady analyser.now }
     requires table { TableFits (A.analysis analyser.now) (listings A.view table.now) }
     requires fits { (A.analysis analyser.now).elements.fits (A.view x.now) }
     ensures { result ≡ first_open (A.analysis analyser.now) (listings A.view table.now) (A.view x.now) targets.now }

@@ -25,6 +25,7 @@ use step_counter::Steps;
 
 /// The entry's element arrives at the entry's counter.
 fn begun<A: Analyser>(analyser: &A, alloc: Global) -> Result<Worklist<A::Elem>, NoMemory>
+    requires ready { A.IsReady analyser.now }
     ensures value { IfOk result (λ w. AllLike (A.analysis analyser.now) (play_in A.view w) (begin (A.analysis analyser.now))) }
     ensures fine { IfOk result (λ w. AllFit (A.analysis analyser.now) (play_in A.view w)) }
     ensures reached { IfOk result IsReached }
@@ -41,6 +42,7 @@ pub fn analyse<A: Analyser, L: Ledger>(
     analyser: &A,
     steps: &mut Steps<L>,
 ) -> Result<Report<A::Elem>, AnalyseError<A::Shown>>
+    requires ready { A.IsReady analyser.now }
     ensures value { IsAnswer (A.analysis analyser.now) A.view result }
     ensures closed { IfOk result (λ r. IsClosed (A.analysis analyser.now) (listings A.view r.table)) }
     ensures fits { IfOk result (λ r. TableFits (A.analysis analyser.now) (listings A.view r.table)) }

@@ -21,6 +21,7 @@ fn grow<A: Analyser>(
     old: &Place<A::Elem>,
     new: &A::Elem,
 ) -> Result<Place<A::Elem>, NoMemory>
+    requires ready { A.IsReady analyser.now }
     requires old_fits { (A.analysis analyser.now).elements.fits (A.view old.now.elem) }
     requires new_fits { (A.analysis analyser.now).elements.fits (A.view new.now) }
     ensures value { IfOk result (λ r. (A.analysis analyser.now).elements.same (A.view r.elem) (grown (A.analysis analyser.now) old.now.changes (A.view old.now.elem) (A.view new.now))) }
@@ -48,6 +49,7 @@ pub(crate) fn arrive<A: Analyser>(
     new: &A::Elem,
     at: u32,
 ) -> Result<(), NoMemory>
+    requires ready { A.IsReady analyser.now }
     requires reached { IsReached work.old }
     requires fine { AllFit (A.analysis analyser.now) (play_in A.view work.old) }
     requires fits { (A.analysis analyser.now).elements.fits (A.view new.now) }
@@ -81,6 +83,7 @@ pub(crate) fn arrive_at_all<A: Analyser>(
     new: &A::Elem,
     targets: &[u32],
 ) -> Result<(), NoMemory>
+    requires ready { A.IsReady analyser.now }
     requires reached { IsReached work.old }
     requires fine { AllFit (A.analysis analyser.now) (play_in A.view work.old) }
     requires fits { (A.analysis analyser.now).elements.fits (A.view new.now) }

@@ -22,6 +22,7 @@ pub(crate) fn block_of<A: Analyser, L: Ledger>(
     elem: A::Elem,
     steps: &mut Steps<L>,
 ) -> Result<Block<A::Elem>, NoMemory>
+    requires ready { A.IsReady analyser.now }
     requires code { IsTrue (is_code (A.analysis analyser.now).code at) }
     requires fits { (A.analysis analyser.now).elements.fits (A.view elem) }
     requires moves { Moves ((A.analysis analyser.now).transfer at (A.view elem)) }

@@ -26,6 +26,7 @@ pub(crate) fn blocks_of<A: Analyser, L: Ledger>(
     places: BTreeMap<u32, Place<A::Elem>>,
     steps: &mut Steps<L>,
 ) -> Result<BTreeMap<u32, Block<A::Elem>>, NoMemory>
+    requires ready { A.IsReady analyser.now }
     requires code { (a : ℕ) (p : Place A.Elem) → get nat_cmp places a ≡ Some p → IsTrue (is_code (A.analysis analyser.now).code a) }
     requires fits { (a : ℕ) (p : Place A.Elem) → get nat_cmp places a ≡ Some p → (A.analysis analyser.now).elements.fits (A.view p.elem) }
     requires moves { (a : ℕ) (p : Place A.Elem) → get nat_cmp places a ≡ Some p → Moves ((A.analysis analyser.now).transfer a (A.view p.elem)) }

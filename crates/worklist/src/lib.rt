@@ -2,7 +2,7 @@
 //!
 //! What is computed is the play of `fixed_point` specs/Play, whose head explains it: the least pending address is
 //! transferred until there is none, and then each reached address once more, for its targets and uses. `analyse`
-//! works over any `Analyser`.
+//! works over any `Analyser` that is ready (`IsReady`).
 //!
 //! *What stands.* A map has the element of each reached address with the number of its changes, counted up to
 //! three, and a set has the pending addresses. Seen together they are a play (`play_in`, specs/Views). It is like

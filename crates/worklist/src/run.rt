@@ -26,6 +26,7 @@ pub(crate) fn run<A: Analyser, L: Ledger>(
     work: &mut Worklist<A::Elem>,
     steps: &mut Steps<L>,
 ) -> Result<Vec<u32>, AnalyseError<A::Shown>>
+    requires ready { A.IsReady analyser.now }
     requires reached { IsReached work.old }
     requires fine { AllFit (A.analysis analyser.now) (play_in A.view work.old) }
     requires begun { AllLike (A.analysis analyser.now) (play_in A.view work.old) (begin (A.analysis analyser.now)) }

@@ -29,6 +29,7 @@ fn send<A: Analyser>(
     targets: &[u32],
     post: Option<A::Elem>,
 ) -> Result<(), NoMemory>
+    requires ready { A.IsReady analyser.now }
     requires reached { IsReached work.old }
     requires fine { AllFit (A.analysis analyser.now) (play_in A.view work.old) }
     requires fits { IfSome post (λ x. (A.analysis analyser.now).elements.fits (A.view x)) }
@@ -51,6 +52,7 @@ pub(crate) fn step<A: Analyser, L: Ledger>(
     at: u32,
     steps: &mut Steps<L>,
 ) -> Result<Stepped<A::Shown>, NoMemory>
+    requires ready { A.IsReady analyser.now }
     requires reached { IsReached work.old }
     requires fine { AllFit (A.analysis analyser.now) (play_in A.view work.old) }
     requires stands { (r : Reached A.Plain) × (play_in A.view work.old at ≡ Some r) }

@@ -1,5 +1,6 @@
 -- The machine, and intervals of its number.
-use Rattle.std.specs.Prelude.{◌≡◌, ℕ, ◌+◌, ◌%◌, ◌^◌, ◌≤◌, ◌==◌, ◌&&◌, min, max, nat_lt, nat_le, true, List, [], ◌∷◌, map, Option, Some, None, if◌then◌else◌}
+use Rattle.std.specs.Prelude.{◌≡◌, ℕ, ◌+◌, ◌%◌, ◌^◌, ◌≤◌, ◌==◌, ◌&&◌, min, max, nat_lt, nat_le, true, List, [], ◌∷◌, map, length, IsTrue, Option, Some, None, if◌then◌else◌}
+use Rattle.base_trait.specs.Lists.{ascends_from}
 use Rattle.base_trait.specs.Uses.{Read, Seen}
 use Rattle.base_trait.specs.declared.uses.Stamped.TheVariants.{Entry}
 use Rattle.fixed_point.specs.Analysis.{Analysis}
@@ -58,6 +59,12 @@ executed_at at (Some instr) x = executed at instr x
 
 abbrev pub addresses : List Word → List ℕ
 addresses code = map (λ (w : Word). w.at) code
+
+-- the addresses of the code ascend, and they are few; the entry's numbers are of the machine
+pub record IsProgram (code : List Word) (entry : Interval) : Type 0 where
+  pub ascends : IsTrue (ascends_from 0 (addresses code))
+  pub few : length code ≤ 262144
+  pub entry_fits : entry.high ≤ 99
 
 -- the instruction at an address
 abbrev pub instr_at : List Word → ℕ → Option Instr

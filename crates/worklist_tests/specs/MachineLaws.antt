@@ -1,10 +1,10 @@
 -- The analysis of the machine keeps the laws.
-use Rattle.std.specs.Prelude.{◌≡◌, ℕ, ◌≤◌, nat_lt, List, [], ◌∷◌, length, Option, Some, None, IsTrue, refl, if◌then◌else◌}
+use Rattle.std.specs.Prelude.{◌≡◌, ℕ, ◌≤◌, nat_lt, List, [], ◌∷◌, Option, Some, None, IsTrue, refl, if◌then◌else◌}
 use Rattle.std.proofs.Common.{arith, inl, inr, sym, ap, ap₂, ◌∙◌, subst}
 use Rattle.std.proofs.lemmas.List.{length-map}
 use Rattle.fixed_point.proofs.Growth.{by_bool}
 use Rattle.std.proofs.lemmas.Bool.Decides.{nat_tests}
-use Rattle.base_trait.specs.Lists.{AreAmong, IsAscending, ascends_from}
+use Rattle.base_trait.specs.Lists.{AreAmong, IsAscending}
 use Rattle.base_trait.specs.declared.uses.Stamped.TheVariants.{At}
 use Rattle.base_trait.proofs.Lists.{ascends_told}
 use Rattle.fixed_point.specs.Analysis.{AnalysisLaws}
@@ -14,7 +14,7 @@ use Rattle.worklist_tests.specs.declared.machine.Interval.{Interval}
 use Rattle.worklist_tests.specs.declared.machine.Instr.{Instr}
 use Rattle.worklist_tests.specs.declared.machine.Instr.TheVariants.{Set, Add, Goto, Fork, Wild, Spin, Bad}
 use Rattle.worklist_tests.specs.declared.machine.Word.{Word}
-use Rattle.worklist_tests.specs.Machine.{addresses, analysis_of, behind, executed_at, fork_targets, instr_at, intervals}
+use Rattle.worklist_tests.specs.Machine.{IsProgram, addresses, analysis_of, behind, executed_at, fork_targets, instr_at, intervals}
 
 both : {B : Type 0} (f : Interval → Interval → B) (x x' y y' : Interval) → x ≡ x' → y ≡ y' → f x y ≡ f x' y'
 both f x x' y y' h k = ap (λ z. f z y) h ∙ ap (f x') k
@@ -110,12 +110,6 @@ same_as_itself (undecodable w) = refl
 same_as_itself (too_many x) = refl
 same_as_itself (moves ts None us) = (refl, tt, refl)
 same_as_itself (moves ts (Some x) us) = (refl, refl, refl)
-
--- the addresses of the code ascend, and they are few
-pub record IsProgram (code : List Word) (entry : Interval) : Type 0 where
-  pub ascends : IsTrue (ascends_from 0 (addresses code))
-  pub few : length code ≤ 262144
-  pub entry_fits : entry.high ≤ 99
 
 pub analysis_laws : (code : List Word) (start : ℕ) (entry : Interval) → IsProgram code entry → AnalysisLaws (analysis_of code start entry)
 analysis_laws code start entry is = record {

@@ -11,7 +11,7 @@ use step_counter::Steps;
 impl Analyser for Program {
     ghost use Rattle.worklist_tests.specs.declared.machine.Interval.{Interval};
     ghost use Rattle.worklist_tests.specs.declared.machine.State.{State};
-    ghost use Rattle.worklist_tests.specs.Machine.{analysis_of, machine_of};
+    ghost use Rattle.worklist_tests.specs.Machine.{IsProgram, analysis_of, machine_of};
     ghost use Rattle.worklist_tests.specs.MachineLaws.{analysis_laws};
 
     type Elem = Interval;
@@ -24,11 +24,13 @@ impl Analyser for Program {
 
     ghost State = { State };
 
+    ghost IsReady = { λ it. IsProgram it.code.items it.entry };
+
     ghost analysis = { λ it. analysis_of it.code.items it.start it.entry };
 
     ghost machine = { λ it. machine_of it.code.items it.start it.entry };
 
-    ghost laws = { λ it. analysis_laws it.code.items it.start it.entry (record { ascends = it.ascends; few = it.few; entry_fits = it.entry_fits }) };
+    ghost laws = { λ it ready. analysis_laws it.code.items it.start it.entry ready };
 
     fn is_code(&self, at: u32) -> bool {
         self.code.iter().map(|w| w.at).any(|a| a == at)
@@ -83,5 +85,5 @@ impl Analyser for Program {
 impl Described for Program {
     ghost use Rattle.worklist_tests.specs.MachineSound.{machine_sound};
 
-    ghost sound = { λ it. machine_sound it.code.items it.start it.entry };
+    ghost sound = { λ it ready. machine_sound it.code.items it.start it.entry };
 }

@@ -4,7 +4,7 @@ ghost use Rattle.std.specs.Prelude.{◌≡◌, ◌<◌, IfOk};
 ghost use Rattle.fixed_point.specs.Runs.{IsSoundTable};
 ghost use Rattle.fixed_point.specs.Table.{TableFits};
 ghost use Rattle.fixed_point.specs.Views.{listings};
-ghost use Rattle.worklist_tests.specs.Machine.{analysis_of};
+ghost use Rattle.worklist_tests.specs.Machine.{IsProgram, analysis_of};
 
 use crate::machine::Interval;
 use crate::program::Program;
@@ -25,6 +25,7 @@ fn soundly<A: Described, L: Ledger>(
     analyser: &A,
     steps: &mut Steps<L>,
 ) -> Result<Report<A::Elem>, AnalyseError<A::Shown>>
+    requires ready { A.IsReady analyser.now }
     ensures { IfOk result (λ r. IsSoundTable (A.analysis analyser.now) (A.machine analyser.now) (listings A.view r.table)) }
 {
     closed_tables_are_sound(analyser);
@@ -33,6 +34,7 @@ fn soundly<A: Described, L: Ledger>(
 
 /// The trace and the table of an analysis, or how it stopped.
 fn analysed<L: Ledger>(alloc: Global, program: &Program, blank: Blank) -> Result<String, NoMemory>
+    requires ready { IsProgram program.now.code.items program.now.entry }
     requires name { blank.name ≡ L.name }
     requires parts { blank.parts ≡ L.parts }
     requires some { 0 < blank.parts }
@@ -64,6 +66,7 @@ fn checked<L: Ledger>(
     table: &Table<Interval>,
     blank: Blank,
 ) -> Result<String, NoMemory>
+    requires ready { IsProgram program.now.code.items program.now.entry }
     requires name { blank.name ≡ L.name }
     requires parts { blank.parts ≡ L.parts }
     requires some { 0 < blank.parts }

@@ -1,20 +1,17 @@
 //! Programs of the machine.
 
-ghost use Rattle.std.specs.Prelude.{◌≡◌, ◌≤◌, List, IsTrue, length};
+ghost use Rattle.std.specs.Prelude.{◌≡◌, List, IfSome};
 ghost use Rattle.base_trait.specs.Lists.{ascends_from};
-ghost use Rattle.worklist_tests.specs.Machine.{addresses, instr_at};
+ghost use Rattle.worklist_tests.specs.Machine.{IsProgram, addresses, instr_at};
 
 use crate::machine::{Instr, Interval, TOP, Word};
 
-/// Code words by ascending addresses, where runs start, and with which numbers.
+/// Code words, where runs start, and with which numbers.
 #[derive(Drop)]
 pub(crate) struct Program {
     pub(crate) code: Vec<Word>,
     pub(crate) start: u32,
     pub(crate) entry: Interval,
-    ghost ascends: { IsTrue (ascends_from 0 (addresses code.items)) },
-    ghost few: { length code.items ≤ 262144 },
-    ghost entry_fits: { entry.high ≤ 99 },
 }
 
 /// Whether the addresses ascend without doubles.
@@ -34,7 +31,9 @@ fn are_ascending(code: &[Word]) -> bool
 
 impl Program {
     /// The program of these words, where they ascend and are not too many, and where the numbers are of the machine.
-    pub(crate) fn new(code: Vec<Word>, start: u32, entry: Interval) -> Option<Program> {
+    pub(crate) fn new(code: Vec<Word>, start: u32, entry: Interval) -> Option<Program>
+        ensures { IfSome result (λ p. IsProgram p.code.items p.entry) }
+    {
         if code.len() <= 262144 && entry.high <= TOP && are_ascending(&code) {
             Some(Program { code, start, entry })
         } else {

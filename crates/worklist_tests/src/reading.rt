@@ -3,7 +3,7 @@
 ghost use Rattle.std.specs.Prelude.{◌≡◌, ◌≤◌, IfOk, IfSome};
 ghost use Rattle.fixed_point.specs.Table.{TableFits};
 ghost use Rattle.fixed_point.specs.Views.{listings};
-ghost use Rattle.worklist_tests.specs.Machine.{analysis_of};
+ghost use Rattle.worklist_tests.specs.Machine.{IsProgram, analysis_of};
 
 use crate::execute::use_of_number;
 use crate::machine::{Instr, Interval, TOP, Word};
@@ -58,7 +58,9 @@ fn word(text: &str) -> Option<Word> {
 }
 
 /// A program, as `4096 0..9: 4096 set 0, 4100 add 1`; without words `-`.
-pub(crate) fn program(alloc: Global, text: &str) -> Result<Option<Program>, NoMemory> {
+pub(crate) fn program(alloc: Global, text: &str) -> Result<Option<Program>, NoMemory>
+    ensures { IfOk result (λ r. IfSome r (λ p. IsProgram p.code.items p.entry)) }
+{
     let (head, body) = parts(text, ':');
     let (start, numbers) = parts(head, ' ');
     let (Some(start), Some(entry)) = (start.parse::<u32>().ok(), interval(numbers)) else {

@@ -19,7 +19,7 @@ fault_of-requires-clause-code g c =
     ∙ ap (λ es. map deref_pair c.loop-at.yielded ++ es) c.in-Some.ensures.steps in
     let found = at_seam (λ (e : ℕ × Block _). get nat_cmp c.args.table.now.blocks e.0 ≡ Some e.1) c.args.table.now.blocks.entries (map deref_pair c.loop-at.yielded) c.next.new.self (c.in-Some.at.now, c.in-Some.block.now) split c.iter-at-items.ensures.found in
     let listed = ap (option_map (listing g.A.Analyser.view)) found in
-    (c.requires c.in-Some.at.now (listing g.A.Analyser.view c.in-Some.block.now) listed).0
+    (c.requires.table c.in-Some.at.now (listing g.A.Analyser.view c.in-Some.block.now) listed).0
 
 pub fault_of-requires-clause-fits : goal.fault_of-requires-clause-fits
 fault_of-requires-clause-fits g c =
@@ -28,12 +28,12 @@ fault_of-requires-clause-fits g c =
     ∙ ap (λ es. map deref_pair c.loop-at.yielded ++ es) c.in-Some.ensures.steps in
     let found = at_seam (λ (e : ℕ × Block _). get nat_cmp c.args.table.now.blocks e.0 ≡ Some e.1) c.args.table.now.blocks.entries (map deref_pair c.loop-at.yielded) c.next.new.self (c.in-Some.at.now, c.in-Some.block.now) split c.iter-at-items.ensures.found in
     let listed = ap (option_map (listing g.A.Analyser.view)) found in
-    (c.requires c.in-Some.at.now (listing g.A.Analyser.view c.in-Some.block.now) listed).1
+    (c.requires.table c.in-Some.at.now (listing g.A.Analyser.view c.in-Some.block.now) listed).1
 
 pub returns-in-Some-2-clause-value : goal.returns-in-Some-2-clause-value
 returns-in-Some-2-clause-value g c =
     let A = g.A.Analyser.analysis c.args.analyser.now in
-    let laws = g.met.A.Analyser.laws c.args.analyser.now in
+    let laws = g.met.A.Analyser.laws c.args.analyser.now c.requires.ready in
     let t = listings g.A.Analyser.view c.args.table.now in
     let split : c.args.table.now.blocks.entries ≡ map deref_pair c.loop-at.yielded ++ (c.in-Some.at.now, c.in-Some.block.now) ∷ c.next.new.self =
     sym (c.into_iter-at-iterator.ensures.into_iter_gives ∙ c.iter-at-items.ensures.rest) ∙ rest_so_far deref_pair c.loop-at.yielded c.into_iter-at-iterator.result c.loop-at.at-iterator c.loop-at.yielded_by
@@ -41,7 +41,7 @@ returns-in-Some-2-clause-value g c =
     let found = at_seam (λ (e : ℕ × Block _). get nat_cmp c.args.table.now.blocks e.0 ≡ Some e.1) c.args.table.now.blocks.entries (map deref_pair c.loop-at.yielded) c.next.new.self (c.in-Some.at.now, c.in-Some.block.now) split c.iter-at-items.ensures.found in
     let listed = ap (option_map (listing g.A.Analyser.view)) found in
     let entry = closed_told A t A.entry A.start (sym (c.in_ok-is_entry_open.ensures) ∙ c.if-branch.false) in
-    let here = c.requires c.in-Some.at.now (listing g.A.Analyser.view c.in-Some.block.now) listed in
+    let here = c.requires.table c.in-Some.at.now (listing g.A.Analyser.view c.in-Some.block.now) listed in
     let b = listing g.A.Analyser.view c.in-Some.block.now in
     let fault = rw c.in-Some-2.is at c.in_ok-verdict.ensures.value in
     let first : IsFirstFault A t c.in-Some-2.verdict = record {
@@ -52,13 +52,13 @@ returns-in-Some-2-clause-value g c =
       earlier = earlier_stands g.A.Analyser.view A c.args.table.now (map deref_pair c.loop-at.yielded) c.next.new.self c.in-Some.at.now c.in-Some.block.now split c.iter-at-items.ensures.ordered c.loop-at.invariant.stand;
       entry = entry;
     } in
-    let means = (verdicts_mean A laws t c.requires c.in-Some-2.verdict).1 (means_from A t c.in-Some-2.verdict first) in
+    let means = (verdicts_mean A laws t c.requires.table c.in-Some-2.verdict).1 (means_from A t c.in-Some-2.verdict first) in
     sym means
 
 pub returns-in-Some-2-clause-accepted : goal.returns-in-Some-2-clause-accepted
 returns-in-Some-2-clause-accepted g c =
     let A = g.A.Analyser.analysis c.args.analyser.now in
-    let laws = g.met.A.Analyser.laws c.args.analyser.now in
+    let laws = g.met.A.Analyser.laws c.args.analyser.now c.requires.ready in
     let t = listings g.A.Analyser.view c.args.table.now in
     let split : c.args.table.now.blocks.entries ≡ map deref_pair c.loop-at.yielded ++ (c.in-Some.at.now, c.in-Some.block.now) ∷ c.next.new.self =
     sym (c.into_iter-at-iterator.ensures.into_iter_gives ∙ c.iter-at-items.ensures.rest) ∙ rest_so_far deref_pair c.loop-at.yielded c.into_iter-at-iterator.result c.loop-at.at-iterator c.loop-at.yielded_by
@@ -66,7 +66,7 @@ returns-in-Some-2-clause-accepted g c =
     let found = at_seam (λ (e : ℕ × Block _). get nat_cmp c.args.table.now.blocks e.0 ≡ Some e.1) c.args.table.now.blocks.entries (map deref_pair c.loop-at.yielded) c.next.new.self (c.in-Some.at.now, c.in-Some.block.now) split c.iter-at-items.ensures.found in
     let listed = ap (option_map (listing g.A.Analyser.view)) found in
     let entry = closed_told A t A.entry A.start (sym (c.in_ok-is_entry_open.ensures) ∙ c.if-branch.false) in
-    let here = c.requires c.in-Some.at.now (listing g.A.Analyser.view c.in-Some.block.now) listed in
+    let here = c.requires.table c.in-Some.at.now (listing g.A.Analyser.view c.in-Some.block.now) listed in
     let b = listing g.A.Analyser.view c.in-Some.block.now in
     let fault = rw c.in-Some-2.is at c.in_ok-verdict.ensures.value in
     let first : IsFirstFault A t c.in-Some-2.verdict = record {
@@ -77,14 +77,14 @@ returns-in-Some-2-clause-accepted g c =
       earlier = earlier_stands g.A.Analyser.view A c.args.table.now (map deref_pair c.loop-at.yielded) c.next.new.self c.in-Some.at.now c.in-Some.block.now split c.iter-at-items.ensures.ordered c.loop-at.invariant.stand;
       entry = entry;
     } in
-    let means = (verdicts_mean A laws t c.requires c.in-Some-2.verdict).1 (means_from A t c.in-Some-2.verdict first) in
-    let right = accepted_are_closed A laws t c.requires in
+    let means = (verdicts_mean A laws t c.requires.table c.in-Some-2.verdict).1 (means_from A t c.in-Some-2.verdict first) in
+    let right = accepted_are_closed A laws t c.requires.table in
     (λ same. right.0 (means ∙ same), λ closed. sym means ∙ right.1 closed)
 
 pub loop-at-preserved : goal.loop-at-preserved
 loop-at-preserved g c =
     let A = g.A.Analyser.analysis c.args.analyser.now in
-    let laws = g.met.A.Analyser.laws c.args.analyser.now in
+    let laws = g.met.A.Analyser.laws c.args.analyser.now c.requires.ready in
     let t = listings g.A.Analyser.view c.args.table.now in
     let b = listing g.A.Analyser.view c.in-Some.block.now in
     let none = rw c.in_default.is at c.in_ok-verdict.ensures.value in
@@ -100,19 +100,19 @@ loop-at-preserved g c =
 pub returns-clause-value : goal.returns-clause-value
 returns-clause-value g c =
     let A = g.A.Analyser.analysis c.args.analyser.now in
-    let laws = g.met.A.Analyser.laws c.args.analyser.now in
+    let laws = g.met.A.Analyser.laws c.args.analyser.now c.requires.ready in
     let t = listings g.A.Analyser.view c.args.table.now in
     let whole : c.args.table.now.blocks.entries ≡ map deref_pair c.loop-at.yielded =
     sym (c.into_iter-at-iterator.ensures.into_iter_gives ∙ c.iter-at-items.ensures.rest) ∙ rest_so_far deref_pair c.loop-at.yielded c.into_iter-at-iterator.result c.loop-at.at-iterator c.loop-at.yielded_by
     ∙ ap (λ es. map deref_pair c.loop-at.yielded ++ es) c.in-None.ensures.steps.0 ∙ append-nil (map deref_pair c.loop-at.yielded) in
     let entry = closed_told A t A.entry A.start (sym (c.in_ok-is_entry_open.ensures) ∙ c.if-branch.false) in
     let closed = closed_from g.A.Analyser.view A c.args.table.now c.iter-at-items.ensures.ordered entry (subst (AllStand g.A.Analyser.view A c.args.table.now) (sym whole) c.loop-at.invariant.stand) in
-    sym ((accepted_are_closed A laws t c.requires).1 closed)
+    sym ((accepted_are_closed A laws t c.requires.table).1 closed)
 
 pub returns-clause-accepted : goal.returns-clause-accepted
 returns-clause-accepted g c =
     let A = g.A.Analyser.analysis c.args.analyser.now in
-    let laws = g.met.A.Analyser.laws c.args.analyser.now in
+    let laws = g.met.A.Analyser.laws c.args.analyser.now c.requires.ready in
     let t = listings g.A.Analyser.view c.args.table.now in
     let whole : c.args.table.now.blocks.entries ≡ map deref_pair c.loop-at.yielded =
     sym (c.into_iter-at-iterator.ensures.into_iter_gives ∙ c.iter-at-items.ensures.rest) ∙ rest_so_far deref_pair c.loop-at.yielded c.into_iter-at-iterator.result c.loop-at.at-iterator c.loop-at.yielded_by

@@ -9,7 +9,7 @@ use Rattle.table_check.proofs.fault.fault_of.Goals as goal
 pub returns-then-not-are_same_uses-clause-value : goal.returns-then-not-are_same_uses-clause-value
 returns-then-not-are_same_uses-clause-value g c =
     let A = g.A.Analyser.analysis c.args.analyser.now in
-    let laws = g.met.A.Analyser.laws c.args.analyser.now in
+    let laws = g.met.A.Analyser.laws c.args.analyser.now c.requires.ready in
     let t = listings g.A.Analyser.view c.args.table.now in
     let b = listing g.A.Analyser.view c.args.block.now in
     let told = A.transfer c.args.at (g.A.Analyser.view c.args.block.now.elem) in
@@ -27,7 +27,7 @@ returns-then-not-are_same_uses-clause-value g c =
 pub returns-in_default-clause-value : goal.returns-in_default-clause-value
 returns-in_default-clause-value g c =
     let A = g.A.Analyser.analysis c.args.analyser.now in
-    let laws = g.met.A.Analyser.laws c.args.analyser.now in
+    let laws = g.met.A.Analyser.laws c.args.analyser.now c.requires.ready in
     let t = listings g.A.Analyser.view c.args.table.now in
     let b = listing g.A.Analyser.view c.args.block.now in
     let told = A.transfer c.args.at (g.A.Analyser.view c.args.block.now.elem) in
@@ -44,7 +44,7 @@ returns-in_default-clause-value g c =
 pub returns-in-Some-first_open-clause-value : goal.returns-in-Some-first_open-clause-value
 returns-in-Some-first_open-clause-value g c =
     let A = g.A.Analyser.analysis c.args.analyser.now in
-    let laws = g.met.A.Analyser.laws c.args.analyser.now in
+    let laws = g.met.A.Analyser.laws c.args.analyser.now c.requires.ready in
     let t = listings g.A.Analyser.view c.args.table.now in
     let b = listing g.A.Analyser.view c.args.block.now in
     let told = A.transfer c.args.at (g.A.Analyser.view c.args.block.now.elem) in
@@ -64,7 +64,7 @@ returns-in-Some-first_open-clause-value g c =
 pub returns-clause-value : goal.returns-clause-value
 returns-clause-value g c =
     let A = g.A.Analyser.analysis c.args.analyser.now in
-    let laws = g.met.A.Analyser.laws c.args.analyser.now in
+    let laws = g.met.A.Analyser.laws c.args.analyser.now c.requires.ready in
     let t = listings g.A.Analyser.view c.args.table.now in
     let b = listing g.A.Analyser.view c.args.block.now in
     let told = A.transfer c.args.at (g.A.Analyser.view c.args.block.now.elem) in

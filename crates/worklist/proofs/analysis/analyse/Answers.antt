@@ -11,13 +11,13 @@ use Rattle.worklist.proofs.analysis.analyse.Goals as goal
 pub blocks_of-requires-clause-moves : goal.blocks_of-requires-clause-moves
 blocks_of-requires-clause-moves g c a p is =
     let w = c.run.new.work in
-    all_move g.A.Analyser.view (g.A.Analyser.analysis c.args.analyser.now) (g.met.A.Analyser.laws c.args.analyser.now) (play_in g.A.Analyser.view w) c.in_ok-trace.trace.items c.in_ok-trace.ensures.fine c.in_ok-trace.ensures.value
+    all_move g.A.Analyser.view (g.A.Analyser.analysis c.args.analyser.now) (g.met.A.Analyser.laws c.args.analyser.now c.requires.ready) (play_in g.A.Analyser.view w) c.in_ok-trace.trace.items c.in_ok-trace.ensures.fine c.in_ok-trace.ensures.value
     a (reached_at g.A.Analyser.view w.pending a p) (ap (option_map (reached_at g.A.Analyser.view w.pending a)) is)
 
 pub returns-in_err-blocks-clause-most : goal.returns-in_err-blocks-clause-most
 returns-in_err-blocks-clause-most g c =
     let A = g.A.Analyser.analysis c.args.analyser.now in
-    let few = few_reached g.A.Analyser.view A (g.met.A.Analyser.laws c.args.analyser.now) c.run.new.work c.in_ok-trace.ensures.fine c.in_ok-trace.ensures.reached in
+    let few = few_reached g.A.Analyser.view A (g.met.A.Analyser.laws c.args.analyser.now c.requires.ready) c.run.new.work c.in_ok-trace.ensures.fine c.in_ok-trace.ensures.reached in
     let so_far = c.in_ok-trace.ensures.most in
     let more = c.blocks_of.ensures.most in
     omega (arith, few, so_far, more)
@@ -25,7 +25,7 @@ returns-in_err-blocks-clause-most g c =
 pub returns-clause-most : goal.returns-clause-most
 returns-clause-most g c =
     let A = g.A.Analyser.analysis c.args.analyser.now in
-    let few = few_reached g.A.Analyser.view A (g.met.A.Analyser.laws c.args.analyser.now) c.run.new.work c.in_ok-trace.ensures.fine c.in_ok-trace.ensures.reached in
+    let few = few_reached g.A.Analyser.view A (g.met.A.Analyser.laws c.args.analyser.now c.requires.ready) c.run.new.work c.in_ok-trace.ensures.fine c.in_ok-trace.ensures.reached in
     let so_far = c.in_ok-trace.ensures.most in
     let more = c.blocks_of.ensures.most in
     omega (arith, few, so_far, more)
@@ -33,7 +33,7 @@ returns-clause-most g c =
 pub returns-clause-closed : goal.returns-clause-closed
 returns-clause-closed g c =
     let A = g.A.Analyser.analysis c.args.analyser.now in
-    let laws = g.met.A.Analyser.laws c.args.analyser.now in
+    let laws = g.met.A.Analyser.laws c.args.analyser.now c.requires.ready in
     let trace = c.in_ok-trace.trace.items in
     let t : Table _ = record { blocks = c.in_ok-blocks.blocks } in
     let done = c.in_ok-trace.ensures.value in
@@ -45,12 +45,12 @@ pub returns-clause-fits : goal.returns-clause-fits
 returns-clause-fits g c =
     let A = g.A.Analyser.analysis c.args.analyser.now in
     let t : Table _ = record { blocks = c.in_ok-blocks.blocks } in
-    table_fits g.A.Analyser.view A (g.met.A.Analyser.laws c.args.analyser.now) c.run.new.work t c.in_ok-trace.ensures.fine c.in_ok-blocks.ensures.value
+    table_fits g.A.Analyser.view A (g.met.A.Analyser.laws c.args.analyser.now c.requires.ready) c.run.new.work t c.in_ok-trace.ensures.fine c.in_ok-blocks.ensures.value
 
 pub returns-clause-image : goal.returns-clause-image
 returns-clause-image g c =
     let A = g.A.Analyser.analysis c.args.analyser.now in
-    let laws = g.met.A.Analyser.laws c.args.analyser.now in
+    let laws = g.met.A.Analyser.laws c.args.analyser.now c.requires.ready in
     let trace = c.in_ok-trace.trace.items in
     let t : Table _ = record { blocks = c.in_ok-blocks.blocks } in
     tables_fit_the_image A laws trace (listings g.A.Analyser.view t)

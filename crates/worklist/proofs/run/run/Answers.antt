@@ -10,7 +10,7 @@ pub returns-in_err-step-clause-most : goal.returns-in_err-step-clause-most
 returns-in_err-step-clause-most g c =
     let A = g.A.Analyser.analysis c.args.analyser.now in
     let least = c.in-Some.ensures.least in
-    let room = room_for_one A (g.met.A.Analyser.laws c.args.analyser.now) c.loop-at.trace.items (play_in g.A.Analyser.view c.loop-at.work) c.in-Some.at least.0 c.loop-at.invariant.legal c.loop-at.invariant.like least.1 in
+    let room = room_for_one A (g.met.A.Analyser.laws c.args.analyser.now c.requires.ready) c.loop-at.trace.items (play_in g.A.Analyser.view c.loop-at.work) c.in-Some.at least.0 c.loop-at.invariant.legal c.loop-at.invariant.like least.1 in
     let more = c.step.ensures.most in
     let so_far = c.loop-at.invariant.steps in
     omega (arith, room, more, so_far)
@@ -19,7 +19,7 @@ pub returns-in_err-push-in-Moved-clause-most : goal.returns-in_err-push-in-Moved
 returns-in_err-push-in-Moved-clause-most g c =
     let A = g.A.Analyser.analysis c.args.analyser.now in
     let least = c.in-Some.ensures.least in
-    let room = room_for_one A (g.met.A.Analyser.laws c.args.analyser.now) c.loop-at.trace.items (play_in g.A.Analyser.view c.loop-at.work) c.in-Some.at least.0 c.loop-at.invariant.legal c.loop-at.invariant.like least.1 in
+    let room = room_for_one A (g.met.A.Analyser.laws c.args.analyser.now c.requires.ready) c.loop-at.trace.items (play_in g.A.Analyser.view c.loop-at.work) c.in-Some.at least.0 c.loop-at.invariant.legal c.loop-at.invariant.like least.1 in
     let more = c.step.ensures.most in
     let so_far = c.loop-at.invariant.steps in
     omega (arith, room, more, so_far)
@@ -28,7 +28,7 @@ pub returns-in-Undecodable-clause-most : goal.returns-in-Undecodable-clause-most
 returns-in-Undecodable-clause-most g c =
     let A = g.A.Analyser.analysis c.args.analyser.now in
     let least = c.in-Some.ensures.least in
-    let room = room_for_one A (g.met.A.Analyser.laws c.args.analyser.now) c.loop-at.trace.items (play_in g.A.Analyser.view c.loop-at.work) c.in-Some.at least.0 c.loop-at.invariant.legal c.loop-at.invariant.like least.1 in
+    let room = room_for_one A (g.met.A.Analyser.laws c.args.analyser.now c.requires.ready) c.loop-at.trace.items (play_in g.A.Analyser.view c.loop-at.work) c.in-Some.at least.0 c.loop-at.invariant.legal c.loop-at.invariant.like least.1 in
     let more = c.step.ensures.most in
     let so_far = c.loop-at.invariant.steps in
     omega (arith, room, more, so_far)
@@ -37,7 +37,7 @@ pub returns-in-TooMany-clause-most : goal.returns-in-TooMany-clause-most
 returns-in-TooMany-clause-most g c =
     let A = g.A.Analyser.analysis c.args.analyser.now in
     let least = c.in-Some.ensures.least in
-    let room = room_for_one A (g.met.A.Analyser.laws c.args.analyser.now) c.loop-at.trace.items (play_in g.A.Analyser.view c.loop-at.work) c.in-Some.at least.0 c.loop-at.invariant.legal c.loop-at.invariant.like least.1 in
+    let room = room_for_one A (g.met.A.Analyser.laws c.args.analyser.now c.requires.ready) c.loop-at.trace.items (play_in g.A.Analyser.view c.loop-at.work) c.in-Some.at least.0 c.loop-at.invariant.legal c.loop-at.invariant.like least.1 in
     let more = c.step.ensures.most in
     let so_far = c.loop-at.invariant.steps in
     omega (arith, room, more, so_far)
@@ -47,28 +47,28 @@ returns-in-Undecodable-clause-value g c =
     let A = g.A.Analyser.analysis c.args.analyser.now in
     let least = c.in-Some.ensures.least in
     let value = rw c.in-Undecodable.is at c.in_ok-step.ensures.value in
-    (c.loop-at.invariant.legal, stops_undecodable A (g.met.A.Analyser.laws c.args.analyser.now) c.loop-at.trace.items (play_in g.A.Analyser.view c.loop-at.work) c.in-Some.at c.in-Undecodable.word least.0 c.loop-at.invariant.fine c.loop-at.invariant.like least.1 value)
+    (c.loop-at.invariant.legal, stops_undecodable A (g.met.A.Analyser.laws c.args.analyser.now c.requires.ready) c.loop-at.trace.items (play_in g.A.Analyser.view c.loop-at.work) c.in-Some.at c.in-Undecodable.word least.0 c.loop-at.invariant.fine c.loop-at.invariant.like least.1 value)
 
 pub returns-in-TooMany-clause-value : goal.returns-in-TooMany-clause-value
 returns-in-TooMany-clause-value g c =
     let A = g.A.Analyser.analysis c.args.analyser.now in
     let least = c.in-Some.ensures.least in
     let value = rw c.in-TooMany.is at c.in_ok-step.ensures.value in
-    (c.loop-at.invariant.legal, stops_too_many A (g.met.A.Analyser.laws c.args.analyser.now) c.loop-at.trace.items (play_in g.A.Analyser.view c.loop-at.work) c.in-Some.at c.in-TooMany.shown least.0 c.loop-at.invariant.fine c.loop-at.invariant.like least.1 value)
+    (c.loop-at.invariant.legal, stops_too_many A (g.met.A.Analyser.laws c.args.analyser.now c.requires.ready) c.loop-at.trace.items (play_in g.A.Analyser.view c.loop-at.work) c.in-Some.at c.in-TooMany.shown least.0 c.loop-at.invariant.fine c.loop-at.invariant.like least.1 value)
 
 pub returns-clause-value : goal.returns-clause-value
 returns-clause-value g c =
     let A = g.A.Analyser.analysis c.args.analyser.now in
     record {
       legal = c.loop-at.invariant.legal;
-      full = full_like A (g.met.A.Analyser.laws c.args.analyser.now) (play_in g.A.Analyser.view c.loop-at.work) (play A c.loop-at.trace.items) c.loop-at.invariant.like (rw c.in_default.is at c.first.ensures.none);
+      full = full_like A (g.met.A.Analyser.laws c.args.analyser.now c.requires.ready) (play_in g.A.Analyser.view c.loop-at.work) (play A c.loop-at.trace.items) c.loop-at.invariant.like (rw c.in_default.is at c.first.ensures.none);
       like = c.loop-at.invariant.like;
     }
 
 pub returns-clause-most : goal.returns-clause-most
 returns-clause-most g c =
     let A = g.A.Analyser.analysis c.args.analyser.now in
-    let short = legal_traces_are_short A (g.met.A.Analyser.laws c.args.analyser.now) c.loop-at.trace.items c.loop-at.invariant.legal in
+    let short = legal_traces_are_short A (g.met.A.Analyser.laws c.args.analyser.now c.requires.ready) c.loop-at.trace.items c.loop-at.invariant.legal in
     let so_far = c.loop-at.invariant.steps in
     omega (arith, short, so_far)
 
@@ -76,14 +76,14 @@ pub loop-at-smaller : goal.loop-at-smaller
 loop-at-smaller g c =
     let A = g.A.Analyser.analysis c.args.analyser.now in
     let least = c.in-Some.ensures.least in
-    let room = room_for_one A (g.met.A.Analyser.laws c.args.analyser.now) c.loop-at.trace.items (play_in g.A.Analyser.view c.loop-at.work) c.in-Some.at least.0 c.loop-at.invariant.legal c.loop-at.invariant.like least.1 in
+    let room = room_for_one A (g.met.A.Analyser.laws c.args.analyser.now c.requires.ready) c.loop-at.trace.items (play_in g.A.Analyser.view c.loop-at.work) c.in-Some.at least.0 c.loop-at.invariant.legal c.loop-at.invariant.like least.1 in
     let longer : vec_len c.push.new.self ≡ vec_len c.loop-at.trace + 1 = search rules in
     omega (arith, room, longer)
 
 pub loop-at-preserved : goal.loop-at-preserved
 loop-at-preserved g c =
     let A = g.A.Analyser.analysis c.args.analyser.now in
-    let laws = g.met.A.Analyser.laws c.args.analyser.now in
+    let laws = g.met.A.Analyser.laws c.args.analyser.now c.requires.ready in
     let least = c.in-Some.ensures.least in
     let value = rw c.in-Moved.is at c.in_ok-step.ensures.value in
     let pushed : c.push.new.self.items ≡ c.loop-at.trace.items ++ c.in-Some.at ∷ [] = search rules in
