@@ -1,0 +1,48 @@
+-- What an evaluation gives of an instruction.
+use Rattle.std.proofs.Common.{◌≡◌, ℕ, List, [], Option, Some, None, Result, Ok, IsTrue, refl, sym, ap, subst, ◌∙◌}
+use Rattle.recursion_fix.specs.Answer.{IfGives, fails, gives}
+use Rattle.base_trait.specs.Algebra.{Algebra}
+use Rattle.base_trait.specs.Laws.{Laws}
+use Rattle.base_trait.specs.Uses.{Seen}
+use Rattle.tsl_values.specs.States.{State}
+use Rattle.tsl_values.specs.Values.{Val}
+use Rattle.meaning.specs.Decode.{decoded}
+use Rattle.value_laws.specs.Abs.{Abs}
+use Rattle.reinterpretation.specs.Answers.{Answer, behind}
+use Rattle.eval_state.specs.Given.{Gives}
+use Rattle.eval_state.specs.declared.error.EvalError.{EvalError}
+use Rattle.fixed_point.specs.Code.{is_code}
+use Rattle.fixed_point.specs.Elements.{Elements}
+use Rattle.domain_laws.specs.Domain.{Meaning}
+use Rattle.domain_laws.specs.States.{state_type}
+use Rattle.domain_laws.specs.Values.{IsStateValue}
+use Rattle.transfer_laws.specs.Laws.{IsAnalysed}
+use Rattle.transfer_laws.specs.Problem.{Problem}
+use Rattle.transfer_laws.specs.Transfer.{arguments, counter_of}
+use Rattle.transfer_laws.proofs.Keeping.{evaluations_give_states}
+
+-- an answer behind no reads
+pub behind_none : {A : Type 0} (r : Answer A) → behind [] r ≡ r
+behind_none (fails i) = refl
+behind_none (gives x own) = refl
+
+module _ {V A : Type 0} (view : V → A) (r : Result (Option V) EvalError) (log : List Seen) where
+  -- from an empty log on
+  pub from_none : (old : List Seen) (answer other : Answer A) → old ≡ [] → other ≡ answer → Gives view r log (behind old answer) → Gives view r log other
+  from_none old answer other none same h = subst (Gives view r log) (ap (λ l. behind l answer) none ∙ behind_none answer ∙ sym same) h
+
+  -- the answer, by the result
+  pub gave_value : (answer : Answer A) (v : V) → r ≡ Ok (Some v) → Gives view r log answer → answer ≡ gives (Some (view v)) log
+  gave_value answer v e h = subst (λ r. Gives view r log answer) e h
+
+  pub gave_none : (answer : Answer A) → r ≡ Ok None → Gives view r log answer → answer ≡ gives None log
+  gave_none answer e h = subst (λ r. Gives view r log answer) e h
+
+module _ {E W N C : Type 0} (B : Algebra W N C) (laws : Laws W N C B) (cap : ℕ) (D : Elements E State) (M : Meaning E W N C) (p : Problem) (calls : ℕ → ℕ → List (Abs W N) → Answer (Abs W N)) (h : IsAnalysed B cap D M p calls) where
+  -- a value that has a counter is one of states
+  pub counted_state : (a : ℕ) (x : E) (code_word : ℕ) (instruction : Val) (y : Abs W N) (log : List Seen) → IsTrue (is_code p.addresses a) → D.fits x
+      → decoded p.machine.instr p.spec.rows code_word ≡ Some instruction → calls a p.machine.interp (arguments B cap M p a x instruction) ≡ gives (Some y) log
+      → (counter : ℕ × W) → counter_of y ≡ Some counter → IsStateValue B M.context cap (state_type p.spec) y
+  counted_state a x code_word instruction y log here fit e answer counter =
+      subst (λ r. IfGives r (λ y. counter_of y ≡ Some counter → IsStateValue B M.context cap (state_type p.spec) y)) answer
+      (evaluations_give_states B laws cap D M p calls a x code_word instruction counter h here fit e)

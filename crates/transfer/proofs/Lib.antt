@@ -1,0 +1,4 @@
+mod Counters
+mod Evaluated
+mod Members
+mod Outcomes

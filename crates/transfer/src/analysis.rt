@@ -1,0 +1,111 @@
+//! The analysis of a code image in a domain.
+
+use base_trait::Base;
+use cir_lower::Cir;
+use domain_laws::Field;
+use domain_trait::Domain;
+use fixed_point::{Analyser, Described, Transferred};
+use insn_decode::laws::addresses_are_those_of_words;
+use insn_decode::{Decoder, Image};
+use spec_types::{Machine, Spec};
+use std::alloc::{AllocError as NoMemory, Global};
+use std::sync::ledger::Ledger;
+use step_counter::Steps;
+use tsl_values::Entry;
+
+/// What is analysed, and in which domain: the machine of a specification with its code, an image with its decoder, an entry, and
+/// how many targets an instruction may have.
+#[derive(Drop)]
+pub struct ImageAnalysis<'a, D: Domain> {
+    pub domain: &'a D,
+    pub spec: &'a Spec,
+    pub cir: &'a Cir,
+    pub machine: Machine,
+    /// The fields of states behind the counter.
+    pub fields: &'a [Field],
+    pub decoder: &'a Decoder,
+    pub image: &'a Image,
+    pub entry: &'a Entry,
+    /// The most targets that an instruction may have.
+    pub limit: u32,
+}
+
+impl<'a, D: Domain> Analyser for ImageAnalysis<'a, D> {
+    ghost use Rattle.tsl_values.specs.States.{State};
+    ghost use Rattle.transfer_laws.specs.Analysis.{analysis_of, machine_of};
+    ghost use Rattle.transfer.specs.Analysis as of;
+    ghost use Rattle.transfer.specs.Analysis.{calls_of, problem};
+    ghost use Rattle.transfer.specs.Laws.{keeps_the_laws};
+
+    type Elem = D::Elem;
+
+    type Shown = <D::B as Base>::Word;
+
+    ghost Plain = { D.Plain };
+
+    ghost view = { D.view };
+
+    ghost State = { State };
+
+    ghost IsReady = { λ it. of.IsReady it D.B.algebra (D.is_for it.domain.now) };
+
+    ghost analysis = { λ it. analysis_of D.B.algebra D.B.CAP (D.elements it.domain.now) (D.meaning it.domain.now) (problem it) (calls_of D.B.algebra D.B.CAP (D.meaning it.domain.now) (problem it)) };
+
+    ghost machine = { λ it. machine_of (problem it) };
+
+    ghost laws = { λ it ready. keeps_the_laws D.B.algebra D.B.laws D.B.CAP (D.elements it.domain.now) (D.meaning it.domain.now) (D.is_for it.domain.now) it (D.laws it.domain.now (problem it).spec ready.made) ready };
+
+    fn is_code(&self, at: u32) -> bool {
+        self.image.is_kept();
+        addresses_are_those_of_words();
+        self.image.fetch(at).is_some()
+    }
+
+    fn start(&self) -> u32 {
+        self.entry.pc
+    }
+
+    fn entry(&self, alloc: Global) -> Result<D::Elem, NoMemory> {
+        self.domain.entry(alloc, self.spec, self.entry)
+    }
+
+    fn join(&self, alloc: Global, x: &D::Elem, y: &D::Elem) -> Result<D::Elem, NoMemory> {
+        self.domain.join(alloc, x, y)
+    }
+
+    fn widen(&self, alloc: Global, old: &D::Elem, new: &D::Elem) -> Result<D::Elem, NoMemory> {
+        self.domain.widen(alloc, old, new)
+    }
+
+    fn absorbs(&self, old: &D::Elem, new: &D::Elem) -> bool {
+        self.domain.absorbs(old, new)
+    }
+
+    fn copy(&self, alloc: Global, x: &D::Elem) -> Result<D::Elem, NoMemory> {
+        self.domain.copy(alloc, x)
+    }
+
+    fn transfer<L: Ledger>(
+        &self,
+        alloc: Global,
+        at: u32,
+        x: &D::Elem,
+        steps: &mut Steps<L>,
+    ) -> Result<Transferred<D::Elem, <D::B as Base>::Word>, NoMemory> {
+        let word = self.word_at(at);
+        match self.decoder.find(alloc, self.spec, word)? {
+            Some(instruction) => {
+                steps.tick();
+                self.executed(alloc, at, x, word, &instruction)
+            }
+            None => Ok(Transferred::Undecodable { word }),
+        }
+    }
+}
+
+impl<'a, D: Domain> Described for ImageAnalysis<'a, D> {
+    ghost use Rattle.transfer.specs.Analysis.{problem};
+    ghost use Rattle.transfer.specs.Laws.{is_sound};
+
+    ghost sound = { λ it ready. is_sound D.B.algebra D.B.laws D.B.CAP (D.elements it.domain.now) (D.meaning it.domain.now) (D.is_for it.domain.now) it (D.laws it.domain.now (problem it).spec ready.made) ready };
+}
