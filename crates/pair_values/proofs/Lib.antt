@@ -1,0 +1,4 @@
+pub mod Maps
+pub mod Merging
+pub mod Values
+pub mod Weights

@@ -1,0 +1,176 @@
+-- One more element of lists of parts or cases.
+use Rattle.std.proofs.Common.{◌≡◌, ℕ, ◌+◌, ◌≤◌, List, [], ◌∷◌, ◌++◌, length, drop, min, Option, Some, None, refl, sym, ap, subst, ◌∙◌, arith, length-drop}
+use Rattle.std.specs.Prelude.{map as map_of}
+use Rattle.base_trait.specs.Algebra.{Algebra}
+use Rattle.map_laws.proofs.Joining.{drop_all}
+use Rattle.value_laws.specs.Abs.{Abs, Cases, Parts, flag, word, made, map, no_case, absent, present, no_part, part, case_onto, cases, cases_onto, parts, parts_onto}
+use Rattle.value_laws.specs.Fits.{CaseFits, CasesFit, Fits, PartsFit}
+use Rattle.pair_calls.specs.Calls.{mapped_cases, mapped_parts, mapped_value, zip_cases, zip_parts, zip_value}
+use Rattle.pair_calls.proofs.Values.{CasesMeet, Meet, PartsMeet}
+use Rattle.pair_values.specs.Cases.{CaseMeets, mapped_case, zip_case}
+use Rattle.pair_values.proofs.Maps.{fits_more}
+
+-- ---- what fits where fewer cells may be listed
+module _ {W N C : Type 0} (B : Algebra W N C) (c : C) (low high : ℕ) (l : low ≤ high) where
+  mutual
+    pub value_fits_more : (x : Abs W N) → Fits B c low x → Fits B c high x
+    value_fits_more (flag t) h = tt
+    value_fits_more (word w x) h = h
+    value_fits_more (made ty cs) h = cases_fit_more cs h
+    value_fits_more (map m x) h = fits_more B c low high x l h
+
+    cases_fit_more : (cs : Cases W N) → CasesFit B c low cs → CasesFit B c high cs
+    cases_fit_more no_case h = tt
+    cases_fit_more (absent cs) h = cases_fit_more cs h
+    cases_fit_more (present xs cs) h = (parts_fit_more xs h.0, cases_fit_more cs h.1)
+
+    parts_fit_more : (xs : Parts W N) → PartsFit B c low xs → PartsFit B c high xs
+    parts_fit_more no_part h = tt
+    parts_fit_more (part x xs) h = (value_fits_more x h.0, parts_fit_more xs h.1)
+
+-- ---- one more behind those that are out
+module _ {S W N : Type 0} where
+  parts_pushed : (h : S → Abs W N) (out : List S) (z : S) (rest : Parts W N) → parts_onto (map_of h (out ++ z ∷ [])) rest ≡ parts_onto (map_of h out) (part (h z) rest)
+  parts_pushed h [] z rest = refl
+  parts_pushed h (x ∷ out) z rest = ap (part (h x)) (parts_pushed h out z rest)
+
+  cases_pushed : (h : S → Option (Parts W N)) (out : List S) (z : S) (rest : Cases W N) → cases_onto (map_of h (out ++ z ∷ [])) rest ≡ cases_onto (map_of h out) (case_onto (h z) rest)
+  cases_pushed h [] z rest = refl
+  cases_pushed h (x ∷ out) z rest = ap (case_onto (h x)) (cases_pushed h out z rest)
+
+-- ---- the first of what is left, and the others
+module _ {W N C : Type 0} (B : Algebra W N C) (c : C) (cap : ℕ) where
+  case_fits : (x : Option (Parts W N)) (cs : Cases W N) → CasesFit B c cap (case_onto x cs) → CaseFits B c cap x × CasesFit B c cap cs
+  case_fits None cs h = (tt, h)
+  case_fits (Some xs) cs h = h
+
+module _ {T W N C : Type 0} (B : Algebra W N C) (c : C) (cap : ℕ) where
+  pub parts_fit_on : (f : T → Abs W N) (xs : List T) (i : ℕ) (x : T) → drop i xs ≡ x ∷ drop (i + 1) xs → PartsFit B c cap (parts (map_of f (drop i xs)))
+      → Fits B c cap (f x) × PartsFit B c cap (parts (map_of f (drop (i + 1) xs)))
+  parts_fit_on f xs i x e h = subst (λ l. PartsFit B c cap (parts (map_of f l))) e h
+
+  pub cases_fit_on : (f : T → Option (Parts W N)) (xs : List T) (i : ℕ) (x : T) → drop i xs ≡ x ∷ drop (i + 1) xs → CasesFit B c cap (cases (map_of f (drop i xs)))
+      → CaseFits B c cap (f x) × CasesFit B c cap (cases (map_of f (drop (i + 1) xs)))
+  cases_fit_on f xs i x e h = case_fits B c cap (f x) (cases (map_of f (drop (i + 1) xs))) (subst (λ l. CasesFit B c cap (cases (map_of f l))) e h)
+
+module _ {V W M N : Type 0} where
+  case_meets : (a : Option (Parts V M)) (b : Option (Parts W N)) (cs : Cases V M) (ds : Cases W N) → CasesMeet (case_onto a cs) (case_onto b ds) → CaseMeets a b × CasesMeet cs ds
+  case_meets None None cs ds h = (tt, h)
+  case_meets None (Some ys) cs ds h = (tt, h)
+  case_meets (Some xs) None cs ds h = (tt, h)
+  case_meets (Some xs) (Some ys) cs ds h = h
+
+module _ {T U V W M N : Type 0} (xs : List T) (ys : List U) (i : ℕ) (x : T) (y : U) (p : drop i xs ≡ x ∷ drop (i + 1) xs) (q : drop i ys ≡ y ∷ drop (i + 1) ys) where
+  pub parts_meet_on : (f : T → Abs V M) (g : U → Abs W N) → PartsMeet (parts (map_of f (drop i xs))) (parts (map_of g (drop i ys)))
+      → Meet (f x) (g y) × PartsMeet (parts (map_of f (drop (i + 1) xs))) (parts (map_of g (drop (i + 1) ys)))
+  parts_meet_on f g h = subst (λ l. PartsMeet (parts (map_of f (x ∷ drop (i + 1) xs))) (parts (map_of g l))) q (subst (λ l. PartsMeet (parts (map_of f l)) (parts (map_of g (drop i ys)))) p h)
+
+  pub cases_meet_on : (f : T → Option (Parts V M)) (g : U → Option (Parts W N)) → CasesMeet (cases (map_of f (drop i xs))) (cases (map_of g (drop i ys)))
+      → CaseMeets (f x) (g y) × CasesMeet (cases (map_of f (drop (i + 1) xs))) (cases (map_of g (drop (i + 1) ys)))
+  cases_meet_on f g h = case_meets (f x) (g y) (cases (map_of f (drop (i + 1) xs))) (cases (map_of g (drop (i + 1) ys)))
+      (subst (λ l. CasesMeet (cases (map_of f (x ∷ drop (i + 1) xs))) (cases (map_of g l))) q (subst (λ l. CasesMeet (cases (map_of f l)) (cases (map_of g (drop i ys)))) p h))
+
+-- ---- two lists side by side
+module _ {V W M N C D : Type 0} (A : Algebra V M C) (B : Algebra W N D) (c : C × D) (cap : ℕ) where
+  case_step : (x : Option (Parts V M)) (y : Option (Parts W N)) (cs : Cases V M) (ds : Cases W N) → zip_cases A B c cap (case_onto x cs) (case_onto y ds) ≡ case_onto (zip_case A B c cap x y) (zip_cases A B c cap cs ds)
+  case_step None None cs ds = refl
+  case_step None (Some ys) cs ds = refl
+  case_step (Some xs) None cs ds = refl
+  case_step (Some xs) (Some ys) cs ds = refl
+
+module _ {T U V W M N C D : Type 0} (A : Algebra V M C) (B : Algebra W N D) (c : C × D) (cap : ℕ) where
+  -- the shorter list is the end
+  pub zip_parts_end : (f : T → Abs V M) (g : U → Abs W N) (xs : List T) (ys : List U) (i : ℕ) → min (length xs) (length ys) ≤ i → zip_parts A B c cap (parts (map_of f (drop i xs))) (parts (map_of g (drop i ys))) ≡ no_part
+  zip_parts_end f g xs ys i h = ends (drop i xs) (drop i ys) (simp length-drop (omega arith))
+    where
+      ends : (ps : List T) (qs : List U) → min (length ps) (length qs) ≡ 0 → zip_parts A B c cap (parts (map_of f ps)) (parts (map_of g qs)) ≡ no_part
+      ends [] qs h = refl
+      ends (p ∷ ps) [] h = refl
+      ends (p ∷ ps) (q ∷ qs) h = absurd (omega arith)
+
+  pub zip_cases_end : (f : T → Option (Parts V M)) (g : U → Option (Parts W N)) (xs : List T) (ys : List U) (i : ℕ) → min (length xs) (length ys) ≤ i → zip_cases A B c cap (cases (map_of f (drop i xs))) (cases (map_of g (drop i ys))) ≡ no_case
+  zip_cases_end f g xs ys i h = ends (drop i xs) (drop i ys) (simp length-drop (omega arith))
+    where
+      no_second : (p : Option (Parts V M)) (cs : Cases V M) → zip_cases A B c cap (case_onto p cs) no_case ≡ no_case
+      no_second None cs = refl
+      no_second (Some xs) cs = refl
+
+      ends : (ps : List T) (qs : List U) → min (length ps) (length qs) ≡ 0 → zip_cases A B c cap (cases (map_of f ps)) (cases (map_of g qs)) ≡ no_case
+      ends [] qs h = refl
+      ends (p ∷ ps) [] h = no_second (f p) (cases (map_of f ps))
+      ends (p ∷ ps) (q ∷ qs) h = absurd (omega arith)
+
+module _ {S T U V W M N C D : Type 0} (A : Algebra V M C) (B : Algebra W N D) (c : C × D) (cap : ℕ) where
+  module _ (xs : List T) (ys : List U) (i : ℕ) (x : T) (y : U) (p : drop i xs ≡ x ∷ drop (i + 1) xs) (q : drop i ys ≡ y ∷ drop (i + 1) ys) (out out' : List S) (z : S) (more : out' ≡ out ++ z ∷ []) where
+    pub zip_parts_more : (f : T → Abs V M) (g : U → Abs W N) (h : S → Abs (V × W) (M × N)) (whole : Parts (V × W) (M × N)) → h z ≡ zip_value A B c cap (f x) (g y)
+        → parts_onto (map_of h out) (zip_parts A B c cap (parts (map_of f (drop i xs))) (parts (map_of g (drop i ys)))) ≡ whole
+        → parts_onto (map_of h out') (zip_parts A B c cap (parts (map_of f (drop (i + 1) xs))) (parts (map_of g (drop (i + 1) ys)))) ≡ whole
+    zip_parts_more f g h whole here is =
+        let rest = zip_parts A B c cap (parts (map_of f (drop (i + 1) xs))) (parts (map_of g (drop (i + 1) ys))) in
+        ap (λ l. parts_onto (map_of h l) rest) more ∙ parts_pushed h out z rest ∙ ap (λ t. parts_onto (map_of h out) (part t rest)) here
+        ∙ sym (ap (λ l. parts_onto (map_of h out) (zip_parts A B c cap (parts (map_of f l)) (parts (map_of g (drop i ys))))) p
+        ∙ ap (λ l. parts_onto (map_of h out) (zip_parts A B c cap (parts (map_of f (x ∷ drop (i + 1) xs))) (parts (map_of g l)))) q) ∙ is
+
+    pub zip_cases_more : (f : T → Option (Parts V M)) (g : U → Option (Parts W N)) (h : S → Option (Parts (V × W) (M × N))) (whole : Cases (V × W) (M × N)) → h z ≡ zip_case A B c cap (f x) (g y)
+        → cases_onto (map_of h out) (zip_cases A B c cap (cases (map_of f (drop i xs))) (cases (map_of g (drop i ys)))) ≡ whole
+        → cases_onto (map_of h out') (zip_cases A B c cap (cases (map_of f (drop (i + 1) xs))) (cases (map_of g (drop (i + 1) ys)))) ≡ whole
+    zip_cases_more f g h whole here is =
+        let cs = cases (map_of f (drop (i + 1) xs)) in
+        let ds = cases (map_of g (drop (i + 1) ys)) in
+        let rest = zip_cases A B c cap cs ds in
+        ap (λ l. cases_onto (map_of h l) rest) more ∙ cases_pushed h out z rest ∙ ap (λ t. cases_onto (map_of h out) (case_onto t rest)) here
+        ∙ sym (ap (λ l. cases_onto (map_of h out) (zip_cases A B c cap (cases (map_of f l)) (cases (map_of g (drop i ys))))) p
+        ∙ ap (λ l. cases_onto (map_of h out) (zip_cases A B c cap (cases (map_of f (x ∷ drop (i + 1) xs))) (cases (map_of g l)))) q
+        ∙ ap (λ t. cases_onto (map_of h out) t) (case_step A B c cap (f x) (g y) cs ds)) ∙ is
+
+  -- what is out is all
+  pub zip_parts_done : (f : T → Abs V M) (g : U → Abs W N) (h : S → Abs (V × W) (M × N)) (xs : List T) (ys : List U) (i : ℕ) (out : List S) (whole : Parts (V × W) (M × N)) → min (length xs) (length ys) ≤ i
+      → parts_onto (map_of h out) (zip_parts A B c cap (parts (map_of f (drop i xs))) (parts (map_of g (drop i ys)))) ≡ whole → parts (map_of h out) ≡ whole
+  zip_parts_done f g h xs ys i out whole l is = sym (ap (λ t. parts_onto (map_of h out) t) (zip_parts_end A B c cap f g xs ys i l)) ∙ is
+
+  pub zip_cases_done : (f : T → Option (Parts V M)) (g : U → Option (Parts W N)) (h : S → Option (Parts (V × W) (M × N))) (xs : List T) (ys : List U) (i : ℕ) (out : List S) (whole : Cases (V × W) (M × N)) → min (length xs) (length ys) ≤ i
+      → cases_onto (map_of h out) (zip_cases A B c cap (cases (map_of f (drop i xs))) (cases (map_of g (drop i ys)))) ≡ whole → cases (map_of h out) ≡ whole
+  zip_cases_done f g h xs ys i out whole l is = sym (ap (λ t. cases_onto (map_of h out) t) (zip_cases_end A B c cap f g xs ys i l)) ∙ is
+
+-- ---- the parts of a list
+module _ {V W M N : Type 0} (word : V → W) (note : M → N) where
+  mapped_step : (x : Option (Parts V M)) (cs : Cases V M) → mapped_cases word note (case_onto x cs) ≡ case_onto (mapped_case word note x) (mapped_cases word note cs)
+  mapped_step None cs = refl
+  mapped_step (Some xs) cs = refl
+
+module _ {T V W M N : Type 0} (word : V → W) (note : M → N) where
+  module _ (xs : List T) (i : ℕ) (x : T) (p : drop i xs ≡ x ∷ drop (i + 1) xs) where
+    pub mapped_parts_fit_on : {C : Type 0} (B : Algebra W N C) (c : C) (cap : ℕ) (f : T → Abs V M) → PartsFit B c cap (mapped_parts word note (parts (map_of f (drop i xs))))
+        → Fits B c cap (mapped_value word note (f x)) × PartsFit B c cap (mapped_parts word note (parts (map_of f (drop (i + 1) xs))))
+    mapped_parts_fit_on B c cap f h = subst (λ l. PartsFit B c cap (mapped_parts word note (parts (map_of f l)))) p h
+
+    pub mapped_cases_fit_on : {C : Type 0} (B : Algebra W N C) (c : C) (cap : ℕ) (f : T → Option (Parts V M)) → CasesFit B c cap (mapped_cases word note (cases (map_of f (drop i xs))))
+        → CaseFits B c cap (mapped_case word note (f x)) × CasesFit B c cap (mapped_cases word note (cases (map_of f (drop (i + 1) xs))))
+    mapped_cases_fit_on B c cap f h = case_fits B c cap (mapped_case word note (f x)) (mapped_cases word note (cases (map_of f (drop (i + 1) xs))))
+        (subst (CasesFit B c cap) (mapped_step word note (f x) (cases (map_of f (drop (i + 1) xs)))) (subst (λ l. CasesFit B c cap (mapped_cases word note (cases (map_of f l)))) p h))
+
+module _ {S T V W M N : Type 0} (word : V → W) (note : M → N) where
+  module _ (xs : List T) (i : ℕ) (x : T) (p : drop i xs ≡ x ∷ drop (i + 1) xs) where
+    module _ (out out' : List S) (z : S) (more : out' ≡ out ++ z ∷ []) where
+      pub mapped_parts_more : (f : T → Abs V M) (h : S → Abs W N) (whole : Parts W N) → h z ≡ mapped_value word note (f x)
+          → parts_onto (map_of h out) (mapped_parts word note (parts (map_of f (drop i xs)))) ≡ whole → parts_onto (map_of h out') (mapped_parts word note (parts (map_of f (drop (i + 1) xs)))) ≡ whole
+      mapped_parts_more f h whole here is =
+          let rest = mapped_parts word note (parts (map_of f (drop (i + 1) xs))) in
+          ap (λ l. parts_onto (map_of h l) rest) more ∙ parts_pushed h out z rest ∙ ap (λ t. parts_onto (map_of h out) (part t rest)) here
+          ∙ sym (ap (λ l. parts_onto (map_of h out) (mapped_parts word note (parts (map_of f l)))) p) ∙ is
+
+      pub mapped_cases_more : (f : T → Option (Parts V M)) (h : S → Option (Parts W N)) (whole : Cases W N) → h z ≡ mapped_case word note (f x)
+          → cases_onto (map_of h out) (mapped_cases word note (cases (map_of f (drop i xs)))) ≡ whole → cases_onto (map_of h out') (mapped_cases word note (cases (map_of f (drop (i + 1) xs)))) ≡ whole
+      mapped_cases_more f h whole here is =
+          let cs = cases (map_of f (drop (i + 1) xs)) in
+          let rest = mapped_cases word note cs in
+          ap (λ l. cases_onto (map_of h l) rest) more ∙ cases_pushed h out z rest ∙ ap (λ t. cases_onto (map_of h out) (case_onto t rest)) here
+          ∙ sym (ap (λ l. cases_onto (map_of h out) (mapped_cases word note (cases (map_of f l)))) p ∙ ap (λ t. cases_onto (map_of h out) t) (mapped_step word note (f x) cs)) ∙ is
+
+module _ {S T V W M N : Type 0} (word : V → W) (note : M → N) (xs : List T) (i : ℕ) (out : List S) (l : length xs ≤ i) where
+  -- what is out is all
+  pub mapped_parts_done : (f : T → Abs V M) (h : S → Abs W N) (whole : Parts W N) → parts_onto (map_of h out) (mapped_parts word note (parts (map_of f (drop i xs)))) ≡ whole → parts (map_of h out) ≡ whole
+  mapped_parts_done f h whole is = sym (ap (λ t. parts_onto (map_of h out) (mapped_parts word note (parts (map_of f t)))) (drop_all i xs l)) ∙ is
+
+  pub mapped_cases_done : (f : T → Option (Parts V M)) (h : S → Option (Parts W N)) (whole : Cases W N) → cases_onto (map_of h out) (mapped_cases word note (cases (map_of f (drop i xs)))) ≡ whole → cases (map_of h out) ≡ whole
+  mapped_cases_done f h whole is = sym (ap (λ t. cases_onto (map_of h out) (mapped_cases word note (cases (map_of f t)))) (drop_all i xs l)) ∙ is

@@ -1,0 +1,28 @@
+use Rattle.std.proofs.Common.{◌≡◌, ◌≤◌, max, sym, subst, arith}
+use Rattle.paired_base.specs.Laws.{paired_capacity}
+use Rattle.paired_base.specs.Meaning.{paired}
+use Rattle.map_laws.proofs.Fitting.{room}
+use Rattle.value_laws.specs.Fits.{Fits}
+use Rattle.abs_map.proofs.Whole.{if_ok}
+use Rattle.abs_value.specs.View.{abs}
+use Rattle.pair_calls.specs.Calls.{zip_value}
+use Rattle.pair_calls.proofs.Values.{fits}
+use Rattle.pair_values.proofs.Values.{value_fits_more}
+use Rattle.pair_values.proofs.zipped_values.zip.Goals as goal
+
+pub returns-clause-fits : goal.returns-clause-fits
+returns-clause-fits g c =
+    let a = g.A.Base.algebra in
+    let b = g.B.Base.algebra in
+    let m = g.A.Base.CAP in
+    let n = g.B.Base.CAP in
+    let cap = max m n in
+    let ctx = c.args.ctx.now in
+    let x = abs c.args.x.now in
+    let y = abs c.args.y.now in
+    let space = room (paired a b) cap (paired_capacity m n a.joins b.joins g.met.A.Base.capacity g.met.B.Base.capacity) in
+    let left : m ≤ cap = omega arith in
+    let right : n ≤ cap = omega arith in
+    if_ok (λ r. abs r ≡ zip_value a b ctx cap x y) (λ r. Fits (paired a b) ctx cap (abs r)) c.zip_value.result
+    (λ r e. subst (λ z. Fits (paired a b) ctx cap z) (sym e) (fits a b g.met.A.Base.laws g.met.B.Base.laws ctx cap space x y c.requires.widths (value_fits_more a ctx.0 m cap left x c.requires.left) (value_fits_more b ctx.1 n cap right y c.requires.right)))
+    c.zip_value.ensures

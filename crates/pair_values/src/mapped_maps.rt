@@ -1,0 +1,59 @@
+//! The part of each cell of a map.
+
+ghost use Rattle.std.specs.Prelude.{◌≡◌, IfOk};
+ghost use Rattle.map_laws.specs.Maps.{Fits};
+ghost use Rattle.pair_calls.specs.Calls.{mapped_cell, mapped_cells, mapped_map};
+
+use crate::cells::CellOf;
+use crate::part::Part;
+use abs_map::AMap;
+use base_trait::Base;
+use map_laws::Cell;
+use std::alloc::{AllocError as NoMemory, Global};
+
+/// The part of a cell.
+fn mapped_cell<P: Part>(
+    alloc: Global,
+    ctx: &<P::To as Base>::Ctx,
+    word: &<P::From as Base>::Word,
+    note: &<P::From as Base>::Note,
+) -> Result<CellOf<P::To>, NoMemory>
+    ensures { IfOk result (λ r. r ≡ mapped_cell P.word_of P.note_of (record { word = word.now; note = note.now })) }
+{
+    Ok(Cell {
+        word: P::word(alloc, ctx, word)?,
+        note: P::note(alloc, note)?,
+    })
+}
+
+/// The parts of the listed cells.
+fn mapped_cells<P: Part>(
+    alloc: Global,
+    ctx: &<P::To as Base>::Ctx,
+    m: &AMap<P::From>,
+) -> Result<Vec<(u64, CellOf<P::To>)>, NoMemory>
+    ensures { IfOk result (λ r. r.items ≡ mapped_cells P.word_of P.note_of m.now.cells) }
+{
+    let mut cells = Vec::new(alloc);
+    for place in 0..m.listed() {
+        let (word, note) = m.cell_at(place);
+        let cell = mapped_cell::<P>(alloc, ctx, word, note)?;
+        cells.push((m.key_at(place), cell))?;
+    }
+    Ok(cells)
+}
+
+/// The part of each cell of a map, at the same keys.
+pub(crate) fn mapped_map<P: Part>(
+    alloc: Global,
+    ctx: &<P::To as Base>::Ctx,
+    m: &AMap<P::From>,
+) -> Result<AMap<P::To>, NoMemory>
+    requires fits { Fits P.To.algebra ctx.now P.To.CAP (mapped_map P.word_of P.note_of m.now) }
+    ensures { IfOk result (λ r. r ≡ mapped_map P.word_of P.note_of m.now) }
+{
+    let cells = mapped_cells::<P>(alloc, ctx, m)?;
+    let (word, note) = m.rest();
+    let rest = mapped_cell::<P>(alloc, ctx, word, note)?;
+    AMap::of_cells(alloc, ctx, m.width(), rest, cells)
+}

@@ -1,0 +1,88 @@
+//! The part of each word and of each note of a value.
+
+ghost use Rattle.std.specs.Prelude.{◌≡◌, IfOk, map};
+ghost use Rattle.value_laws.specs.Abs.{cases, parts};
+ghost use Rattle.value_laws.specs.Fits.{CaseFits, CasesFit, Fits, PartsFit};
+ghost use Rattle.abs_value.specs.View.{abs, case_of};
+ghost use Rattle.pair_calls.specs.Calls.{mapped_cases, mapped_parts, mapped_value};
+ghost use Rattle.pair_values.specs.Cases.{mapped_case};
+
+use crate::mapped_maps::mapped_map;
+use crate::part::Part;
+use abs_value::AV;
+use base_trait::Base;
+use std::alloc::{AllocError as NoMemory, Global};
+
+/// The part of a value.
+#[cycle(mapped)]
+pub(crate) fn mapped_value<P: Part>(
+    alloc: Global,
+    ctx: &<P::To as Base>::Ctx,
+    x: &AV<P::From>,
+) -> Result<AV<P::To>, NoMemory>
+    requires fits { Fits P.To.algebra ctx.now P.To.CAP (mapped_value P.word_of P.note_of (abs x.now)) }
+    ensures { IfOk result (λ r. abs r ≡ mapped_value P.word_of P.note_of (abs x.now)) }
+{
+    match x {
+        AV::Flag(t) => Ok(AV::Flag(*t)),
+        AV::Word { w, x } => Ok(AV::Word {
+            w: *w,
+            x: P::word(alloc, ctx, x)?,
+        }),
+        AV::Data { ty, cases } => Ok(AV::Data {
+            ty: *ty,
+            cases: mapped_cases::<P>(alloc, ctx, cases)?,
+        }),
+        AV::Map { map, m } => Ok(AV::Map {
+            map: *map,
+            m: mapped_map::<P>(alloc, ctx, m)?,
+        }),
+    }
+}
+
+#[cycle(mapped)]
+fn mapped_cases<P: Part>(
+    alloc: Global,
+    ctx: &<P::To as Base>::Ctx,
+    xs: &[Option<Vec<AV<P::From>>>],
+) -> Result<Vec<Option<Vec<AV<P::To>>>>, NoMemory>
+    requires fits { CasesFit P.To.algebra ctx.now P.To.CAP (mapped_cases P.word_of P.note_of (cases (map case_of xs.now))) }
+    ensures { IfOk result (λ r. cases (map case_of r.items) ≡ mapped_cases P.word_of P.note_of (cases (map case_of xs.now))) }
+{
+    let mut out = Vec::new(alloc);
+    for x in xs {
+        out.push(mapped_case::<P>(alloc, ctx, x)?)?;
+    }
+    Ok(out)
+}
+
+#[cycle(mapped)]
+fn mapped_case<P: Part>(
+    alloc: Global,
+    ctx: &<P::To as Base>::Ctx,
+    x: &Option<Vec<AV<P::From>>>,
+) -> Result<Option<Vec<AV<P::To>>>, NoMemory>
+    requires fits { CaseFits P.To.algebra ctx.now P.To.CAP (mapped_case P.word_of P.note_of (case_of x.now)) }
+    ensures { IfOk result (λ r. case_of r ≡ mapped_case P.word_of P.note_of (case_of x.now)) }
+{
+    match x {
+        Some(xs) => Ok(Some(mapped_parts::<P>(alloc, ctx, xs)?)),
+        None => Ok(None),
+    }
+}
+
+#[cycle(mapped)]
+fn mapped_parts<P: Part>(
+    alloc: Global,
+    ctx: &<P::To as Base>::Ctx,
+    xs: &[AV<P::From>],
+) -> Result<Vec<AV<P::To>>, NoMemory>
+    requires fits { PartsFit P.To.algebra ctx.now P.To.CAP (mapped_parts P.word_of P.note_of (parts (map abs xs.now))) }
+    ensures { IfOk result (λ r. parts (map abs r.items) ≡ mapped_parts P.word_of P.note_of (parts (map abs xs.now))) }
+{
+    let mut out = Vec::new(alloc);
+    for x in xs {
+        out.push(mapped_value::<P>(alloc, ctx, x)?)?;
+    }
+    Ok(out)
+}

@@ -1,0 +1,36 @@
+//! Maps side by side.
+
+ghost use Rattle.std.specs.Prelude.{◌≡◌, IfOk, max};
+ghost use Rattle.map_laws.specs.Maps.{Fits};
+ghost use Rattle.paired_base.specs.Meaning.{paired};
+ghost use Rattle.pair_calls.specs.Calls.{zip_map};
+
+use crate::cells::{rest_of, zip_cells, zipped_cells};
+use crate::keys::either_key;
+use abs_map::AMap;
+use base_trait::Base;
+use paired_base::Paired;
+use std::alloc::{AllocError as NoMemory, Global};
+
+/// Two maps of one width side by side: the map describes what both describe.
+///
+/// It lists the keys of either; where a side lists no cell, its rest is taken.
+pub fn zip_map<A: Base, B: Base>(
+    alloc: Global,
+    ctx: &(A::Ctx, B::Ctx),
+    x: &AMap<A>,
+    y: &AMap<B>,
+) -> Result<AMap<Paired<A, B>>, NoMemory>
+    requires left { Fits A.algebra ctx.now.0 A.CAP x.now }
+    requires right { Fits B.algebra ctx.now.1 B.CAP y.now }
+    requires width { x.now.width ≡ y.now.width }
+    ensures value { IfOk result (λ r. r ≡ zip_map A.algebra B.algebra ctx.now (max A.CAP B.CAP) x.now y.now) }
+    ensures fits { IfOk result (λ r. Fits (paired A.algebra B.algebra) ctx.now (max A.CAP B.CAP) r) }
+{
+    let keys = either_key(alloc, x, y)?;
+    let cells = zipped_cells(alloc, ctx, x, y, &keys)?;
+    let left = rest_of(alloc, &ctx.0, x)?;
+    let right = rest_of(alloc, &ctx.1, y)?;
+    let rest = zip_cells::<A, B>(left, right);
+    AMap::of_cells(alloc, ctx, x.width(), rest, cells)
+}
