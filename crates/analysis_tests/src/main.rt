@@ -1,0 +1,30 @@
+//! Analyses code words over a base and checks the table that comes out, a case a line.
+//!
+//! A case is a base, a machine, the code words at 00001000 in hex, and an entry, with a `;` for each line end: of
+//! `defuse mini | 01010005 02000025 | pc 00001000` it says the addresses at which transfers were made, the block of each
+//! address, and the verdict of the checker on that table, on the table without its last block, and on the table without
+//! the last exit of its last block, or else its last next address. The folder has the cases in stdin and what they are to give in stdout, which was
+//! worked out by hand from the rules.
+#![tactic(auto)]
+
+mod analysed;
+mod answer;
+mod case;
+mod cut;
+mod machine;
+mod shown;
+mod text;
+
+use answer::answer;
+use std::io;
+
+fn main(rt: HostRuntime) -> io::Result<()> {
+    let alloc = rt.alloc();
+    for line in rt.lines(alloc) {
+        let line = line?;
+        println!(rt; "{}", line.as_str())?;
+        let found = answer(alloc, line.as_str())?;
+        print!(rt; "{}", found.as_str())?;
+    }
+    Ok(())
+}
