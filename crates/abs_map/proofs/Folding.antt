@@ -38,6 +38,10 @@ module _ {W N C : Type 0} (B : Algebra W N C) (c : C) (w cap : ℕ) where
   pub fold_cells : (es front : List (ℕ × Cell W N)) (x : ℕ × Cell W N) → es ≡ front ++ x ∷ [] → cap ≤ length front → take cap front ≡ take cap es
   fold_cells es front x e l = sym (take_push cap front x l) ∙ ap (λ xs. take cap xs) (sym e)
 
+  -- the cells, once they are shared
+  pub shared_is : (rest : Cell W N) (es es' : List (ℕ × Cell W N)) (m : Map W N) → es ≡ es' → ◌≡◌ {A = Map W N} (record { width = w; rest = rest; cells = es' }) m → ◌≡◌ {A = Map W N} (record { width = w; rest = rest; cells = es }) m
+  shared_is rest es es' m e h = ap (λ xs. record { width = w; rest = rest; cells = xs }) e ∙ h
+
   -- where no more is listed than may be
   pub fold_end : (rest rest' : Cell W N) (es es' : List (ℕ × Cell W N)) → IsTrue B.joins ⊎ (length es ≤ cap) → length es' ≤ cap
       → rest_with B c w rest' (drop cap es') ≡ rest_with B c w rest (drop cap es) → take cap es' ≡ take cap es

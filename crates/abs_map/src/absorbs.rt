@@ -30,7 +30,7 @@ impl<B: Base> AMap<B> {
         requires width { self.now.width ≡ new.now.width }
         ensures value { result ≡ list_all (λ k. absorbs_cell B.algebra ctx.now self.now.width (cell self.now k) (cell new.now k)) (either_key (keys self.now) (keys new.now)) }
     {
-        self.absorbs_at(ctx, new, &self.cells) && self.absorbs_at(ctx, new, &new.cells)
+        self.absorbs_at(ctx, new, self.cells()) && self.absorbs_at(ctx, new, new.cells())
     }
 
     /// Whether it does at each of these keys.

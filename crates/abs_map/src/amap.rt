@@ -9,11 +9,13 @@ ghost use Rattle.map_laws.specs.Maps.{Fits, cell, keys};
 ghost use Rattle.abs_map.specs.Unfolded.{FitsUnfolded};
 
 use super::cells::{CellOf, copied};
-use super::listed::{is_listed, listed_at, push_copies};
+use super::fold::Unfolded;
+use super::listed::{is_listed, listed_at};
 use base_trait::Base;
 use map_laws::Cell;
 use std::alloc::{AllocError as NoMemory, Global};
 use std::marker::Model;
+use std::rc::Rc;
 
 /// Listed cells, ascending by their keys, and a rest for every other key. It describes each concrete map whose cell at
 /// each key the listed cell describes, or else the rest.
@@ -22,7 +24,7 @@ use std::marker::Model;
 pub struct AMap<B: Base> {
     pub(crate) width: u32,
     pub(crate) rest: CellOf<B>,
-    pub(crate) cells: Vec<(u64, CellOf<B>)>,
+    pub(crate) cells: Rc<Vec<(u64, CellOf<B>)>>,
 }
 
 impl<B: Base> Model for AMap<B> {
@@ -30,7 +32,7 @@ impl<B: Base> Model for AMap<B> {
 
     ghost Value = { Map B.Word B.Note };
 
-    ghost view = { λ m. record { width = m.width; rest = m.rest; cells = m.cells.items } };
+    ghost view = { λ m. record { width = m.width; rest = m.rest; cells = m.cells.value.items } };
 }
 
 impl<B: Base> AMap<B> {
@@ -52,7 +54,7 @@ impl<B: Base> AMap<B> {
         Ok(AMap {
             width: w,
             rest: Cell { word: rest, note },
-            cells: Vec::new(alloc),
+            cells: Rc::new(alloc, Vec::new(alloc))?,
         })
     }
 
@@ -71,7 +73,7 @@ impl<B: Base> AMap<B> {
         ensures value { IfOk result (λ r. r ≡ folded B.algebra ctx.now B.CAP (record { width = w; rest = rest; cells = cells.items })) }
         ensures fits { IfOk result (λ r. Fits B.algebra ctx.now B.CAP r) }
     {
-        let map = AMap {
+        let map = Unfolded {
             width: w,
             rest,
             cells,
@@ -98,7 +100,7 @@ impl<B: Base> AMap<B> {
         requires order { IsAscending (keys self.now) }
         ensures { result ≡ has_key (keys self.now) key }
     {
-        is_listed(&self.cells, key)
+        is_listed(self.cells(), key)
     }
 
     /// The listed key at a place, counted from 0. Keys ascend.
@@ -106,7 +108,7 @@ impl<B: Base> AMap<B> {
         requires { place < length self.now.cells }
         ensures { slice_get (keys self.now) place ≡ Some result }
     {
-        self.cells[place as usize].0
+        self.cells()[place as usize].0
     }
 
     /// The listed cell at a place: it describes what a concrete map has at the key of that place.
@@ -114,7 +116,7 @@ impl<B: Base> AMap<B> {
         requires { place < length self.now.cells }
         ensures { slice_get self.now.cells place ≡ Some (slice_index (keys self.now) place, record { word = result.0.now; note = result.1.now }) }
     {
-        let cell = &self.cells[place as usize].1;
+        let cell = &self.cells()[place as usize].1;
         (&cell.word, &cell.note)
     }
 
@@ -125,12 +127,19 @@ impl<B: Base> AMap<B> {
         (&self.rest.word, &self.rest.note)
     }
 
+    /// The listed cells, ascending by their keys.
+    pub(crate) fn cells(&self) -> &[(u64, CellOf<B>)]
+        ensures value { result.now ≡ self.now.cells }
+    {
+        &self.cells
+    }
+
     /// The cell at a key.
     pub(crate) fn cell(&self, key: u64) -> &CellOf<B>
         requires order { IsAscending (keys self.now) }
         ensures value { result.now ≡ cell self.now key }
     {
-        match listed_at(&self.cells, key) {
+        match listed_at(self.cells(), key) {
             Some(cell) => cell,
             None => &self.rest,
         }
@@ -140,12 +149,10 @@ impl<B: Base> AMap<B> {
     pub fn copy(&self, alloc: Global, ctx: &B::Ctx) -> Result<AMap<B>, NoMemory>
         ensures { IfOk result (λ r. r ≡ self.now) }
     {
-        let mut cells = Vec::with_capacity(alloc, self.cells.len())?;
-        push_copies::<B>(alloc, ctx, &mut cells, &self.cells)?;
         Ok(AMap {
             width: self.width,
             rest: copied::<B>(alloc, ctx, &self.rest)?,
-            cells,
+            cells: self.cells.clone()?,
         })
     }
 }

@@ -8,6 +8,7 @@ ghost use Rattle.abs_map.specs.Unfolded.{FitsUnfolded};
 
 use super::amap::AMap;
 use super::cells::{CellOf, joined};
+use super::fold::Unfolded;
 use super::listed::either_key;
 use base_trait::Base;
 use std::alloc::{AllocError as NoMemory, Global};
@@ -27,17 +28,17 @@ impl<B: Base> AMap<B> {
     }
 
     /// The map of the keys of either, however many they are.
-    fn merged(&self, alloc: Global, ctx: &B::Ctx, other: &AMap<B>) -> Result<AMap<B>, NoMemory>
+    fn merged(&self, alloc: Global, ctx: &B::Ctx, other: &AMap<B>) -> Result<Unfolded<B>, NoMemory>
         requires left { Fits B.algebra ctx.now B.CAP self.now }
         requires right { Fits B.algebra ctx.now B.CAP other.now }
         requires width { self.now.width ≡ other.now.width }
         ensures value { IfOk result (λ r. r ≡ merged B.algebra ctx.now self.now other.now) }
         ensures fits { IfOk result (λ r. FitsUnfolded B.algebra ctx.now r) }
     {
-        let keys = either_key(alloc, &self.cells, &other.cells)?;
+        let keys = either_key(alloc, self.cells(), other.cells())?;
         let cells = self.joined_cells(alloc, ctx, other, &keys)?;
         let rest = joined::<B>(alloc, ctx, self.width, &self.rest, &other.rest)?;
-        Ok(AMap {
+        Ok(Unfolded {
             width: self.width,
             rest,
             cells,

@@ -18,8 +18,9 @@
 //! the rest and unlisted. With room for two, a write of {9} at the key 5 of `{ 1: {1}, 8: {2}, rest {0} }` gives
 //! `{ 1: {1}, 5: {9}, rest {0, 2} }`. On a base that does not join, the keys themselves are the bound.
 //!
-//! *How it is kept.* The cells stand in a `Vec`, ascending. A key is looked up by binary search. A write copies the cells
-//! before its key's place and those behind it.
+//! *How it is kept.* The cells stand in a `Vec`, ascending, behind an `Rc`: a copy shares them, and copies the rest alone. A
+//! key is looked up by binary search. A write makes a new `Vec`, with copies of the cells before its key's place and of
+//! those behind it.
 #![tactic(auto)]
 
 mod absorbs;

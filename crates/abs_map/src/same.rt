@@ -19,7 +19,7 @@ impl<B: Base> PartialEq for AMap<B> {
     fn eq(&self, other: &AMap<B>) -> bool {
         self.width == other.width
             && self.rest == other.rest
-            && are_same::<B>(&self.cells, &other.cells)
+            && are_same::<B>(self.cells(), other.cells())
     }
 }
 

@@ -12,11 +12,13 @@ ghost use Rattle.abs_map.specs.View.{keys_of};
 
 use super::amap::AMap;
 use super::cells::{CellOf, copied, joined_if};
+use super::fold::Unfolded;
 use super::keys::KeySet;
 use super::listed::put;
 use base_trait::Base;
 use map_laws::Cell;
 use std::alloc::{AllocError as NoMemory, Global};
+use std::rc::Rc;
 
 impl<B: Base> AMap<B> {
     /// The map after a write: it describes each concrete map with a described cell written at a key that may be meant.
@@ -57,15 +59,15 @@ impl<B: Base> AMap<B> {
         ctx: &B::Ctx,
         key: u64,
         cell: CellOf<B>,
-    ) -> Result<AMap<B>, NoMemory>
+    ) -> Result<Unfolded<B>, NoMemory>
         requires map { Fits B.algebra ctx.now B.CAP self.now }
         requires key { IsKeyed (one key) }
         requires cell { CellFits B.algebra ctx.now self.now.width cell }
         ensures value { IfOk result (λ r. r ≡ written self.now key cell) }
         ensures fits { IfOk result (λ r. FitsUnfolded B.algebra ctx.now r) }
     {
-        let cells = put::<B>(alloc, ctx, &self.cells, key, cell)?;
-        Ok(AMap {
+        let cells = put::<B>(alloc, ctx, self.cells(), key, cell)?;
+        Ok(Unfolded {
             width: self.width,
             rest: copied::<B>(alloc, ctx, &self.rest)?,
             cells,
@@ -86,13 +88,13 @@ impl<B: Base> AMap<B> {
         ensures value { IfOk result (λ r. r ≡ update_of B.algebra ctx.now B.CAP self.now (some listed.now all_listed) cell.now) }
         ensures fits { IfOk result (λ r. Fits B.algebra ctx.now B.CAP r) }
     {
-        let cells = joined_named::<B>(alloc, ctx, self.width, &self.cells, listed, cell)?;
+        let cells = joined_named::<B>(alloc, ctx, self.width, self.cells(), listed, cell)?;
         let rest = copied::<B>(alloc, ctx, &self.rest)?;
         let rest = joined_if::<B>(alloc, ctx, self.width, !all_listed, rest, cell)?;
         Ok(AMap {
             width: self.width,
             rest,
-            cells,
+            cells: Rc::new(alloc, cells)?,
         })
     }
 }

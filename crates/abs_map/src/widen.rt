@@ -10,6 +10,7 @@ use super::cells::{CellOf, copied, joined_if, widened};
 use super::listed::is_listed;
 use base_trait::Base;
 use std::alloc::{AllocError as NoMemory, Global};
+use std::rc::Rc;
 
 impl<B: Base> AMap<B> {
     /// A map that describes each concrete map that either describes, such that no chain of widenings grows for ever: it
@@ -30,7 +31,7 @@ impl<B: Base> AMap<B> {
         Ok(AMap {
             width: self.width,
             rest,
-            cells,
+            cells: Rc::new(alloc, cells)?,
         })
     }
 
@@ -47,7 +48,7 @@ impl<B: Base> AMap<B> {
         ensures value { IfOk result (λ r. r.items ≡ map (λ e. (e.0, widen_cells B.algebra ctx.now self.now.width e.1 (cell new.now e.0))) self.now.cells) }
     {
         let mut cells = Vec::with_capacity(alloc, self.cells.len())?;
-        for (key, old) in &self.cells {
+        for (key, old) in self.cells() {
             let cell = widened::<B>(alloc, ctx, self.width, old, new.cell(*key))?;
             cells.push((*key, cell))?;
         }
@@ -63,8 +64,8 @@ impl<B: Base> AMap<B> {
         ensures fits { IfOk result (λ r. CellFits B.algebra ctx.now self.now.width r) }
     {
         let mut rest = copied::<B>(alloc, ctx, &new.rest)?;
-        for (key, cell) in &new.cells {
-            let is_new = !is_listed(&self.cells, *key);
+        for (key, cell) in new.cells() {
+            let is_new = !is_listed(self.cells(), *key);
             rest = joined_if::<B>(alloc, ctx, self.width, is_new, rest, cell)?;
         }
         Ok(rest)

@@ -13,7 +13,7 @@ loop-key-preserved g c =
     let m = c.args.self.now in
     let n = c.args.new.now in
     let item = c.loop-key-item.result in
-    push_more (λ e. (e.0, widen_cells g.B.Base.algebra c.args.ctx.now m.width e.1 (cell n e.0))) c.loop-key.cells.items c.push.new.self.items (item.0, c.in_ok-cell.cell) c.deref-key-items.result.now c.loop-key.key-index item
+    push_more (λ e. (e.0, widen_cells g.B.Base.algebra c.args.ctx.now m.width e.1 (cell n e.0))) c.loop-key.cells.items c.push.new.self.items (item.0, c.in_ok-cell.cell) c.cells-key-items.result.now c.loop-key.key-index item
     c.loop-key-test.true c.loop-key.invariant c.in_ok-push.ensures.items
     (ap (λ z. (item.0, z)) (c.in_ok-cell.ensures.value ∙ ap (λ t. widen_cells g.B.Base.algebra c.args.ctx.now t.width item.1 c.cell.result.now) c.self.view_is ∙ ap (λ t. widen_cells g.B.Base.algebra c.args.ctx.now m.width item.1 t) c.cell.ensures.value)
     ∙ ap (λ e. (e.0, widen_cells g.B.Base.algebra c.args.ctx.now m.width e.1 (cell n e.0))) c.loop-key-item.is)
@@ -23,6 +23,6 @@ returns g c =
     let m = c.args.self.now in
     let n = c.args.new.now in
     record {
-      value = map_done (λ e. (e.0, widen_cells g.B.Base.algebra c.args.ctx.now m.width e.1 (cell n e.0))) c.loop-key.cells.items c.deref-key-items.result.now c.loop-key.key-index c.loop-key-test.false c.loop-key.invariant
-          ∙ ap (λ l. map (λ e. (e.0, widen_cells g.B.Base.algebra c.args.ctx.now m.width e.1 (cell n e.0))) l) (c.deref-key-items.ensures.value ∙ ap (λ t. t.cells) c.self.view_is);
+      value = map_done (λ e. (e.0, widen_cells g.B.Base.algebra c.args.ctx.now m.width e.1 (cell n e.0))) c.loop-key.cells.items c.cells-key-items.result.now c.loop-key.key-index c.loop-key-test.false c.loop-key.invariant
+          ∙ ap (λ l. map (λ e. (e.0, widen_cells g.B.Base.algebra c.args.ctx.now m.width e.1 (cell n e.0))) l) c.cells-key-items.ensures.value;
     }
