@@ -1,25 +1,17 @@
 -- Lists of terms and arms.
-use Rattle.std.proofs.Common.{◌≡◌, ℕ, suc, ◌+◌, ◌<◌, List, [], ◌∷◌, ◌++◌, length, drop, get_or, map, refl, ap, add-one, arith, Option, Some, None}
+use Rattle.std.proofs.Common.{◌≡◌, ℕ, ◌+◌, ◌<◌, List, [], ◌∷◌, ◌++◌, length, drop, get_or, refl, ap, add-one, arith, Option, Some, None}
 use Rattle.std.proofs.Math.Seq.{drop-cons}
 use Rattle.std.specs.List.{zip}
-use Rattle.tsl_parser.specs.Tree.{terms as exprs}
-use Rattle.tsl_parser.specs.View.{term as expr}
-use Rattle.tsl_parser.specs.declared.tree.Expr.{Expr}
 use Rattle.tsl_match.specs.Patterns.{Pat}
 use Rattle.spec_types.specs.Environment.{or_else}
 use Rattle.spec_types.specs.Terms.{Term, Terms, Arms, terms_onto, term_then, arms_onto, arm_then}
 use Rattle.spec_types.specs.CoreTerms.{Core, Cores, cores_onto, core_then}
-use Rattle.spec_typing.specs.Terms.{terms_len}
 
 pub drop_here : {A : Type 0} (xs : List A) (i : ℕ) (x : A) → x ≡ get_or xs i x → i < length xs → drop i xs ≡ x ∷ drop (i + 1) xs
 drop_here xs i x e h = rw (add-one, drop-cons xs i x h, ← e) refl
 
 pub drop_from : {A : Type 0} (xs : List A) (i : ℕ) (d : A) → i < length xs → drop i xs ≡ get_or xs i d ∷ drop (i + 1) xs
 drop_from xs i d h = rw (add-one, drop-cons xs i d h) refl
-
-pub terms_len_map : (args : List Expr) → terms_len (exprs (map expr args)) ≡ length args
-terms_len_map [] = refl
-terms_len_map (a ∷ args) = ap suc (terms_len_map args)
 
 pub terms_onto_more : (out : List Term) (t : Term) (rest : Terms) → terms_onto (out ++ t ∷ []) rest ≡ terms_onto out (term_then t rest)
 terms_onto_more [] t rest = refl

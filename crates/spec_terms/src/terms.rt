@@ -1,6 +1,9 @@
 //! Terms.
+//!
+//! Where a checked part is at hand when a later one has a fault, it is let go by `drop`: the proof then
+//! goes by the drop of its type, and not again by all its cases.
 
-ghost use Rattle.std.specs.Prelude.{◌≡◌, ◌++◌, IfOk, None, OnOk, Some, false, length, map, option_map, true};
+ghost use Rattle.std.specs.Prelude.{◌≡◌, ◌++◌, IfOk, None, OnOk, Some, length, map, option_map, true};
 ghost use Rattle.std.specs.List.{zip};
 ghost use Rattle.tsl_parser.specs.Tree.{arms as arm_trees, terms as exprs};
 ghost use Rattle.tsl_parser.specs.View.{arm as arm_tree, term as expr};
@@ -22,19 +25,18 @@ ghost use Rattle.spec_typing.specs.Parts as parts;
 ghost use Rattle.spec_typing.specs.Terms as spec;
 
 use spec_forms::{
-    Branch, Branches, Forms, Lists, Operator, call, cast, cast_of, choose, flag, get, if_else,
-    keyword_operator, let_in, make, negate, operate, operator_of, put, result_type, unary,
+    Branch, Branches, Forms, Lists, Operator, call, flag, get, if_else, keyword_operator, let_in,
+    make, operator_of, put,
 };
-use spec_patterns::{count_fault, type_fault, unknown};
-use spec_types::{Environment, Scope, SpecError, Ty, field_types, number, span_of};
-use spec_typing::{
-    Operand, Typed, a_literal, a_variable, cast_fault, decision, enter, enter_pattern, map_number,
-    word_width,
+use spec_steps::{
+    body_part, callee_of, casted, count_of, decided, maker_of, map_part, operand_part, operated,
+    prefixed, typed_part,
 };
+use spec_types::{Environment, Scope, SpecError, Ty, span_of};
+use spec_typing::{Typed, a_literal, a_variable, enter, enter_pattern};
 use std::alloc::Global;
 use tsl_lexer::Keyword;
 use tsl_parser::tree::{Arm, Expr, Name, Num, PreOp, Span};
-use word_ops::Op1;
 
 /// The checked term of a term, or its first fault.
 #[cycle(checked)]
@@ -128,56 +130,7 @@ pub fn of_type<'a>(
     ensures scope { OnOk result (scope.new ≡ scope.old) }
 {
     let x = checked(alloc, environment, scope, e)?;
-    type_fault(alloc, environment, want, span_of(e), x.ty)?;
-    Ok(x.forms)
-}
-
-/// A part that has to be a word.
-#[cycle(checked)]
-fn a_word<'a>(
-    alloc: Global,
-    environment: &Environment,
-    scope: &mut Scope<'a>,
-    e: &'a Expr,
-) -> Result<Operand, SpecError>
-    requires declared { IsWellFormed environment.now }
-    requires scope { is_scope environment.now scope.old ≡ true }
-    ensures answer { Agrees result (parts.word_wanted environment.now (spec.part environment.now scope.old (expr e.now))) }
-    ensures ty { IfOk result (λ r. spec.type_of environment.now scope.old (expr e.now) ≡ Some (Ty.Word r.number)) }
-    ensures term { IfOk result (λ r. term r.forms.term ≡ spec.term_of environment.now scope.old (expr e.now)) }
-    ensures core { IfOk result (λ r. core r.forms.core ≡ cores.core_in environment.now scope.old (expr e.now)) }
-    ensures scope { OnOk result (scope.new ≡ scope.old) }
-{
-    let x = checked(alloc, environment, scope, e)?;
-    let number = word_width(alloc, environment, span_of(e), x.ty)?;
-    Ok(Operand {
-        forms: x.forms,
-        number,
-    })
-}
-
-/// A part that has to be a map.
-#[cycle(checked)]
-fn a_map<'a>(
-    alloc: Global,
-    environment: &Environment,
-    scope: &mut Scope<'a>,
-    e: &'a Expr,
-) -> Result<Operand, SpecError>
-    requires declared { IsWellFormed environment.now }
-    requires scope { is_scope environment.now scope.old ≡ true }
-    ensures answer { Agrees result (parts.map_wanted environment.now (spec.part environment.now scope.old (expr e.now))) }
-    ensures ty { IfOk result (λ r. spec.type_of environment.now scope.old (expr e.now) ≡ Some (Ty.Map r.number)) }
-    ensures term { IfOk result (λ r. term r.forms.term ≡ spec.term_of environment.now scope.old (expr e.now)) }
-    ensures core { IfOk result (λ r. core r.forms.core ≡ cores.core_in environment.now scope.old (expr e.now)) }
-    ensures scope { OnOk result (scope.new ≡ scope.old) }
-{
-    let x = checked(alloc, environment, scope, e)?;
-    let number = map_number(alloc, environment, span_of(e), x.ty)?;
-    Ok(Operand {
-        forms: x.forms,
-        number,
-    })
+    typed_part(alloc, environment, want, span_of(e), x)
 }
 
 /// A name for a term in another.
@@ -200,8 +153,17 @@ fn bound<'a>(
 {
     let depth = scope.depth();
     let x = checked(alloc, environment, scope, x)?;
-    enter(environment, scope, &name.text, x.ty)?;
-    let body = checked(alloc, environment, scope, body)?;
+    let Ok(()) = enter(environment, scope, &name.text, x.ty) else {
+        drop(x);
+        return Err(SpecError::NoMemory);
+    };
+    let body = match checked(alloc, environment, scope, body) {
+        Ok(body) => body,
+        Err(e) => {
+            drop(x);
+            return Err(e);
+        }
+    };
     scope.leave(depth);
     let forms = let_in(alloc, x.forms, body.forms)?;
     Ok(Typed { forms, ty: body.ty })
@@ -226,40 +188,24 @@ fn conditional<'a>(
     ensures scope { OnOk result (scope.new ≡ scope.old) }
 {
     let c = of_type(alloc, environment, scope, c, Ty::Bool)?;
-    let yes = checked(alloc, environment, scope, yes)?;
-    let no = of_type(alloc, environment, scope, no, yes.ty)?;
+    let yes = match checked(alloc, environment, scope, yes) {
+        Ok(yes) => yes,
+        Err(e) => {
+            drop(c);
+            return Err(e);
+        }
+    };
     let ty = yes.ty;
+    let no = match of_type(alloc, environment, scope, no, ty) {
+        Ok(no) => no,
+        Err(e) => {
+            drop(c);
+            drop(yes);
+            return Err(e);
+        }
+    };
     let forms = if_else(alloc, c, yes.forms, no)?;
     Ok(Typed { forms, ty })
-}
-
-/// The first operand of an operator.
-#[cycle(checked)]
-fn first_operand<'a>(
-    alloc: Global,
-    environment: &Environment,
-    scope: &mut Scope<'a>,
-    op: Operator,
-    x: &'a Expr,
-) -> Result<Typed, SpecError>
-    requires declared { IsWellFormed environment.now }
-    requires scope { is_scope environment.now scope.old ≡ true }
-    ensures answer { Agrees result (spec.operand_fault environment.now (operator op) (spec.part environment.now scope.old (expr x.now))) }
-    ensures ty { IfOk result (λ r. spec.type_of environment.now scope.old (expr x.now) ≡ Some r.ty) }
-    ensures term { IfOk result (λ r. term r.forms.term ≡ spec.term_of environment.now scope.old (expr x.now)) }
-    ensures core { IfOk result (λ r. core r.forms.core ≡ cores.core_in environment.now scope.old (expr x.now)) }
-    ensures scope { OnOk result (scope.new ≡ scope.old) }
-{
-    let operand = checked(alloc, environment, scope, x)?;
-    match op {
-        Operator::Both | Operator::Either => {
-            type_fault(alloc, environment, Ty::Bool, span_of(x), operand.ty)?
-        }
-        _ => {
-            let _width = word_width(alloc, environment, span_of(x), operand.ty)?;
-        }
-    }
-    Ok(operand)
 }
 
 /// An operator on two operands.
@@ -280,14 +226,17 @@ fn operands<'a>(
     ensures core { IfOk result (λ r. core r.forms.core ≡ forms.operator_core (operator op) (forms.width_of (spec.type_of environment.now scope.old (expr x.now))) (cores.core_in environment.now scope.old (expr x.now)) (cores.core_in environment.now scope.old (expr y.now))) }
     ensures scope { OnOk result (scope.new ≡ scope.old) }
 {
-    let x = first_operand(alloc, environment, scope, op, x)?;
-    let y = of_type(alloc, environment, scope, y, x.ty)?;
-    let ty = x.ty;
-    let forms = operate(alloc, op, ty, x.forms, y)?;
-    Ok(Typed {
-        forms,
-        ty: result_type(op, ty),
-    })
+    let span = span_of(x);
+    let x = checked(alloc, environment, scope, x)?;
+    let x = operand_part(alloc, environment, op, span, x)?;
+    let y = match of_type(alloc, environment, scope, y, x.ty) {
+        Ok(y) => y,
+        Err(e) => {
+            drop(x);
+            return Err(e);
+        }
+    };
+    Ok(operated(alloc, op, x, y)?)
 }
 
 /// A prefix operator on an operand.
@@ -307,59 +256,9 @@ fn prefix<'a>(
     ensures core { IfOk result (λ r. core r.forms.core ≡ forms.prefix_core op (forms.width_of (spec.type_of environment.now scope.old (expr x.now))) (cores.core_in environment.now scope.old (expr x.now))) }
     ensures scope { OnOk result (scope.new ≡ scope.old) }
 {
-    match op {
-        PreOp::Bang => negated(alloc, environment, scope, x),
-        PreOp::Tilde => on_a_word(alloc, environment, scope, Op1::Not, x),
-        PreOp::Minus => on_a_word(alloc, environment, scope, Op1::Neg, x),
-    }
-}
-
-/// The negation of a truth value.
-#[cycle(checked)]
-fn negated<'a>(
-    alloc: Global,
-    environment: &Environment,
-    scope: &mut Scope<'a>,
-    x: &'a Expr,
-) -> Result<Typed, SpecError>
-    requires declared { IsWellFormed environment.now }
-    requires scope { is_scope environment.now scope.old ≡ true }
-    ensures answer { Agrees result (parts.wanted environment.now Ty.Bool (spec.part environment.now scope.old (expr x.now))) }
-    ensures ty { IfOk result (λ r. Ty.Bool ≡ r.ty) }
-    ensures term { IfOk result (λ r. term r.forms.term ≡ s.if_else (spec.term_of environment.now scope.old (expr x.now)) (s.flag false) (s.flag true)) }
-    ensures core { IfOk result (λ r. core r.forms.core ≡ k.if_else (cores.core_in environment.now scope.old (expr x.now)) (k.flag false) (k.flag true)) }
-    ensures scope { OnOk result (scope.new ≡ scope.old) }
-{
-    let x = of_type(alloc, environment, scope, x, Ty::Bool)?;
-    Ok(Typed {
-        forms: negate(alloc, x)?,
-        ty: Ty::Bool,
-    })
-}
-
-/// An operator on one word.
-#[cycle(checked)]
-fn on_a_word<'a>(
-    alloc: Global,
-    environment: &Environment,
-    scope: &mut Scope<'a>,
-    op: Op1,
-    x: &'a Expr,
-) -> Result<Typed, SpecError>
-    requires declared { IsWellFormed environment.now }
-    requires scope { is_scope environment.now scope.old ≡ true }
-    ensures answer { Agrees result (parts.word_wanted environment.now (spec.part environment.now scope.old (expr x.now))) }
-    ensures ty { IfOk result (λ r. spec.type_of environment.now scope.old (expr x.now) ≡ Some r.ty) }
-    ensures term { IfOk result (λ r. term r.forms.term ≡ s.un op (forms.width_of (spec.type_of environment.now scope.old (expr x.now))) (spec.term_of environment.now scope.old (expr x.now))) }
-    ensures core { IfOk result (λ r. core r.forms.core ≡ k.un op (forms.width_of (spec.type_of environment.now scope.old (expr x.now))) (cores.core_in environment.now scope.old (expr x.now))) }
-    ensures scope { OnOk result (scope.new ≡ scope.old) }
-{
-    let x = a_word(alloc, environment, scope, x)?;
-    let w = x.number;
-    Ok(Typed {
-        forms: unary(alloc, op, w, x.forms)?,
-        ty: Ty::Word(w),
-    })
+    let span = span_of(x);
+    let x = checked(alloc, environment, scope, x)?;
+    prefixed(alloc, environment, op, span, x)
 }
 
 /// A cast.
@@ -382,16 +281,9 @@ fn a_cast<'a>(
     ensures core { IfOk result (λ r. core r.forms.core ≡ k.cast (operators.cast_of op) (forms.width_of (spec.type_of environment.now scope.old (expr x.now))) to.v (cores.core_in environment.now scope.old (expr x.now))) }
     ensures scope { OnOk result (scope.new ≡ scope.old) }
 {
-    let x = a_word(alloc, environment, scope, x)?;
-    let kind = cast_of(op);
-    cast_fault(alloc, kind, x.number, to, span)?;
-    let width = to.v as u32;
-    let from = x.number;
-    let forms = cast(alloc, kind, from, width, x.forms)?;
-    Ok(Typed {
-        forms,
-        ty: Ty::Word(width),
-    })
+    let place = span_of(x);
+    let x = checked(alloc, environment, scope, x)?;
+    casted(alloc, environment, op, place, x, to, span)
 }
 
 /// An access to a map.
@@ -411,15 +303,19 @@ fn got<'a>(
     ensures core { IfOk result (λ r. core r.forms.core ≡ k.get (spec.map_of (spec.type_of environment.now scope.old (expr x.now))) (cores.core_in environment.now scope.old (expr x.now)) (cores.core_in environment.now scope.old (expr key.now))) }
     ensures scope { OnOk result (scope.new ≡ scope.old) }
 {
-    let x = a_map(alloc, environment, scope, x)?;
-    let map = x.number;
-    let want = environment.key_type(map);
-    let key = of_type(alloc, environment, scope, key, want)?;
-    let forms = get(alloc, map, x.forms, key)?;
-    Ok(Typed {
-        forms,
-        ty: environment.value_type(map),
-    })
+    let span = span_of(x);
+    let x = checked(alloc, environment, scope, x)?;
+    let x = map_part(alloc, environment, span, x)?;
+    let key = match of_type(alloc, environment, scope, key, x.key) {
+        Ok(key) => key,
+        Err(e) => {
+            drop(x);
+            return Err(e);
+        }
+    };
+    let ty = x.value;
+    let forms = get(alloc, x.map, x.forms, key)?;
+    Ok(Typed { forms, ty })
 }
 
 /// An update of a map.
@@ -440,22 +336,31 @@ fn changed<'a>(
     ensures core { IfOk result (λ r. core r.forms.core ≡ k.put (spec.map_of (spec.type_of environment.now scope.old (expr x.now))) (cores.core_in environment.now scope.old (expr x.now)) (cores.core_in environment.now scope.old (expr key.now)) (cores.core_in environment.now scope.old (expr v.now))) }
     ensures scope { OnOk result (scope.new ≡ scope.old) }
 {
-    let x = a_map(alloc, environment, scope, x)?;
-    let map = x.number;
-    let want = environment.key_type(map);
-    let key = of_type(alloc, environment, scope, key, want)?;
-    let want = environment.value_type(map);
-    let v = of_type(alloc, environment, scope, v, want)?;
-    let forms = put(alloc, map, x.forms, key, v)?;
-    Ok(Typed {
-        forms,
-        ty: Ty::Map(map),
-    })
+    let span = span_of(x);
+    let x = checked(alloc, environment, scope, x)?;
+    let x = map_part(alloc, environment, span, x)?;
+    let key = match of_type(alloc, environment, scope, key, x.key) {
+        Ok(key) => key,
+        Err(e) => {
+            drop(x);
+            return Err(e);
+        }
+    };
+    let v = match of_type(alloc, environment, scope, v, x.value) {
+        Ok(v) => v,
+        Err(e) => {
+            drop(x);
+            drop(key);
+            return Err(e);
+        }
+    };
+    let ty = Ty::Map(x.map);
+    let forms = put(alloc, x.map, x.forms, key, v)?;
+    Ok(Typed { forms, ty })
 }
 
 /// A call of a function.
 #[cycle(checked)]
-#[tactic(auto, using(crate::proofs::Lists::terms_len_map))]
 fn called<'a>(
     alloc: Global,
     environment: &Environment,
@@ -471,20 +376,16 @@ fn called<'a>(
     ensures core { IfOk result (λ r. core r.forms.core ≡ k.call (spec.number_of (function_named environment.now name.now.text)) (cores.cores_in environment.now scope.old (exprs (map expr args.now)))) }
     ensures scope { OnOk result (scope.new ≡ scope.old) }
 {
-    let Some(f) = environment.function(&name.text) else {
-        return Err(unknown(alloc, name));
-    };
-    count_fault(name, f.signature.params.len(), args.len())?;
-    let args = arguments(alloc, environment, scope, &f.signature.params, args)?;
+    let f = callee_of(alloc, environment, name, count_of(args))?;
+    let args = arguments(alloc, environment, scope, f.params, args)?;
     Ok(Typed {
-        forms: call(number(f.fun)?, args),
-        ty: f.signature.result,
+        forms: call(f.fun, args),
+        ty: f.result,
     })
 }
 
 /// A constructor with its arguments.
 #[cycle(checked)]
-#[tactic(auto, using(crate::proofs::Lists::terms_len_map))]
 fn made<'a>(
     alloc: Global,
     environment: &Environment,
@@ -500,17 +401,11 @@ fn made<'a>(
     ensures core { IfOk result (λ r. core r.forms.core ≡ k.make (spec.datatype_of (constructor_named environment.now name.now.text)) (pattern.case_number (constructor_named environment.now name.now.text)) (cores.cores_in environment.now scope.old (exprs (map expr args.now)))) }
     ensures scope { OnOk result (scope.new ≡ scope.old) }
 {
-    let Some(c) = environment.constructor(&name.text) else {
-        return Err(unknown(alloc, name));
-    };
-    let fields = field_types(alloc, c.fields)?;
-    count_fault(name, fields.len(), args.len())?;
-    let args = arguments(alloc, environment, scope, &fields, args)?;
-    let ty = number(c.ty)?;
-    let case = number(c.case)?;
+    let c = maker_of(alloc, environment, name, count_of(args))?;
+    let args = arguments(alloc, environment, scope, &c.fields, args)?;
     Ok(Typed {
-        forms: make(ty, case, args),
-        ty: Ty::Data(ty),
+        forms: make(c.ty, c.case, args),
+        ty: Ty::Data(c.ty),
     })
 }
 
@@ -560,13 +455,14 @@ fn matched<'a>(
     ensures scope { OnOk result (scope.new ≡ scope.old) }
 {
     let x = checked(alloc, environment, scope, x)?;
-    let arms = all_arms(alloc, environment, scope, x.ty, arms)?;
-    let by = decision(alloc, environment, span, x.ty, &arms.patterns)?;
-    let Some(ty) = arms.ty else {
-        unreachable!();
+    let arms = match all_arms(alloc, environment, scope, x.ty, arms) {
+        Ok(arms) => arms,
+        Err(e) => {
+            drop(x);
+            return Err(e);
+        }
     };
-    let forms = choose(alloc, x.forms, arms, by)?;
-    Ok(Typed { forms, ty })
+    decided(alloc, environment, span, x, arms)
 }
 
 /// The arms of a match on values of a type.
@@ -618,35 +514,12 @@ fn an_arm<'a>(
 {
     let depth = scope.depth();
     let pattern = enter_pattern(alloc, environment, scope, from, &arm.pat)?;
-    let body = arm_body(alloc, environment, scope, want, &arm.body)?;
+    let body = checked(alloc, environment, scope, &arm.body)?;
+    let body = body_part(alloc, environment, want, span_of(&arm.body), body)?;
     scope.leave(depth);
     Ok(Branch {
         pattern,
         body: body.forms,
         ty: body.ty,
     })
-}
-
-/// A part of which a type may be wanted.
-#[cycle(checked)]
-fn arm_body<'a>(
-    alloc: Global,
-    environment: &Environment,
-    scope: &mut Scope<'a>,
-    want: Option<Ty>,
-    e: &'a Expr,
-) -> Result<Typed, SpecError>
-    requires declared { IsWellFormed environment.now }
-    requires scope { is_scope environment.now scope.old ≡ true }
-    ensures answer { Agrees result (parts.wanted_if environment.now want (spec.part environment.now scope.old (expr e.now))) }
-    ensures ty { IfOk result (λ r. spec.type_of environment.now scope.old (expr e.now) ≡ Some r.ty) }
-    ensures term { IfOk result (λ r. term r.forms.term ≡ spec.term_of environment.now scope.old (expr e.now)) }
-    ensures core { IfOk result (λ r. core r.forms.core ≡ cores.core_in environment.now scope.old (expr e.now)) }
-    ensures scope { OnOk result (scope.new ≡ scope.old) }
-{
-    let x = checked(alloc, environment, scope, e)?;
-    if let Some(want) = want {
-        type_fault(alloc, environment, want, span_of(e), x.ty)?;
-    }
-    Ok(x)
 }

@@ -1,4 +1,4 @@
-use Rattle.std.proofs.Common.{◌≡◌, ◌∙◌, ◌+◌, List, get_or, [], ◌∷◌, ◌++◌, length, map, drop, append_assoc, arith, rules, refl, sym, ap, None, Some, true}
+use Rattle.std.proofs.Common.{◌≡◌, ◌∙◌, ◌+◌, get_or, [], ◌∷◌, ◌++◌, length, map, drop, append_assoc, arith, rules, sym, ap, None, Some, true}
 use Rattle.std.proofs.lemmas.List.{map-append, length-append, length-map}
 use Rattle.tsl_parser.specs.Tree.{arms as arm_trees, terms as exprs}
 use Rattle.tsl_parser.specs.View.{arm as arm_tree, term as expr}
@@ -10,11 +10,11 @@ use Rattle.spec_types.specs.Views.{core, term}
 use Rattle.spec_types.specs.WellFormed.{is_scope, is_type}
 use Rattle.spec_patterns.specs.Patterns.{pattern_of, variables}
 use Rattle.spec_typing.specs.Cores.{core_in}
-use Rattle.spec_typing.specs.Parts.{match_fault, wanted}
-use Rattle.spec_typing.specs.Terms.{argument_faults, arm_fault, arms_fault, arms_type, rows_of, terms_of, term_of, type_of, part}
+use Rattle.spec_typing.specs.Parts.{wanted}
+use Rattle.spec_typing.specs.Terms.{argument_faults, arm_fault, arms_fault, arms_type, rows_of, term_of, type_of, part}
 use Rattle.spec_terms.proofs.Lists.{arms_onto_more, cores_onto_more, drop_here, drop_from, or_else_some, terms_onto_more, zip_more}
 use Rattle.spec_typing.proofs.Rows.{AllSuit, rows_suit, suit_all}
-use Rattle.spec_typing.proofs.Types.{no_arms, no_empty_match, type_fits}
+use Rattle.spec_typing.proofs.Types.{no_arms, type_fits}
 use Rattle.spec_terms.proofs.terms.+checked.Goals as goal
 
 pub arguments-loop-i-preserved : goal.arguments-loop-i-preserved
@@ -48,30 +48,29 @@ matched-all_arms-requires t c =
     type_fits c.args.environment.now c.requires.declared c.args.scope.now (expr c.args.x.now) c.in_ok-x.x.ty c.requires.scope c.in_ok-x.ensures.answer c.in_ok-x.ensures.ty in
     (omega (arith, c.decreases), (c.requires.declared, (rw c.in_ok-x.ensures.scope c.requires.scope, fits)))
 
-pub matched-decision-requires-clause-ty : goal.matched-decision-requires-clause-ty
-matched-decision-requires-clause-ty t c =
+pub matched-decided-requires-clause-ty : goal.matched-decided-requires-clause-ty
+matched-decided-requires-clause-ty t c =
     type_fits c.args.environment.now c.requires.declared c.args.scope.now (expr c.args.x.now) c.in_ok-x.x.ty c.requires.scope c.in_ok-x.ensures.answer c.in_ok-x.ensures.ty
 
-pub matched-decision-requires-clause-patterns : goal.matched-decision-requires-clause-patterns
-matched-decision-requires-clause-patterns t c =
+pub matched-decided-requires-clause-patterns : goal.matched-decided-requires-clause-patterns
+matched-decided-requires-clause-patterns t c =
     let env = c.args.environment.now in
     let ty = c.in_ok-x.x.ty in
-    let rows : AllSuit (shapes_of env) (shape_of ty) (map pat c.deref.result.now) =
-    rw (c.deref.ensures.value, c.in_ok-arms.ensures.patterns) (rows_suit env c.checked.new.scope ty (arm_trees (map arm_tree c.args.arms.now)) None c.in_ok-arms.ensures.answer) in
-    suit_all (shapes_of env) (shape_of ty) c.deref.result.now rows
+    let rows : AllSuit (shapes_of env) (shape_of ty) (map pat c.in-Ok.arms.patterns.items) =
+    rw c.in-Ok.ensures.patterns (rows_suit env c.checked.new.scope ty (arm_trees (map arm_tree c.args.arms.now)) None c.in-Ok.ensures.answer) in
+    suit_all (shapes_of env) (shape_of ty) c.in-Ok.arms.patterns.items rows
 
-pub matched-unreachable-requires : goal.matched-unreachable-requires
-matched-unreachable-requires t c =
+pub matched-decided-requires-clause-none : goal.matched-decided-requires-clause-none
+matched-decided-requires-clause-none t c = λ q.
     let env = c.args.environment.now in
     let ty = c.in_ok-x.x.ty in
     let trees = arm_trees (map arm_tree c.args.arms.now) in
     let fits : is_type env ty ≡ true =
     type_fits env c.requires.declared c.args.scope.now (expr c.args.x.now) ty c.requires.scope c.in_ok-x.ensures.answer c.in_ok-x.ensures.ty in
     let s : is_scope env c.checked.new.scope ≡ true = rw c.in_ok-x.ensures.scope c.requires.scope in
-    let none : arms_type env c.checked.new.scope ty trees ≡ None = sym c.in_ok-arms.ensures.ty ∙ c.in_default.is in
-    let empty : rows_of env c.checked.new.scope ty trees ≡ [] = no_arms env c.requires.declared c.checked.new.scope ty trees s fits c.in_ok-arms.ensures.answer none in
-    let nothing : map pat c.deref.result.now ≡ [] = ap (map pat) c.deref.ensures.value ∙ c.in_ok-arms.ensures.patterns ∙ empty in
-    no_empty_match env c.args.span ty (rw nothing at c.in_ok-by.ensures.answer)
+    let none : arms_type env c.checked.new.scope ty trees ≡ None = sym c.in-Ok.ensures.ty ∙ q in
+    let empty : rows_of env c.checked.new.scope ty trees ≡ [] = no_arms env c.requires.declared c.checked.new.scope ty trees s fits c.in-Ok.ensures.answer none in
+    c.in-Ok.ensures.patterns ∙ empty
 
 pub all_arms-loop-i-preserved : goal.all_arms-loop-i-preserved
 all_arms-loop-i-preserved t c =

@@ -20,18 +20,6 @@ decreases-checked l = 6 * size-Expr l.e.now
 abbrev pub decreases-of_type : goal.decreases-of_type
 decreases-of_type l = 6 * size-Expr l.e.now + 1
 
-abbrev pub decreases-a_word : goal.decreases-a_word
-decreases-a_word l = 6 * size-Expr l.e.now + 1
-
-abbrev pub decreases-a_map : goal.decreases-a_map
-decreases-a_map l = 6 * size-Expr l.e.now + 1
-
-abbrev pub decreases-arm_body : goal.decreases-arm_body
-decreases-arm_body l = 6 * size-Expr l.e.now + 1
-
-abbrev pub decreases-first_operand : goal.decreases-first_operand
-decreases-first_operand l = 6 * size-Expr l.x.now + 1
-
 abbrev pub decreases-bound : goal.decreases-bound
 decreases-bound l = 6 * max (size-Expr l.x.now) (size-Expr l.body.now) + 3
 
@@ -43,12 +31,6 @@ decreases-operands l = 6 * max (size-Expr l.x.now) (size-Expr l.y.now) + 3
 
 abbrev pub decreases-prefix : goal.decreases-prefix
 decreases-prefix l = 6 * size-Expr l.x.now + 3
-
-abbrev pub decreases-negated : goal.decreases-negated
-decreases-negated l = 6 * size-Expr l.x.now + 2
-
-abbrev pub decreases-on_a_word : goal.decreases-on_a_word
-decreases-on_a_word l = 6 * size-Expr l.x.now + 2
 
 abbrev pub decreases-a_cast : goal.decreases-a_cast
 decreases-a_cast l = 6 * size-Expr l.x.now + 3
