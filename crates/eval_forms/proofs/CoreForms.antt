@@ -11,7 +11,7 @@ use Rattle.spec_types.specs.Views.{core, core_step}
 use Rattle.spec_types.specs.declared.term.CastKind.{CastKind}
 use Rattle.spec_types.specs.declared.core_term.Core.{Core as Body, fold-roll-Core}
 use Rattle.spec_types.specs.declared.core_term.Core.TheOpen.{Core-F}
-use Rattle.spec_types.specs.declared.core_term.Core.TheVariants.{Bin, Call, Cast, Choose, If, Let, Make, Put, Un, Var, Word, rolls-Bin, rolls-Call, rolls-Cast, rolls-Choose, rolls-If, rolls-Let, rolls-Make, rolls-Put, rolls-Un, rolls-Var, rolls-Word}
+use Rattle.spec_types.specs.declared.core_term.Core.TheVariants.{Bin, Cast, Choose, If, Let, Make, Put, Un, Var, Word, rolls-Bin, rolls-Cast, rolls-Choose, rolls-If, rolls-Let, rolls-Make, rolls-Put, rolls-Un, rolls-Var, rolls-Word}
 
 pub core_Var : (n : ℕ) → core (Var n) ≡ form.var n
 core_Var n = ap core (sym (rolls-Var n)) ∙ fold-roll-Core form.Core core_step (Core-F.Var n)
@@ -39,9 +39,6 @@ core_Choose x by arms = ap core (sym (rolls-Choose x by arms)) ∙ fold-roll-Cor
 
 pub core_Make : (ty case : ℕ) (args : Vec Body Global) → core (Make ty case args) ≡ form.make ty case (cores (map core args.items))
 core_Make ty case args = ap core (sym (rolls-Make ty case args)) ∙ fold-roll-Core form.Core core_step (Core-F.Make ty case args)
-
-pub core_Call : (f : ℕ) (args : Vec Body Global) → core (Call f args) ≡ form.call f (cores (map core args.items))
-core_Call f args = ap core (sym (rolls-Call f args)) ∙ fold-roll-Core form.Core core_step (Core-F.Call f args)
 
 pub core_Put : (number : ℕ) (x key v : Box Body Global) → core (Put number x key v) ≡ form.put number (core x.value) (core key.value) (core v.value)
 core_Put number x key v = ap core (sym (rolls-Put number x key v)) ∙ fold-roll-Core form.Core core_step (Core-F.Put number x key v)

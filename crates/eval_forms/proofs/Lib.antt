@@ -1,7 +1,6 @@
 pub mod Calling
 pub mod CoreForms
 pub mod Followers
-pub mod Following
 pub mod OperandsFit
 pub mod Parts
 pub mod Planned

@@ -1,6 +1,7 @@
 //! What follows a form whose parts have values.
 
-ghost use Rattle.std.specs.Prelude.{◌≡◌, ◌++◌, [], ◌<◌, length, map, option_map, All, IfOk, IfSome};
+ghost use Rattle.std.specs.Prelude.{◌≡◌, ◌<◌, length, map, option_map, All, IfOk, IfSome};
+ghost use Rattle.base_trait.specs.Lists.{IsGrown};
 ghost use Rattle.base_trait.specs.Uses.{uses_of};
 ghost use Rattle.tsl_match.specs.Views.{tree};
 ghost use Rattle.spec_types.specs.CoreTerms as form;
@@ -30,6 +31,7 @@ use tsl_match::Decision;
 /// Which branches of a form are evaluated.
 #[derive(Drop)]
 pub enum Plan<B: Base> {
+    /// None: there is no value.
     Nothing,
     /// A branch by its number, with the values of more variables.
     Arm(u32, Vec<AV<B>>),
@@ -40,12 +42,16 @@ pub enum Plan<B: Base> {
 /// What follows a form whose parts have values.
 #[derive(Drop)]
 pub enum Next<B: Base> {
+    /// What the form gives.
     Given(Given<B>),
+    /// The value of a call of a function, by its number, on these arguments.
     Calls(u32, Vec<AV<B>>),
+    /// What these branches give.
     Goes(Plan<B>),
 }
 
-/// What follows a form whose parts have the values `done`.
+/// What follows a form whose parts have the values `done`. A read is added to the log; where memory runs out, a front of it may have
+/// been added.
 pub fn follow<B: Base, K: Known<B>>(
     alloc: Global,
     setting: &Setting<B>,
@@ -62,6 +68,7 @@ pub fn follow<B: Base, K: Known<B>>(
     requires done { All (λ v. Fits B.algebra setting.now.ctx.now B.CAP (abs v)) done.items }
     ensures value { IfOk result (λ r. of.follow B.algebra B.CAP (K.calls setting.now.ctx.now) setting.now group tail (map abs env.now) (core t.now) (map abs done.items) (uses_of log.old) ≡ gives (option_map following r) (uses_of log.new)) }
     ensures is { IfOk result (λ r. IfSome r (λ n. IsNext B.algebra B.CAP setting.now K.rank group (core t.now) (following n))) }
+    ensures grown { IsGrown (uses_of log.old) (uses_of log.new) }
 {
     match t {
         Core::Let { x: _x, then: _then } => Ok(Some(Next::Goes(Plan::Arm(0, done)))),

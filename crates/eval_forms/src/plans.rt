@@ -1,6 +1,6 @@
 //! Plans of the branches that conditions and decisions may take.
 
-ghost use Rattle.std.specs.Prelude.{◌≡◌, [], map, option_map, IfOk};
+ghost use Rattle.std.specs.Prelude.{◌≡◌, [], ◌∷◌, map, IfOk};
 ghost use Rattle.tsl_match.specs.Decisions.{trees};
 ghost use Rattle.tsl_match.specs.Views.{bound, tree};
 ghost use Rattle.value_laws.specs.Abs.{cases};
@@ -123,10 +123,29 @@ fn present_plan<B: Base>(
 {
     let mut plan = Plan::Nothing;
     for i in 0..arms.len().min(present.len()) {
-        if present[i].is_some() {
-            let arm = planned(alloc, ctx, x, &arms[i])?;
-            plan = both(alloc, plan, arm)?;
-        }
+        plan = with_arm(alloc, ctx, x, plan, &present[i], &arms[i])?;
     }
     Ok(plan)
+}
+
+/// A plan and then the decision of a constructor, where this is present.
+#[cycle(planned)]
+fn with_arm<B: Base>(
+    alloc: Global,
+    ctx: &B::Ctx,
+    x: &AV<B>,
+    first: Plan<B>,
+    case: &Option<Vec<AV<B>>>,
+    arm: &Decision,
+) -> Result<Plan<B>, NoMemory>
+    requires fits { Fits B.algebra ctx.now B.CAP (abs x.now) }
+    ensures { IfOk result (λ r. plan r ≡ of.present_plan B.algebra ctx.now (abs x.now) (plan first) (trees (tree arm.now ∷ [])) (cases (case_of case.now ∷ []))) }
+{
+    match case {
+        Some(_fields) => {
+            let second = planned(alloc, ctx, x, arm)?;
+            both(alloc, first, second)
+        }
+        None => Ok(first),
+    }
 }

@@ -1,6 +1,7 @@
 //! The values of forms that compute them from the values of their parts.
 
 ghost use Rattle.std.specs.Prelude.{◌≡◌, map, option_and_then, option_map, All, IfOk, IfSome};
+ghost use Rattle.base_trait.specs.Lists.{IsGrown};
 ghost use Rattle.base_trait.specs.Uses.{uses_of};
 ghost use Rattle.spec_types.specs.Views.{core};
 ghost use Rattle.value_laws.specs.Fits.{Fits};
@@ -63,26 +64,11 @@ pub(crate) fn value_on<B: Base>(
             key: _key,
             v: _v,
         } => updated_on(alloc, setting, *map, done),
-        Core::Let { x: _x, then: _then } => Ok(None),
-        Core::If {
-            c: _c,
-            yes: _yes,
-            no: _no,
-        } => Ok(None),
-        Core::Choose {
-            x: _x,
-            by: _by,
-            arms: _arms,
-        } => Ok(None),
-        Core::Call {
-            fun: _fun,
-            args: _args,
-        } => Ok(None),
-        Core::Get {
-            map: _map,
-            x: _x,
-            key: _key,
-        } => Ok(None),
+        Core::Let { .. }
+        | Core::If { .. }
+        | Core::Choose { .. }
+        | Core::Call { .. }
+        | Core::Get { .. } => Ok(None),
     }
 }
 
@@ -181,6 +167,7 @@ pub(crate) fn read_on<B: Base>(
     requires done { All (λ v. Fits B.algebra setting.now.ctx.now B.CAP (abs v)) done.now }
     ensures value { IfOk result (λ r. of.read_on B.algebra B.CAP setting.now number (operands.two (map abs done.now)) (uses_of log.old) ≡ gives (option_map abs r) (uses_of log.new)) }
     ensures fits { IfOk result (λ r. IfSome r (λ v. Fits B.algebra setting.now.ctx.now B.CAP (abs v))) }
+    ensures grown { IsGrown (uses_of log.old) (uses_of log.new) }
 {
     match two(done) {
         Some((x, key)) => accessed(alloc, setting.ctx, number, x, key, log),

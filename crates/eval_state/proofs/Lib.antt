@@ -1,6 +1,8 @@
 pub mod Answering
 pub mod Arguments
 pub mod Going
+pub mod Growth
+pub mod Holding
 pub mod Items
 pub mod JoinedYields
 pub mod Memoing

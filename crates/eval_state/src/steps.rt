@@ -1,6 +1,7 @@
 //! Steps of an evaluation that evaluate nothing.
 
 ghost use Rattle.std.specs.Prelude.{◌≡◌, ◌++◌, ◌<◌, Some, None, true, length, map, option_map, slice_get, IfOk, IfSome, OnErr, OnOk};
+ghost use Rattle.base_trait.specs.Lists.{IsGrown};
 ghost use Rattle.base_trait.specs.Uses.{uses_of};
 ghost use Rattle.spec_types.specs.Views.{core, specification};
 ghost use Rattle.tsl_values.specs.Types.{environment_of};
@@ -11,7 +12,7 @@ ghost use Rattle.abs_value.specs.View.{abs};
 ghost use Rattle.recursion_fix.specs.Answer.{gives};
 ghost use Rattle.reinterpretation.specs.Answers.{behind};
 ghost use Rattle.reinterpretation.specs.Terms.{params_of};
-ghost use Rattle.eval_state.specs.Memos.{AreTrue, IsNew, Keeps, Stands, called, entries, remembered};
+ghost use Rattle.eval_state.specs.Memos.{AreTrue, Holds, IsNew, Keeps, Stands, called, entries, remembered};
 ghost use Rattle.eval_state.specs.Ready.{IsReady};
 ghost use Rattle.eval_state.specs.Settings.{spec_of};
 
@@ -92,9 +93,10 @@ fn copy_stamps(alloc: Global, stamps: &[Stamped]) -> Result<Vec<Stamped>, NoMemo
     Ok(out)
 }
 
-/// Adds the reads of another log.
+/// Adds the reads of another log. Where memory runs out a front of them may have been added.
 fn append(alloc: Global, log: &mut Log, more: &Log) -> Result<(), NoMemory>
-    ensures { OnOk result (uses_of log.new ≡ uses_of log.old ++ uses_of more.now) }
+    ensures value { OnOk result (uses_of log.new ≡ uses_of log.old ++ uses_of more.now) }
+    ensures grown { IsGrown (uses_of log.old) (uses_of log.new) }
 {
     for read in &more.uses {
         let from = copy_stamps(alloc, &read.from)?;
@@ -134,6 +136,8 @@ pub fn recalled<B: Base, K: Known<B>>(
     ensures new { IfOk result (λ r. r ≡ None → uses_of log.new ≡ uses_of log.old) }
     ensures unknown { IfOk result (λ r. r ≡ None → IsNew fun (map abs args.now) (entries memo.now)) }
     ensures typed { IfOk result (λ r. r ≡ None → types.have_types (environment_of (spec_of setting.now)) (parts (map abs args.now)) (params_of (spec_of setting.now) fun) ≡ true) }
+    ensures held { IfOk result (λ r. IfSome r (λ _. types.have_types (environment_of (spec_of setting.now)) (parts (map abs args.now)) (params_of (spec_of setting.now) fun) ≡ true → Holds fun (map abs args.now) (entries memo.now))) }
+    ensures grown { IsGrown (uses_of log.old) (uses_of log.new) }
 {
     if !are_arguments(setting.spec, fun, args) {
         return Ok(Some(None));
@@ -164,6 +168,7 @@ pub fn recorded<B: Base, K: Known<B>, L: Ledger>(
     requires value { K.calls setting.now.ctx.now fun (map abs args.items) ≡ gives (option_map abs value) (uses_of own) }
     ensures value { IfOk result (λ r. option_map abs r ≡ option_map abs value) }
     ensures log { OnOk result (uses_of log.new ≡ uses_of log.old ++ uses_of own) }
+    ensures grown { IsGrown (uses_of log.old) (uses_of log.new) }
     ensures memo { Stands (K.calls setting.now.ctx.now) K.before K.ticked (entries memo.new) steps.new }
     ensures kept { OnOk result (Keeps (entries memo.old) (called fun (map abs args.items) (option_map abs value) (uses_of own)) (entries memo.new)) }
     ensures unchanged { OnErr result (entries memo.new ≡ entries memo.old) }

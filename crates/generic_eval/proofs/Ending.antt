@@ -1,6 +1,6 @@
 -- How functions of the evaluator end.
-use Rattle.std.proofs.Common.{◌≡◌, ◌∙◌, ◌<◌, ℕ, Bool, true, false, List, [], ◌∷◌, map, length, Option, Some, None, Result, Err, option_map, refl, sym, ap, subst}
-use Rattle.std.specs.Prelude.{All, IfSome}
+use Rattle.std.proofs.Common.{◌≡◌, ◌∙◌, ◌<◌, ℕ, Bool, true, false, List, [], ◌∷◌, map, length, Option, Some, None, Result, Ok, Err, option_map, refl, sym, ap, subst}
+use Rattle.std.specs.Prelude.{All, IfOk, IfSome}
 use Rattle.std.proofs.lemmas.List.Elements.{All-nil, All-cons, All-head, All-tail}
 use Rattle.base_trait.specs.Algebra.{Algebra}
 use Rattle.base_trait.specs.Uses.{Seen}
@@ -11,18 +11,20 @@ use Rattle.value_laws.specs.Abs.{Abs, parts as parts_of}
 use Rattle.value_laws.specs.Fits.{Fits, PartsFit}
 use Rattle.value_types.specs.Types.{have_types}
 use Rattle.recursion_fix.specs.Answer.{IfGives, Yield, fails, gives, out_of}
+use Rattle.abs_value.specs.View.{abs}
 use Rattle.abs_value.specs.declared.value.AV.{AV}
-use Rattle.reinterpretation.specs.Answers.{Answer, ◌>>=◌}
+use Rattle.reinterpretation.specs.Answers.{Answer, behind, ◌>>=◌}
 use Rattle.reinterpretation.specs.Calls.{AreArguments}
 use Rattle.reinterpretation.specs.Terms.{GroupArgs, params_of}
 use Rattle.eval_state.specs.declared.error.EvalError.{EvalError}
+use Rattle.eval_state.specs.declared.error.EvalError.TheVariants as e
 use Rattle.eval_state.specs.declared.setting.Setting.{Setting}
 use Rattle.eval_forms.specs.Forms.{parts}
 use Rattle.eval_state.specs.Given.{Gives}
-use Rattle.eval_state.specs.Memos.{Remembered, Stands}
+use Rattle.eval_state.specs.Memos.{Holds, Remembered, Stands}
 use Rattle.eval_forms.specs.Plans.{Next, follow, given_next}
 use Rattle.eval_state.specs.Ready.{IsReady, YieldFits}
-use Rattle.generic_eval.specs.Runs.{Runs}
+use Rattle.generic_eval.specs.Runs.{HaveGrown, Runs, RunsCall}
 use Rattle.eval_state.specs.Settings.{given_of, spec_of, values_of}
 use Rattle.eval_state.proofs.Answering.{passed}
 use Rattle.generic_eval.proofs.Following.{followed}
@@ -54,10 +56,27 @@ module _ {X W N C : Type 0} (B : Algebra W N C) (cap : ℕ) (s : Setting X W N C
 
   module _ (before ticked : ℕ) where
     -- an error that is passed on
-    pub failed : {V A U D : Type 0} (view : V → A) (P : V → Type 0) (other : U → D) (er : EvalError) (r : Result (Option V) EvalError) (log m : List Seen) (answer : Answer A) (later : Answer D) (old new : List (AV X W N C)) (es : List (Remembered W N)) (steps : ℕ)
-        → r ≡ Err er → Gives other (Err er) m later → ((i : ℕ) → later ≡ fails i → answer ≡ fails i) → Stands on before ticked es steps → Runs B cap s spec rank on before ticked view P r log answer old new es steps
-    failed view P other er r log m answer later old new es steps is h k stands =
-        subst (λ r. Runs B cap s spec rank on before ticked view P r log answer old new es steps) (sym is) (record { value = passed other view er m log later answer h k; fits = tt; env = tt; memo = stands })
+    pub failed : {V A U D : Type 0} (view : V → A) (P : V → Type 0) (other : U → D) (er : EvalError) (r : Result (Option V) EvalError) (l log m : List Seen) (answer : Answer A) (later : Answer D) (old new : List (AV X W N C)) (es entries : List (Remembered W N)) (steps : ℕ)
+        → r ≡ Err er → Gives other (Err er) m later → ((i : ℕ) → later ≡ fails i → answer ≡ fails i) → Stands on before ticked entries steps → HaveGrown l log es entries
+        → Runs B cap s spec rank on before ticked view P r l log answer old new es entries steps
+    failed view P other er r l log m answer later old new es entries steps is h k stands grown =
+        subst (λ r. Runs B cap s spec rank on before ticked view P r l log answer old new es entries steps) (sym is) (record { value = passed other view er m log later answer h k; fits = tt; env = tt; memo = stands; grown = grown })
+
+    -- memory has run out
+    pub no_memory : {V A : Type 0} (view : V → A) (P : V → Type 0) (r : Result (Option V) EvalError) (l log : List Seen) (answer : Answer A) (old new : List (AV X W N C)) (es entries : List (Remembered W N)) (steps : ℕ)
+        → r ≡ Err e.NoMemory → Stands on before ticked entries steps → HaveGrown l log es entries → Runs B cap s spec rank on before ticked view P r l log answer old new es entries steps
+    no_memory view P r l log answer old new es entries steps is stands grown =
+        subst (λ r. Runs B cap s spec rank on before ticked view P r l log answer old new es entries steps) (sym is) (record { value = tt; fits = tt; env = tt; memo = stands; grown = grown })
+
+    -- a call that ends by an error
+    pub call_failed : (f : ℕ) (args : List (Abs W N)) (er : EvalError) (r : Result (Option (AV X W N C)) EvalError) (l log : List Seen) (es entries : List (Remembered W N)) (steps : ℕ)
+        → r ≡ Err er → Runs B cap s spec rank on before ticked abs (λ v. Fits B s.ctx.now cap (abs v)) r l log (behind l (on f args)) [] [] es entries steps → (Holds f args es → entries ≡ es)
+        → RunsCall B cap s spec rank on before ticked f args r l log es entries steps
+    call_failed f args er r l log es entries steps is runs known = record { runs = runs; held = none r is; known = known }
+      where
+        none : (r : Result (Option (AV X W N C)) EvalError) → r ≡ Err er → IfOk r (λ _. have_types (environment_of (spec_of s)) (parts_of args) (params_of (spec_of s) f) ≡ true → Holds f args entries)
+        none (Ok v) e = absurd cc
+        none (Err x) e = tt
 
   -- ---- a term, once its parts have values
   module _ (g : ℕ) (tail : Bool) (env : List (Abs W N)) (t : Core) (l : List Seen) where

@@ -1,7 +1,7 @@
 pub mod Ending
 pub mod Following
+pub mod Growing
 pub mod Parting
-pub mod Planned
 pub mod Planning
 pub mod Starting
 pub mod Tailed

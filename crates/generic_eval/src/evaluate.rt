@@ -5,14 +5,13 @@ ghost use Rattle.base_trait.specs.Uses.{uses_of};
 ghost use Rattle.spec_types.specs.Views.{core};
 ghost use Rattle.value_laws.specs.Fits.{Fits};
 ghost use Rattle.abs_value.specs.View.{abs};
-ghost use Rattle.reinterpretation.specs.Answers.{behind};
 ghost use Rattle.reinterpretation.specs.Calls.{AreArguments};
 ghost use Rattle.eval_state.specs.Memos.{entries};
 ghost use Rattle.eval_forms.specs.Forms.{branches, parts};
 ghost use Rattle.eval_state.specs.Order.{AllInOrder, InOrder};
 ghost use Rattle.eval_forms.specs.Plans.{given_plan};
 ghost use Rattle.eval_state.specs.Ready.{AreGroupArgs, ArgsOf, YieldFits};
-ghost use Rattle.generic_eval.specs.Runs.{MayRun, Runs};
+ghost use Rattle.generic_eval.specs.Runs.{MayRun, Runs, RunsCall};
 ghost use Rattle.eval_state.specs.Settings as of;
 ghost use Rattle.eval_state.specs.Settings.{group_of, spec_of};
 ghost use Rattle.eval_state.specs.Views.{all_abs, yield};
@@ -31,11 +30,13 @@ use std::alloc::Global;
 use std::sync::ledger::Ledger;
 use step_counter::Steps;
 
-/// What a term of a function of a group gives to a turn, in tail position or not. Outside of it each value is a leaf.
+/// What a term of a function of a group gives to a turn, in tail position or not. Outside of it each value is a leaf. Where no room is
+/// left to nest a term or a plan in those that are underway, memory has run out.
 #[cycle(eval)]
 fn term<B: Base, K: Known<B>, L: Ledger>(
     alloc: Global,
     setting: &Setting<B>,
+    room: u32,
     group: u32,
     tail: bool,
     env: &mut Vec<AV<B>>,
@@ -46,20 +47,27 @@ fn term<B: Base, K: Known<B>, L: Ledger>(
 ) -> Result<Option<Given<B>>, EvalError>
     requires known { MayRun B.algebra B.CAP setting.now K.spec K.rank (K.calls setting.now.ctx.now) K.before K.ticked env.old.items (entries memo.old) steps.old }
     requires order { InOrder (length (spec_of setting.now).funs) (group_of setting.now) K.rank group tail (core t.now) }
-    ensures { Runs B.algebra B.CAP setting.now K.spec K.rank (K.calls setting.now.ctx.now) K.before K.ticked yield (λ y. YieldFits B.algebra B.CAP setting.now group (yield y)) result (uses_of log.new) (of.given_of B.algebra B.CAP (K.calls setting.now.ctx.now) setting.now group tail (map abs env.old.items) (core t.now) (uses_of log.old)) env.old.items env.new.items (entries memo.new) steps.new }
+    ensures { Runs B.algebra B.CAP setting.now K.spec K.rank (K.calls setting.now.ctx.now) K.before K.ticked yield (λ y. YieldFits B.algebra B.CAP setting.now group (yield y)) result (uses_of log.old) (uses_of log.new) (of.given_of B.algebra B.CAP (K.calls setting.now.ctx.now) setting.now group tail (map abs env.old.items) (core t.now) (uses_of log.old)) env.old.items env.new.items (entries memo.old) (entries memo.new) steps.new }
 {
-    let Some(done) = values::<B, K, L>(alloc, setting, group, env, t, memo, steps, log)? else {
+    if room == 0 {
+        return Err(EvalError::NoMemory);
+    }
+    let room = room - 1;
+    let Some(done) = values::<B, K, L>(alloc, setting, room, group, env, t, memo, steps, log)?
+    else {
         return Ok(None);
     };
     match follow::<B, K>(alloc, setting, group, tail, env, t, done, log)? {
         None => Ok(None),
         Some(Next::Given(given)) => Ok(Some(given)),
         Some(Next::Calls(fun, args)) => {
-            let v = call::<B, K, L>(alloc, setting, fun, args, memo, steps, log)?;
+            let v = call::<B, K, L>(alloc, setting, room, fun, args, memo, steps, log)?;
             Ok(leaf(setting, group, v))
         }
         Some(Next::Goes(plan)) => {
-            go::<B, K, L>(alloc, setting, group, tail, env, t, plan, memo, steps, log)
+            go::<B, K, L>(
+                alloc, setting, room, group, tail, env, t, plan, memo, steps, log,
+            )
         }
     }
 }
@@ -69,6 +77,7 @@ fn term<B: Base, K: Known<B>, L: Ledger>(
 fn values<B: Base, K: Known<B>, L: Ledger>(
     alloc: Global,
     setting: &Setting<B>,
+    room: u32,
     group: u32,
     env: &mut Vec<AV<B>>,
     t: &Core,
@@ -78,14 +87,14 @@ fn values<B: Base, K: Known<B>, L: Ledger>(
 ) -> Result<Option<Vec<AV<B>>>, EvalError>
     requires known { MayRun B.algebra B.CAP setting.now K.spec K.rank (K.calls setting.now.ctx.now) K.before K.ticked env.old.items (entries memo.old) steps.old }
     requires order { AllInOrder (length (spec_of setting.now).funs) (group_of setting.now) K.rank group false (parts (core t.now)) }
-    ensures { Runs B.algebra B.CAP setting.now K.spec K.rank (K.calls setting.now.ctx.now) K.before K.ticked all_abs (λ vs. All (λ v. Fits B.algebra setting.now.ctx.now B.CAP (abs v)) vs.items) result (uses_of log.new) (of.values_of B.algebra B.CAP (K.calls setting.now.ctx.now) setting.now (map abs env.old.items) (parts (core t.now)) (uses_of log.old)) env.old.items env.new.items (entries memo.new) steps.new }
+    ensures { Runs B.algebra B.CAP setting.now K.spec K.rank (K.calls setting.now.ctx.now) K.before K.ticked all_abs (λ vs. All (λ v. Fits B.algebra setting.now.ctx.now B.CAP (abs v)) vs.items) result (uses_of log.old) (uses_of log.new) (of.values_of B.algebra B.CAP (K.calls setting.now.ctx.now) setting.now (map abs env.old.items) (parts (core t.now)) (uses_of log.old)) env.old.items env.new.items (entries memo.old) (entries memo.new) steps.new }
 {
     let mut out = Vec::new(alloc);
     loop {
         let Some(x) = part(t, out.len()) else {
             return Ok(Some(out));
         };
-        let given = term::<B, K, L>(alloc, setting, group, false, env, x, memo, steps, log)?;
+        let given = term::<B, K, L>(alloc, setting, room, group, false, env, x, memo, steps, log)?;
         let Some(v) = value_in(given) else {
             return Ok(None);
         };
@@ -98,6 +107,7 @@ fn values<B: Base, K: Known<B>, L: Ledger>(
 fn go<B: Base, K: Known<B>, L: Ledger>(
     alloc: Global,
     setting: &Setting<B>,
+    room: u32,
     group: u32,
     tail: bool,
     env: &mut Vec<AV<B>>,
@@ -110,8 +120,12 @@ fn go<B: Base, K: Known<B>, L: Ledger>(
     requires known { MayRun B.algebra B.CAP setting.now K.spec K.rank (K.calls setting.now.ctx.now) K.before K.ticked env.old.items (entries memo.old) steps.old }
     requires order { AllInOrder (length (spec_of setting.now).funs) (group_of setting.now) K.rank group tail (branches (core t.now)) }
     requires plan { PlanFits B.algebra B.CAP setting.now (plan_of plan) }
-    ensures { Runs B.algebra B.CAP setting.now K.spec K.rank (K.calls setting.now.ctx.now) K.before K.ticked yield (λ y. YieldFits B.algebra B.CAP setting.now group (yield y)) result (uses_of log.new) (given_plan B.algebra B.CAP (K.calls setting.now.ctx.now) setting.now group tail (map abs env.old.items) (branches (core t.now)) (plan_of plan) (uses_of log.old)) env.old.items env.new.items (entries memo.new) steps.new }
+    ensures { Runs B.algebra B.CAP setting.now K.spec K.rank (K.calls setting.now.ctx.now) K.before K.ticked yield (λ y. YieldFits B.algebra B.CAP setting.now group (yield y)) result (uses_of log.old) (uses_of log.new) (given_plan B.algebra B.CAP (K.calls setting.now.ctx.now) setting.now group tail (map abs env.old.items) (branches (core t.now)) (plan_of plan) (uses_of log.old)) env.old.items env.new.items (entries memo.old) (entries memo.new) steps.new }
 {
+    if room == 0 {
+        return Err(EvalError::NoMemory);
+    }
+    let room = room - 1;
     match plan {
         Plan::Nothing => Ok(None),
         Plan::Arm(number, named) => {
@@ -121,7 +135,9 @@ fn go<B: Base, K: Known<B>, L: Ledger>(
             let outer = env.len();
             let mut named = named;
             env.append(&mut named)?;
-            let given = term::<B, K, L>(alloc, setting, group, tail, env, body, memo, steps, log)?;
+            let given = term::<B, K, L>(
+                alloc, setting, room, group, tail, env, body, memo, steps, log,
+            )?;
             env.truncate(outer);
             Ok(given)
         }
@@ -129,6 +145,7 @@ fn go<B: Base, K: Known<B>, L: Ledger>(
             let x = go::<B, K, L>(
                 alloc,
                 setting,
+                room,
                 group,
                 tail,
                 env,
@@ -141,6 +158,7 @@ fn go<B: Base, K: Known<B>, L: Ledger>(
             let y = go::<B, K, L>(
                 alloc,
                 setting,
+                room,
                 group,
                 tail,
                 env,
@@ -160,6 +178,7 @@ fn go<B: Base, K: Known<B>, L: Ledger>(
 fn turn<B: Base, K: Known<B>, L: Ledger>(
     alloc: Global,
     setting: &Setting<B>,
+    room: u32,
     group: u32,
     args: &[Option<Vec<AV<B>>>],
     memo: &mut Memo<B>,
@@ -168,11 +187,13 @@ fn turn<B: Base, K: Known<B>, L: Ledger>(
 ) -> Result<Option<Given<B>>, EvalError>
     requires known { MayRun B.algebra B.CAP setting.now K.spec K.rank (K.calls setting.now.ctx.now) K.before K.ticked [] (entries memo.old) steps.old }
     requires args { AreGroupArgs B.algebra B.CAP setting.now group (map (option_map all_abs) args.now) }
-    ensures { Runs B.algebra B.CAP setting.now K.spec K.rank (K.calls setting.now.ctx.now) K.before K.ticked yield (λ y. YieldFits B.algebra B.CAP setting.now group (yield y)) result (uses_of log.new) (of.group_turn B.algebra B.CAP (K.calls setting.now.ctx.now) setting.now group (map (option_map all_abs) args.now) (uses_of log.old)) [] [] (entries memo.new) steps.new }
+    ensures { Runs B.algebra B.CAP setting.now K.spec K.rank (K.calls setting.now.ctx.now) K.before K.ticked yield (λ y. YieldFits B.algebra B.CAP setting.now group (yield y)) result (uses_of log.old) (uses_of log.new) (of.group_turn B.algebra B.CAP (K.calls setting.now.ctx.now) setting.now group (map (option_map all_abs) args.now) (uses_of log.old)) [] [] (entries memo.old) (entries memo.new) steps.new }
 {
     let mut out = None;
     for i in 0..args.len() {
-        out = body::<B, K, L>(alloc, setting, group, i, &args[i], out, memo, steps, log)?;
+        out = body::<B, K, L>(
+            alloc, setting, room, group, i, &args[i], out, memo, steps, log,
+        )?;
     }
     Ok(out)
 }
@@ -182,6 +203,7 @@ fn turn<B: Base, K: Known<B>, L: Ledger>(
 fn body<B: Base, K: Known<B>, L: Ledger>(
     alloc: Global,
     setting: &Setting<B>,
+    room: u32,
     group: u32,
     number: usize,
     args: &Option<Vec<AV<B>>>,
@@ -193,22 +215,25 @@ fn body<B: Base, K: Known<B>, L: Ledger>(
     requires known { MayRun B.algebra B.CAP setting.now K.spec K.rank (K.calls setting.now.ctx.now) K.before K.ticked [] (entries memo.old) steps.old }
     requires args { IfSome (option_map all_abs args.now) (ArgsOf B.algebra B.CAP setting.now group number) }
     requires first { IfSome first (λ y. YieldFits B.algebra B.CAP setting.now group (yield y)) }
-    ensures { Runs B.algebra B.CAP setting.now K.spec K.rank (K.calls setting.now.ctx.now) K.before K.ticked yield (λ y. YieldFits B.algebra B.CAP setting.now group (yield y)) result (uses_of log.new) (of.given_bodies B.algebra B.CAP (K.calls setting.now.ctx.now) setting.now group number (option_map yield first) (option_map all_abs args.now ∷ []) (uses_of log.old)) [] [] (entries memo.new) steps.new }
+    ensures { Runs B.algebra B.CAP setting.now K.spec K.rank (K.calls setting.now.ctx.now) K.before K.ticked yield (λ y. YieldFits B.algebra B.CAP setting.now group (yield y)) result (uses_of log.old) (uses_of log.new) (of.given_bodies B.algebra B.CAP (K.calls setting.now.ctx.now) setting.now group number (option_map yield first) (option_map all_abs args.now ∷ []) (uses_of log.old)) [] [] (entries memo.old) (entries memo.new) steps.new }
 {
     let Some(args) = args else {
         return Ok(first);
     };
     let mut env = copy_all(alloc, setting.ctx, args)?;
     let t = body_of::<B, K>(setting, number);
-    let given = term::<B, K, L>(alloc, setting, group, true, &mut env, t, memo, steps, log)?;
+    let given = term::<B, K, L>(
+        alloc, setting, room, group, true, &mut env, t, memo, steps, log,
+    )?;
     Ok(joined::<B, K>(alloc, setting, group, first, given)?)
 }
 
-/// The value of a call, with its own reads behind those before.
+/// The value of a call, with its own reads behind those before. A call that is held is not evaluated again; one that is new is kept.
 #[cycle(eval)]
 pub(crate) fn call<B: Base, K: Known<B>, L: Ledger>(
     alloc: Global,
     setting: &Setting<B>,
+    room: u32,
     fun: u32,
     args: Vec<AV<B>>,
     memo: &mut Memo<B>,
@@ -218,13 +243,13 @@ pub(crate) fn call<B: Base, K: Known<B>, L: Ledger>(
     requires known { MayRun B.algebra B.CAP setting.now K.spec K.rank (K.calls setting.now.ctx.now) K.before K.ticked [] (entries memo.old) steps.old }
     requires there { fun < length (spec_of setting.now).funs }
     requires args { All (Fits B.algebra setting.now.ctx.now B.CAP) (map abs args.items) }
-    ensures { Runs B.algebra B.CAP setting.now K.spec K.rank (K.calls setting.now.ctx.now) K.before K.ticked abs (λ v. Fits B.algebra setting.now.ctx.now B.CAP (abs v)) result (uses_of log.new) (behind (uses_of log.old) (K.calls setting.now.ctx.now fun (map abs args.items))) [] [] (entries memo.new) steps.new }
+    ensures { RunsCall B.algebra B.CAP setting.now K.spec K.rank (K.calls setting.now.ctx.now) K.before K.ticked fun (map abs args.items) result (uses_of log.old) (uses_of log.new) (entries memo.old) (entries memo.new) steps.new }
 {
     if let Some(value) = recalled::<B, K>(alloc, setting, memo, fun, &args, log)? {
         return Ok(value);
     }
     let mut own = Log::new(alloc);
-    let value = activation::<B, K, L>(alloc, setting, fun, &args, memo, steps, &mut own)?;
+    let value = activation::<B, K, L>(alloc, setting, room, fun, &args, memo, steps, &mut own)?;
     Ok(recorded::<B, K, L>(alloc, setting, fun, args, value, own, memo, steps, log)?)
 }
 
@@ -233,6 +258,7 @@ pub(crate) fn call<B: Base, K: Known<B>, L: Ledger>(
 fn activation<B: Base, K: Known<B>, L: Ledger>(
     alloc: Global,
     setting: &Setting<B>,
+    room: u32,
     fun: u32,
     args: &[AV<B>],
     memo: &mut Memo<B>,
@@ -243,12 +269,21 @@ fn activation<B: Base, K: Known<B>, L: Ledger>(
     requires there { fun < length (spec_of setting.now).funs }
     requires args { AreArguments B.algebra setting.now.ctx.now B.CAP (spec_of setting.now) fun (map abs args.now) }
     requires own { uses_of own.old ≡ [] }
-    ensures { Runs B.algebra B.CAP setting.now K.spec K.rank (K.calls setting.now.ctx.now) K.before K.ticked abs (λ v. Fits B.algebra setting.now.ctx.now B.CAP (abs v)) result (uses_of own.new) (K.calls setting.now.ctx.now fun (map abs args.now)) [] [] (entries memo.new) steps.new }
+    ensures { Runs B.algebra B.CAP setting.now K.spec K.rank (K.calls setting.now.ctx.now) K.before K.ticked abs (λ v. Fits B.algebra setting.now.ctx.now B.CAP (abs v)) result (uses_of own.old) (uses_of own.new) (K.calls setting.now.ctx.now fun (map abs args.now)) [] [] (entries memo.old) (entries memo.new) steps.new }
 {
     let group = group_of(setting.spec, fun);
     let mut activity: Activity<B, K> = begin::<B, K>(alloc, setting, fun, args)?;
     loop {
-        let given = turn::<B, K, L>(alloc, setting, group, args_of(&activity), memo, steps, own)?;
+        let given = turn::<B, K, L>(
+            alloc,
+            setting,
+            room,
+            group,
+            args_of(&activity),
+            memo,
+            steps,
+            own,
+        )?;
         match advance::<B, K>(alloc, setting, fun, &mut activity, given)? {
             Step::Again => {}
             Step::Done(value) => return Ok(value),

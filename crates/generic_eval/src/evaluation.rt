@@ -1,6 +1,7 @@
 //! Calls of functions.
 
 ghost use Rattle.std.specs.Prelude.{◌≡◌, ◌+◌, ◌<◌, length, map, IfOk, IfSome};
+ghost use Rattle.base_trait.specs.Lists.{IsGrown};
 ghost use Rattle.base_trait.specs.Uses.{uses_of};
 ghost use Rattle.value_laws.specs.Fits.{Fits};
 ghost use Rattle.abs_value.specs.View.{abs};
@@ -8,7 +9,7 @@ ghost use Rattle.reinterpretation.specs.Answers.{behind};
 ghost use Rattle.reinterpretation.specs.Calls.{AreArguments};
 ghost use Rattle.call_answers.specs.Answers.{answers};
 ghost use Rattle.eval_state.specs.Given.{Gives};
-ghost use Rattle.eval_state.specs.Memos.{Stands, entries};
+ghost use Rattle.eval_state.specs.Memos.{Holds, Stands, entries};
 ghost use Rattle.eval_state.specs.Ready.{IsReady};
 ghost use Rattle.eval_state.specs.Settings.{spec_of};
 ghost use Rattle.generic_eval.specs.Calls.{IsRight, MayEvaluate, calls_of};
@@ -23,10 +24,16 @@ use std::marker::Brand;
 use std::sync::ledger::{Blank, Ledger};
 use step_counter::Steps;
 
+/// How many terms and plans of branches may stand within one another, over all calls that are underway. Deeper evaluations answer
+/// `NoMemory`, since each takes about a KiB of the stack.
+const MOST_NESTED: u32 = 4_000;
+
 /// The value of a call, or none; its reads are added to the log.
 ///
-/// The memo is one of the same setting. A call that it holds is not evaluated again; one that is new is kept there, and ticks one step.
-/// `Deep` names the function of the first activation that had no turn left. After an error the memo and the log may have grown.
+/// The memo is one of the same setting. A call that it holds is not evaluated again; one of a function of the specification that is new
+/// is kept there, and ticks one step. `Deep` names the function of the first activation that had no turn left. After an error the memo
+/// and the log may have grown. Where more than 4,000 terms and plans of branches stand within one another, over all calls
+/// that are underway, there is no memory for them.
 pub fn eval<B: Base, L: Ledger>(
     alloc: Global,
     setting: &Setting<B>,
@@ -43,6 +50,10 @@ pub fn eval<B: Base, L: Ledger>(
     ensures fits { IfOk result (λ r. IfSome r (λ v. Fits B.algebra setting.now.ctx.now B.CAP (abs v))) }
     ensures memo { IsRight B.algebra B.CAP setting.now (entries memo.new) }
     ensures counted { length (entries memo.new) + steps.old ≡ length (entries memo.old) + steps.new }
+    ensures grown { IsGrown (uses_of log.old) (uses_of log.new) }
+    ensures kept { IsGrown (entries memo.old) (entries memo.new) }
+    ensures held { IfOk result (λ _. function < length (spec_of setting.now).funs → Holds function (map abs args.items) (entries memo.new)) }
+    ensures known { Holds function (map abs args.items) (entries memo.old) → entries memo.new ≡ entries memo.old }
 {
     evaluated::<B, Brand, L>(alloc, setting, function, args, memo, steps, log)
 }
@@ -59,6 +70,7 @@ pub fn eval_anew<B: Base>(
     requires args { AreArguments B.algebra setting.now.ctx.now B.CAP (spec_of setting.now) function (map abs args.items) }
     ensures value { Gives abs result (uses_of log.new) (behind (uses_of log.old) (calls_of B.algebra B.CAP setting.now function (map abs args.items))) }
     ensures fits { IfOk result (λ r. IfSome r (λ v. Fits B.algebra setting.now.ctx.now B.CAP (abs v))) }
+    ensures grown { IsGrown (uses_of log.old) (uses_of log.new) }
 {
     counted::<B, Brand>(alloc, setting, function, args, Blank::new(1), log)
 }
@@ -79,6 +91,7 @@ fn counted<B: Base, L: Ledger>(
     requires args { AreArguments B.algebra setting.now.ctx.now B.CAP (spec_of setting.now) function (map abs args.items) }
     ensures value { Gives abs result (uses_of log.new) (behind (uses_of log.old) (calls_of B.algebra B.CAP setting.now function (map abs args.items))) }
     ensures fits { IfOk result (λ r. IfSome r (λ v. Fits B.algebra setting.now.ctx.now B.CAP (abs v))) }
+    ensures grown { IsGrown (uses_of log.old) (uses_of log.new) }
 {
     let mut memo = memo_new(alloc);
     let mut steps: Steps<L> = Steps::new(blank);
@@ -101,9 +114,22 @@ fn evaluated<B: Base, K: Placed, L: Ledger>(
     ensures value { Gives abs result (uses_of log.new) (behind (uses_of log.old) (answers B.algebra setting.now.ctx.now B.CAP K.spec K.at K.policy function (map abs args.items))) }
     ensures fits { IfOk result (λ r. IfSome r (λ v. Fits B.algebra setting.now.ctx.now B.CAP (abs v))) }
     ensures memo { Stands (answers B.algebra setting.now.ctx.now B.CAP K.spec K.at K.policy) K.before K.ticked (entries memo.new) steps.new }
+    ensures grown { IsGrown (uses_of log.old) (uses_of log.new) }
+    ensures kept { IsGrown (entries memo.old) (entries memo.new) }
+    ensures held { IfOk result (λ _. function < length (spec_of setting.now).funs → Holds function (map abs args.items) (entries memo.new)) }
+    ensures known { Holds function (map abs args.items) (entries memo.old) → entries memo.new ≡ entries memo.old }
 {
     if function as usize >= setting.spec.funs.len() {
         return Ok(None);
     }
-    call::<B, Defined<K>, L>(alloc, setting, function, args, memo, steps, log)
+    call::<B, Defined<K>, L>(
+        alloc,
+        setting,
+        MOST_NESTED,
+        function,
+        args,
+        memo,
+        steps,
+        log,
+    )
 }

@@ -11,9 +11,14 @@
 //! *The memo* (`eval_state`). Each call that is evaluated is kept with its value and its own reads. A call that is met again has both from
 //! there: of a function that calls another twice on the same values, the second call is a look-up, and ticks no step.
 //!
+//! *Nesting.* Terms are evaluated by recursion, each within that of the term around it, a plan within that of the plan around it, and a call
+//! within that of its term. At most 4,000 terms and plans are underway; an evaluation that nests them deeper answers `NoMemory`. This keeps
+//! below 8 MiB what they take of the stack; decisions are planned by a recursion of their own, along their tests, which is not counted.
+//!
 //! *What is said of `eval`.* Calls give what `answers` of `call_answers` says, the reinterpretation as a function: a call answers its
 //! value, or none, and its reads come behind those of the log; or it is deep, at the function that this names. Each entry of the memo
-//! says what its call gives, also after an error; no two are of one call; and as many were added as steps were ticked.
+//! says what its call gives, also after an error; no two are of one call; and as many were added as steps were ticked. The log and the
+//! memo only grow. After a call of a function of the specification the memo holds it; where it held it before, nothing is added.
 //!
 //! Inside, what calls give is a ghost member of a type parameter (`Known`), so that proofs carry one name for it; `eval` puts the
 //! definition in its place (src/known.rt).

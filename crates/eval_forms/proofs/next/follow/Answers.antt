@@ -1,6 +1,8 @@
 use Rattle.std.proofs.Common.{◌∙◌, map, ap, sym, subst}
+use Rattle.std.proofs.Math.Seq.{take-length}
 use Rattle.std.specs.Prelude.{All}
 use Rattle.std.proofs.lemmas.List.Elements.{All-map}
+use Rattle.base_trait.specs.Uses.{uses_of}
 use Rattle.tsl_match.specs.Views.{tree}
 use Rattle.spec_types.specs.CoreTerms.{cores}
 use Rattle.spec_types.specs.Views.{core}
@@ -48,3 +50,6 @@ returns-in-Choose-clause-is g c =
 pub returns-in-Call-clause-is : goal.returns-in-Call-clause-is
 returns-in-Call-clause-is g c =
     any_next g.B.Base.algebra g.B.Base.CAP c.args.setting.now g.K.Counted.rank c.args.group c.after_call.result following (core c.args.t.now) c.after_call.ensures.is
+
+pub returns-in_ok-v-in_default-clause-grown : goal.returns-in_ok-v-in_default-clause-grown
+returns-in_ok-v-in_default-clause-grown g c = take-length (uses_of c.args.log.now)

@@ -14,7 +14,10 @@ abbrev pub decreases-either_planned : goal.decreases-either_planned
 decreases-either_planned g l = 6 * max (size-Decision l.yes.now) (size-Decision l.no.now) + 3
 
 abbrev pub decreases-present_plan : goal.decreases-present_plan
-decreases-present_plan g l = 6 * most size-Decision l.arms.now + 3
+decreases-present_plan g l = 6 * most size-Decision l.arms.now + 4
+
+abbrev pub decreases-with_arm : goal.decreases-with_arm
+decreases-with_arm g l = 6 * size-Decision l.arm.now + 3
 
 -- the arms so far, and those that are left
 abbrev pub invariant-present_plan-loop-i : goal.invariant-present_plan-loop-i

@@ -4,6 +4,12 @@ use Rattle.std.specs.Prelude.{IfSome}
 use Rattle.std.proofs.lemmas.List.{map-append}
 use Rattle.base_trait.specs.Uses.{uses_of}
 use Rattle.spec_types.specs.Views.{core}
+use Rattle.tsl_values.specs.Types.{environment_of}
+use Rattle.value_laws.specs.Abs.{parts as parts_of}
+use Rattle.value_types.specs.Types.{have_types}
+use Rattle.reinterpretation.specs.Terms.{params_of}
+use Rattle.eval_state.specs.declared.error.EvalError.TheVariants as error
+use Rattle.eval_state.specs.Memos.{Holds, called, entries}
 use Rattle.value_laws.specs.Fits.{Fits}
 use Rattle.abs_value.specs.View.{abs}
 use Rattle.recursion_fix.specs.Answer.{gives, out_of}
@@ -20,8 +26,9 @@ use Rattle.eval_state.specs.Views.{all_abs, yield}
 use Rattle.eval_forms.specs.Views.{following, plan}
 use Rattle.eval_forms.specs.Weights.{depths, total, weight}
 use Rattle.std.proofs.lemmas.List.Elements.{All-append, All-cons, All-nil}
-use Rattle.generic_eval.proofs.Planned.{plan_Arm}
-use Rattle.generic_eval.proofs.Ending.{all_viewed, are_arguments, call_fits, failed, leaf_fits, next_is, next_none, parts_fail, parts_none}
+use Rattle.eval_forms.proofs.Planned.{plan_Arm}
+use Rattle.generic_eval.proofs.Ending.{all_viewed, are_arguments, call_failed, call_fits, failed, leaf_fits, next_is, next_none, no_memory, parts_fail, parts_none}
+use Rattle.generic_eval.proofs.Growing.{grown_then, log_alone, log_then, no_more}
 use Rattle.generic_eval.proofs.Parting.{branches_in_order, fewer, part_in_order, part_weighs}
 use Rattle.generic_eval.proofs.Planning.{arm_is, arm_missing}
 use Rattle.generic_eval.proofs.Valuing.{leaf_failed, leaf_gave, leaf_gives, values_end, values_fail, values_more, values_none}
@@ -29,6 +36,8 @@ use Rattle.eval_state.proofs.Items.{drop_here}
 use Rattle.generic_eval.proofs.Turning.{args_fit, bodies_fail, bodies_next, body_fails, body_gives, body_in_order, body_weighs, each_head, each_next}
 use Rattle.generic_eval.proofs.Weighing.{falls}
 use Rattle.eval_state.proofs.Answering.{behind_is, err_is, gave_fits}
+use Rattle.eval_state.proofs.Growth.{grown_on, grown_same}
+use Rattle.eval_state.proofs.Holding.{keeps_grown, kept_holds, new_not_held}
 use Rattle.eval_state.proofs.Going.{goes_failed, goes_fits}
 use Rattle.generic_eval.proofs.evaluate.+eval.Goals as goal
 
@@ -45,6 +54,7 @@ values-returns-in_default g t c =
       fits = at.invariant.fits;
       env = at.invariant.env;
       memo = at.invariant.memo;
+      grown = at.invariant.grown;
     }
 
 pub values-term-requires : goal.values-term-requires
@@ -92,11 +102,12 @@ values-returns-in_err-given g t c =
     let ts = parts (core c.args.t.now) in
     let x = core c.in-Some.x.now in
     let i = length at.out.items in
-    let here : part_at ts i ≡ Some x = search rules in
+    let long : c.len.result ≡ i = search rules in
+    let here : part_at ts i ≡ Some x = subst (λ n. part_at ts n ≡ Some x) long (sym c.in-Some.ensures) in
     let l = uses_of at.log in
     let runs = rw at.invariant.env at c.in_err-given.ensures in
-    failed b cap s g.K.Specified.spec g.K.Counted.rank on g.K.Counted.before g.K.Counted.ticked _ _ (yield {X = g.row.B.Denot} {W = g.row.B-Word.Denot} {N = g.row.B-Note.Denot} {C = g.row.B-Ctx.Denot}) c.in_err-given.field-0.0 _ _ (uses_of c.term.new.log) _ (of.given_of b cap on s c.args.group false env x l) _ _ _ _
-    (search rules) runs.value (λ j e. values_fail b cap on s env ts i (map abs at.out.items) l _ at.invariant.whole x here j (leaf_failed b cap on s (of.value_of b cap on s env x l) j e)) runs.memo
+    failed b cap s g.K.Specified.spec g.K.Counted.rank on g.K.Counted.before g.K.Counted.ticked _ _ (yield {X = g.row.B.Denot} {W = g.row.B-Word.Denot} {N = g.row.B-Note.Denot} {C = g.row.B-Ctx.Denot}) c.in_err-given.field-0.0 _ _ _ (uses_of c.term.new.log) _ (of.given_of b cap on s c.args.group false env x l) _ _ _ _ _
+    (err_is c.from_residual.result c.in_err-given.field-0.0 c.from_residual.ensures) runs.value (λ j e. values_fail b cap on s env ts i (map abs at.out.items) l _ at.invariant.whole x here j (leaf_failed b cap on s (of.value_of b cap on s env x l) j e)) runs.memo (grown_then at.invariant.grown runs.grown)
 
 pub values-returns-in_default-value_in : goal.values-returns-in_default-value_in
 values-returns-in_default-value_in g t c =
@@ -109,7 +120,8 @@ values-returns-in_default-value_in g t c =
     let ts = parts (core c.args.t.now) in
     let x = core c.in-Some.x.now in
     let i = length at.out.items in
-    let here : part_at ts i ≡ Some x = search rules in
+    let long : c.len.result ≡ i = search rules in
+    let here : part_at ts i ≡ Some x = subst (λ n. part_at ts n ≡ Some x) long (sym c.in-Some.ensures) in
     let l = uses_of at.log in
     let runs = c.in_ok-given.ensures in
     let value = rw at.invariant.env at runs.value in
@@ -120,6 +132,7 @@ values-returns-in_default-value_in g t c =
       fits = tt;
       env = runs.env ∙ at.invariant.env;
       memo = runs.memo;
+      grown = grown_then at.invariant.grown runs.grown;
     }
 
 pub values-loop-x-smaller : goal.values-loop-x-smaller
@@ -128,7 +141,8 @@ values-loop-x-smaller g t c =
     let ts = parts (core c.args.t.now) in
     let x = core c.in-Some.x.now in
     let i = length at.out.items in
-    let here : part_at ts i ≡ Some x = search rules in
+    let long : c.len.result ≡ i = search rules in
+    let here : part_at ts i ≡ Some x = subst (λ n. part_at ts n ≡ Some x) long (sym c.in-Some.ensures) in
     let more : length c.push.new.self.items ≡ i + 1 = search rules in
     rw more (fewer ts i x here)
 
@@ -143,7 +157,8 @@ values-loop-x-preserved g t c =
     let ts = parts (core c.args.t.now) in
     let x = core c.in-Some.x.now in
     let i = length at.out.items in
-    let here : part_at ts i ≡ Some x = search rules in
+    let long : c.len.result ≡ i = search rules in
+    let here : part_at ts i ≡ Some x = subst (λ n. part_at ts n ≡ Some x) long (sym c.in-Some.ensures) in
     let l = uses_of at.log in
     let m = uses_of c.term.new.log in
     let v = c.in-Some-value_in.v in
@@ -159,7 +174,14 @@ values-loop-x-preserved g t c =
       fits = rw out (All-append (λ v. Fits b s.ctx.now cap (abs v)) at.out.items (v ∷ []) at.invariant.fits (All-cons (λ v. Fits b s.ctx.now cap (abs v)) v [] (leaf_fits b cap s g.K.Specified.spec g.K.Counted.rank on yield c.args.group c.in_ok-given.given (abs v) runs.fits some) (All-nil (λ v. Fits b s.ctx.now cap (abs v)))));
       env = runs.env ∙ at.invariant.env;
       memo = runs.memo;
+      grown = grown_then at.invariant.grown runs.grown;
     }
+
+pub values-returns-in_err-push : goal.values-returns-in_err-push
+values-returns-in_err-push g t c =
+    let runs = c.in_ok-given.ensures in
+    no_memory g.B.Base.algebra g.B.Base.CAP c.args.setting.now g.K.Specified.spec g.K.Counted.rank (g.K.Known.calls c.args.setting.now.ctx.now) g.K.Counted.before g.K.Counted.ticked _ _ c.from_residual-in_err-push.result _ _ _ _ _ _ _ _
+    (err_is c.from_residual-in_err-push.result error.NoMemory c.from_residual-in_err-push.ensures) runs.memo (grown_then c.loop-x.invariant.grown runs.grown)
 
 -- ---- go
 
@@ -177,6 +199,7 @@ go-returns-in_default-body-in-Arm g t c =
       fits = tt;
       env = refl;
       memo = c.requires.known.memo;
+      grown = no_more _ _;
     }
 
 pub go-term-requires : goal.go-term-requires
@@ -241,8 +264,8 @@ go-returns-in_err-given-in-Arm g t c =
     let wider : c.append.new.self.items ≡ c.args.env.now.items ++ named = c.in_ok-append-in-Arm.ensures.items in
     let runs = rw (wider, map-append) at c.in_err-given-in-Arm.ensures in
     let so : given_plan b cap on s c.args.group c.args.tail env ts (plan c.args.plan) l ≡ of.given_of b cap on s c.args.group c.args.tail (env ++ vs) x l = rw is (arm_is b cap on s c.args.group c.args.tail env ts n vs x l here) in
-    failed b cap s g.K.Specified.spec g.K.Counted.rank on g.K.Counted.before g.K.Counted.ticked _ _ (yield {X = g.row.B.Denot} {W = g.row.B-Word.Denot} {N = g.row.B-Note.Denot} {C = g.row.B-Ctx.Denot}) c.in_err-given-in-Arm.field-0.0 _ _ (uses_of c.term.new.log) _ (of.given_of b cap on s c.args.group c.args.tail (env ++ vs) x l) _ _ _ _
-    (err_is c.from_residual-in_err-given-in-Arm.result c.in_err-given-in-Arm.field-0.0 c.from_residual-in_err-given-in-Arm.ensures) runs.value (λ j e. so ∙ e) runs.memo
+    failed b cap s g.K.Specified.spec g.K.Counted.rank on g.K.Counted.before g.K.Counted.ticked _ _ (yield {X = g.row.B.Denot} {W = g.row.B-Word.Denot} {N = g.row.B-Note.Denot} {C = g.row.B-Ctx.Denot}) c.in_err-given-in-Arm.field-0.0 _ _ _ (uses_of c.term.new.log) _ (of.given_of b cap on s c.args.group c.args.tail (env ++ vs) x l) _ _ _ _ _
+    (err_is c.from_residual-in_err-given-in-Arm.result c.in_err-given-in-Arm.field-0.0 c.from_residual-in_err-given-in-Arm.ensures) runs.value (λ j e. so ∙ e) runs.memo runs.grown
 
 pub go-returns-in_ok-given-in-Arm : goal.go-returns-in_ok-given-in-Arm
 go-returns-in_ok-given-in-Arm g t c =
@@ -266,7 +289,7 @@ go-returns-in_ok-given-in-Arm g t c =
     let e = c.args.env.now.items in
     let long : c.len-outer.result ≡ length e = search rules in
     let cut : c.truncate.new.self.items ≡ take (length e) c.term.new.env.items = rw (c.truncate.ensures.items, long) refl in
-    record { value = so ∙ value; fits = runs.fits; env = cut ∙ ap (λ zs. take (length e) zs) (runs.env ∙ wider) ∙ take-append_seam e named; memo = runs.memo }
+    record { value = so ∙ value; fits = runs.fits; env = cut ∙ ap (λ zs. take (length e) zs) (runs.env ∙ wider) ∙ take-append_seam e named; memo = runs.memo; grown = runs.grown }
 
 -- ---- term
 
@@ -280,8 +303,8 @@ term-returns-in_err-done g t c =
     let x = core c.args.t.now in
     let l = uses_of c.args.log.now in
     let runs = c.in_err-done.ensures in
-    failed b cap s g.K.Specified.spec g.K.Counted.rank on g.K.Counted.before g.K.Counted.ticked _ _ (all_abs {X = g.row.B.Denot} {W = g.row.B-Word.Denot} {N = g.row.B-Note.Denot} {C = g.row.B-Ctx.Denot}) c.in_err-done.field-0.0 _ _ (uses_of c.values.new.log) _ (of.values_of b cap on s env (parts x) l) _ _ _ _
-    (search rules) runs.value (parts_fail b cap s g.K.Specified.spec g.K.Counted.rank on c.args.group c.args.tail env x l) runs.memo
+    failed b cap s g.K.Specified.spec g.K.Counted.rank on g.K.Counted.before g.K.Counted.ticked _ _ (all_abs {X = g.row.B.Denot} {W = g.row.B-Word.Denot} {N = g.row.B-Note.Denot} {C = g.row.B-Ctx.Denot}) c.in_err-done.field-0.0 _ _ _ (uses_of c.values.new.log) _ (of.values_of b cap on s env (parts x) l) _ _ _ _ _
+    (search rules) runs.value (parts_fail b cap s g.K.Specified.spec g.K.Counted.rank on c.args.group c.args.tail env x l) runs.memo runs.grown
 
 pub term-returns-in_default : goal.term-returns-in_default
 term-returns-in_default g t c =
@@ -293,7 +316,7 @@ term-returns-in_default g t c =
     let x = core c.args.t.now in
     let l = uses_of c.args.log.now in
     let none : of.values_of b cap on s env (parts x) l ≡ gives None (uses_of c.values.new.log) = c.in_ok-done.ensures.value ∙ ap (λ o. gives (option_map all_abs o) (uses_of c.values.new.log)) c.in_default.is in
-    record { value = parts_none b cap s g.K.Specified.spec g.K.Counted.rank on c.args.group c.args.tail env x l (uses_of c.values.new.log) none; fits = tt; env = c.in_ok-done.ensures.env; memo = c.in_ok-done.ensures.memo }
+    record { value = parts_none b cap s g.K.Specified.spec g.K.Counted.rank on c.args.group c.args.tail env x l (uses_of c.values.new.log) none; fits = tt; env = c.in_ok-done.ensures.env; memo = c.in_ok-done.ensures.memo; grown = c.in_ok-done.ensures.grown }
 
 pub term-follow-requires-clause-env : goal.term-follow-requires-clause-env
 term-follow-requires-clause-env g t c =
@@ -359,10 +382,16 @@ call-returns-in-Some g t c =
     let l = uses_of c.args.log.now in
     let is : behind l (on f ps) ≡ gives (option_map abs c.in-Some.value) (uses_of c.recalled.new.log) = search rules in
     record {
-      value = is;
-      fits = behind_is abs (Fits b s.ctx.now cap) (Ok c.in-Some.value) l (uses_of c.recalled.new.log) (on f ps) is (call_fits b cap s g.K.Specified.spec g.K.Counted.rank on c.requires.known.ready f ps c.requires.there c.requires.args);
-      env = refl;
-      memo = c.requires.known.memo;
+      runs = record {
+        value = is;
+        fits = behind_is abs (Fits b s.ctx.now cap) (Ok c.in-Some.value) l (uses_of c.recalled.new.log) (on f ps) is (call_fits b cap s g.K.Specified.spec g.K.Counted.rank on c.requires.known.ready f ps c.requires.there c.requires.args);
+        env = refl;
+        memo = c.requires.known.memo;
+        grown = log_alone _ _ _ c.recalled.ensures.grown;
+      };
+      held = subst (λ xs. have_types (environment_of (spec_of s)) (parts_of (map abs xs)) (params_of (spec_of s) f) ≡ true → Holds f (map abs xs) (entries c.args.memo.now)) c.deref.ensures.value
+          (subst (λ o. IfSome o (λ _. have_types (environment_of (spec_of s)) (parts_of (map abs c.deref.result.now)) (params_of (spec_of s) f) ≡ true → Holds f (map abs c.deref.result.now) (entries c.args.memo.now))) c.in-Some.is c.in_ok-value.ensures.held);
+      known = λ _. refl;
     }
 
 pub call-activation-requires : goal.call-activation-requires
@@ -399,6 +428,94 @@ call-activation-requires g t c κs within =
       ),
     )
 
+pub call-returns-in_err-value : goal.call-returns-in_err-value
+call-returns-in_err-value g t c =
+    let stops = err_is c.from_residual.result error.NoMemory c.from_residual.ensures in
+    call_failed g.B.Base.algebra g.B.Base.CAP c.args.setting.now g.K.Specified.spec g.K.Counted.rank (g.K.Known.calls c.args.setting.now.ctx.now) g.K.Counted.before g.K.Counted.ticked c.args.fun (map abs c.args.args.items) error.NoMemory c.from_residual.result _ _ _ _ _ stops
+    (no_memory g.B.Base.algebra g.B.Base.CAP c.args.setting.now g.K.Specified.spec g.K.Counted.rank (g.K.Known.calls c.args.setting.now.ctx.now) g.K.Counted.before g.K.Counted.ticked _ _ c.from_residual.result _ _ _ _ _ _ _ _ stops c.requires.known.memo (log_alone _ _ _ c.recalled.ensures.grown))
+    (λ _. refl)
+
+pub call-returns-in_err-value-2 : goal.call-returns-in_err-value-2
+call-returns-in_err-value-2 g t c =
+    let b = g.B.Base.algebra in
+    let cap = g.B.Base.CAP in
+    let on = (g.K.Known.calls c.args.setting.now.ctx.now) in
+    let s = c.args.setting.now in
+    let f = c.args.fun in
+    let ps = map abs c.args.args.items in
+    let l = uses_of c.args.log.now in
+    let es = entries c.args.memo.now in
+    let m = uses_of c.recalled.new.log in
+    let fs = entries c.activation.new.memo in
+    let own = uses_of c.activation.new.own in
+    let stops = err_is c.from_residual-in_err-value-2.result c.in_err-value-2.field-0.0 c.from_residual-in_err-value-2.ensures in
+    let told = rw c.deref-2.ensures.value at c.in_err-value-2.ensures in
+    let new = rw c.deref.ensures.value at (c.in_ok-value.ensures.unknown c.in_default.is) in
+    call_failed b cap s g.K.Specified.spec g.K.Counted.rank on g.K.Counted.before g.K.Counted.ticked f ps c.in_err-value-2.field-0.0 c.from_residual-in_err-value-2.result l m es fs c.activation.new.steps stops
+    (failed b cap s g.K.Specified.spec g.K.Counted.rank on g.K.Counted.before g.K.Counted.ticked _ _ (abs {X = g.row.B.Denot} {W = g.row.B-Word.Denot} {N = g.row.B-Note.Denot} {C = g.row.B-Ctx.Denot}) c.in_err-value-2.field-0.0
+    c.from_residual-in_err-value-2.result l m own (behind l (on f ps)) (on f ps) _ _ es fs c.activation.new.steps stops told.value (λ j e. ap (behind l) e) told.memo (record { log = c.recalled.ensures.grown; memo = told.grown.memo }))
+    (λ h. absurd (new_not_held f ps es new h))
+
+pub call-returns-in_err-recorded : goal.call-returns-in_err-recorded
+call-returns-in_err-recorded g t c =
+    let b = g.B.Base.algebra in
+    let cap = g.B.Base.CAP in
+    let on = (g.K.Known.calls c.args.setting.now.ctx.now) in
+    let s = c.args.setting.now in
+    let f = c.args.fun in
+    let ps = map abs c.args.args.items in
+    let l = uses_of c.args.log.now in
+    let es = entries c.args.memo.now in
+    let m = uses_of c.recalled.new.log in
+    let n = uses_of c.recorded.new.log in
+    let fs = entries c.activation.new.memo in
+    let gs = entries c.recorded.new.memo in
+    let stops = err_is c.from_residual-in_err-recorded.result error.NoMemory c.from_residual-in_err-recorded.ensures in
+    let runs = c.in_ok-value-2.ensures in
+    let new = rw c.deref.ensures.value at (c.in_ok-value.ensures.unknown c.in_default.is) in
+    let same : gs ≡ fs = c.in_err-recorded.ensures.unchanged in
+    call_failed b cap s g.K.Specified.spec g.K.Counted.rank on g.K.Counted.before g.K.Counted.ticked f ps error.NoMemory c.from_residual-in_err-recorded.result l n es gs c.recorded.new.steps stops
+    (no_memory b cap s g.K.Specified.spec g.K.Counted.rank on g.K.Counted.before g.K.Counted.ticked _ _ c.from_residual-in_err-recorded.result l n _ _ _ es gs c.recorded.new.steps stops c.recorded.ensures.memo
+    (record { log = grown_on l m n c.recalled.ensures.grown c.recorded.ensures.grown; memo = grown_on es fs gs runs.grown.memo (grown_same fs gs same) }))
+    (λ h. absurd (new_not_held f ps es new h))
+
+pub call-returns : goal.call-returns
+call-returns g t c =
+    let b = g.B.Base.algebra in
+    let cap = g.B.Base.CAP in
+    let on = (g.K.Known.calls c.args.setting.now.ctx.now) in
+    let s = c.args.setting.now in
+    let f = c.args.fun in
+    let ps = map abs c.args.args.items in
+    let l = uses_of c.args.log.now in
+    let es = entries c.args.memo.now in
+    let m = uses_of c.recalled.new.log in
+    let n = uses_of c.recorded.new.log in
+    let fs = entries c.activation.new.memo in
+    let gs = entries c.recorded.new.memo in
+    let own = uses_of c.activation.new.own in
+    let value = option_map abs c.in_ok-value-2.value in
+    let v = c.in_ok-recorded.field-0 in
+    let runs = rw c.deref-2.ensures.value at c.in_ok-value-2.ensures in
+    let new = rw c.deref.ensures.value at (c.in_ok-value.ensures.unknown c.in_default.is) in
+    let stays : m ≡ l = c.in_ok-value.ensures.new c.in_default.is in
+    let same : option_map abs v ≡ value = c.in_ok-recorded.ensures.value in
+    let log : n ≡ m ++ own = c.in_ok-recorded.ensures.log in
+    let kept = c.in_ok-recorded.ensures.kept in
+    let call = called f ps value own in
+    let told : on f ps ≡ gives (option_map abs v) own = runs.value ∙ ap (λ o. gives o own) (sym same) in
+    record {
+      runs = record {
+        value = ap (behind l) told ∙ ap (λ z. gives (option_map abs v) z) (sym (log ∙ ap (λ z. z ++ own) stays));
+        fits = gave_fits abs (Fits b s.ctx.now cap) v own (on f ps) told (call_fits b cap s g.K.Specified.spec g.K.Counted.rank on c.requires.known.ready f ps c.requires.there c.requires.args);
+        env = refl;
+        memo = c.recorded.ensures.memo;
+        grown = record { log = grown_on l m n c.recalled.ensures.grown c.recorded.ensures.grown; memo = grown_on es fs gs runs.grown.memo (keeps_grown fs call gs kept) };
+      };
+      held = λ _. kept_holds fs call gs kept;
+      known = λ h. absurd (new_not_held f ps es new h);
+    }
+
 pub term-returns-in-None : goal.term-returns-in-None
 term-returns-in-None g t c =
     let b = g.B.Base.algebra in
@@ -415,7 +532,7 @@ term-returns-in-None g t c =
     let same : c.values.new.env.items ≡ c.args.env.now.items = c.in_ok-done.ensures.env in
     let told = rw (c.deref.ensures.value, same) at c.in_ok-follow.ensures.value in
     let none : option_map following c.in_ok-follow.field-0 ≡ None = ap (option_map following) c.in-None.is in
-    record { value = next_none b cap s g.K.Specified.spec g.K.Counted.rank on c.args.group c.args.tail env x l d m done n (told ∙ ap (λ o. gives o n) none); fits = tt; env = same; memo = c.in_ok-done.ensures.memo }
+    record { value = next_none b cap s g.K.Specified.spec g.K.Counted.rank on c.args.group c.args.tail env x l d m done n (told ∙ ap (λ o. gives o n) none); fits = tt; env = same; memo = c.in_ok-done.ensures.memo; grown = log_then c.in_ok-done.ensures.grown (uses_of c.follow.new.log) c.follow.ensures.grown }
 
 pub term-returns-in-Some-Given : goal.term-returns-in-Some-Given
 term-returns-in-Some-Given g t c =
@@ -435,7 +552,7 @@ term-returns-in-Some-Given g t c =
     let told = rw (c.deref.ensures.value, same) at c.in_ok-follow.ensures.value in
     let some : option_map following c.in_ok-follow.field-0 ≡ Some (given y) = ap (option_map following) (c.in-Some-Given.is ∙ ap (λ z. Some z) c.in-Some-Given.field-0-is) in
     let fits = subst (λ o. IfSome o (λ n. IsNext b cap s g.K.Counted.rank c.args.group x (following n))) (c.in-Some-Given.is ∙ ap (λ z. Some z) c.in-Some-Given.field-0-is) c.in_ok-follow.ensures.is in
-    record { value = next_is b cap s g.K.Specified.spec g.K.Counted.rank on c.args.group c.args.tail env x l d m done (given y) n (told ∙ ap (λ o. gives o n) some); fits = fits; env = same; memo = c.in_ok-done.ensures.memo }
+    record { value = next_is b cap s g.K.Specified.spec g.K.Counted.rank on c.args.group c.args.tail env x l d m done (given y) n (told ∙ ap (λ o. gives o n) some); fits = fits; env = same; memo = c.in_ok-done.ensures.memo; grown = log_then c.in_ok-done.ensures.grown (uses_of c.follow.new.log) c.follow.ensures.grown }
 
 pub term-returns-in_err-v-in-Some-Calls : goal.term-returns-in_err-v-in-Some-Calls
 term-returns-in_err-v-in-Some-Calls g t c =
@@ -457,9 +574,9 @@ term-returns-in_err-v-in-Some-Calls g t c =
     let told = rw (c.deref.ensures.value, same) at c.in_ok-follow.ensures.value in
     let some : option_map following c.in_ok-follow.field-0 ≡ Some (calls f ps) = ap (option_map following) (c.in-Some-Calls.is ∙ ap (λ z. Some z) c.in-Some-Calls.field-0-is) in
     let so = next_is b cap s g.K.Specified.spec g.K.Counted.rank on c.args.group c.args.tail env x l d m done (calls f ps) n (told ∙ ap (λ o. gives o n) some) in
-    let runs = c.in_err-v-in-Some-Calls.ensures in
-    failed b cap s g.K.Specified.spec g.K.Counted.rank on g.K.Counted.before g.K.Counted.ticked _ _ (abs {X = g.row.B.Denot} {W = g.row.B-Word.Denot} {N = g.row.B-Note.Denot} {C = g.row.B-Ctx.Denot}) c.in_err-v-in-Some-Calls.field-0.0 _ _ (uses_of c.call.new.log) _ (behind n (on f ps)) _ _ _ _
-    stops runs.value (λ j e. so ∙ ap (of.leaf_of b cap on s) e) runs.memo
+    let runs = c.in_err-v-in-Some-Calls.ensures.runs in
+    failed b cap s g.K.Specified.spec g.K.Counted.rank on g.K.Counted.before g.K.Counted.ticked _ _ (abs {X = g.row.B.Denot} {W = g.row.B-Word.Denot} {N = g.row.B-Note.Denot} {C = g.row.B-Ctx.Denot}) c.in_err-v-in-Some-Calls.field-0.0 _ _ _ (uses_of c.call.new.log) _ (behind n (on f ps)) _ _ _ _ _
+    stops runs.value (λ j e. so ∙ ap (of.leaf_of b cap on s) e) runs.memo (grown_then (log_then c.in_ok-done.ensures.grown n c.follow.ensures.grown) runs.grown)
 
 pub term-returns-in_ok-v-in-Some-Calls : goal.term-returns-in_ok-v-in-Some-Calls
 term-returns-in_ok-v-in-Some-Calls g t c =
@@ -480,7 +597,7 @@ term-returns-in_ok-v-in-Some-Calls g t c =
     let told = rw (c.deref.ensures.value, same) at c.in_ok-follow.ensures.value in
     let some : option_map following c.in_ok-follow.field-0 ≡ Some (calls f ps) = ap (option_map following) (c.in-Some-Calls.is ∙ ap (λ z. Some z) c.in-Some-Calls.field-0-is) in
     let so = next_is b cap s g.K.Specified.spec g.K.Counted.rank on c.args.group c.args.tail env x l d m done (calls f ps) n (told ∙ ap (λ o. gives o n) some) in
-    let runs = c.in_ok-v-in-Some-Calls.ensures in
+    let runs = c.in_ok-v-in-Some-Calls.ensures.runs in
     let k = uses_of c.call.new.log in
     let v = option_map abs c.in_ok-v-in-Some-Calls.v in
     record {
@@ -488,6 +605,7 @@ term-returns-in_ok-v-in-Some-Calls g t c =
       fits = c.leaf.ensures.fits;
       env = same;
       memo = runs.memo;
+      grown = grown_then (log_then c.in_ok-done.ensures.grown n c.follow.ensures.grown) runs.grown;
     }
 
 pub term-returns-in-Some-Goes : goal.term-returns-in-Some-Goes
@@ -509,7 +627,7 @@ term-returns-in-Some-Goes g t c =
     let some : option_map following c.in_ok-follow.field-0 ≡ Some (goes p) = ap (option_map following) (c.in-Some-Goes.is ∙ ap (λ z. Some z) c.in-Some-Goes.field-0-is) in
     let so = next_is b cap s g.K.Specified.spec g.K.Counted.rank on c.args.group c.args.tail env x l d m done (goes p) n (told ∙ ap (λ o. gives o n) some) in
     let runs = rw same at c.go.ensures in
-    record { value = subst (λ a. Gives yield c.go.result (uses_of c.go.new.log) a) (sym so) runs.value; fits = runs.fits; env = runs.env; memo = runs.memo }
+    record { value = subst (λ a. Gives yield c.go.result (uses_of c.go.new.log) a) (sym so) runs.value; fits = runs.fits; env = runs.env; memo = runs.memo; grown = grown_then (log_then c.in_ok-done.ensures.grown n c.follow.ensures.grown) runs.grown }
 
 -- ---- activation
 
@@ -557,9 +675,9 @@ activation-returns-in_err-given g t c =
     let a = c.loop-activity.activity in
     let l = uses_of c.loop-activity.own in
     let told = rw (c.args_of.ensures, c.group_of-group.ensures) at c.in_err-given.ensures.value in
-    failed b cap s g.K.Specified.spec g.K.Counted.rank on g.K.Counted.before g.K.Counted.ticked _ _ (yield {X = g.row.B.Denot} {W = g.row.B-Word.Denot} {N = g.row.B-Note.Denot} {C = g.row.B-Ctx.Denot}) c.in_err-given.field-0.0 _ _ (uses_of c.turn.new.log) _
-    (group_turn b cap on s (group_of s f) (due a) l) _ _ _ _ (err_is c.from_residual-in_err-given.result c.in_err-given.field-0.0 c.from_residual-in_err-given.ensures) told
-    (goes_failed b g.met.B.Base.laws cap s g.K.Specified.spec g.K.Counted.rank on c.requires.known.ready f c.requires.there (map abs c.args.args.now) a l c.loop-activity.invariant.goes) c.in_err-given.ensures.memo
+    failed b cap s g.K.Specified.spec g.K.Counted.rank on g.K.Counted.before g.K.Counted.ticked _ _ (yield {X = g.row.B.Denot} {W = g.row.B-Word.Denot} {N = g.row.B-Note.Denot} {C = g.row.B-Ctx.Denot}) c.in_err-given.field-0.0 _ _ _ (uses_of c.turn.new.log) _
+    (group_turn b cap on s (group_of s f) (due a) l) _ _ _ _ _ (err_is c.from_residual-in_err-given.result c.in_err-given.field-0.0 c.from_residual-in_err-given.ensures) told
+    (goes_failed b g.met.B.Base.laws cap s g.K.Specified.spec g.K.Counted.rank on c.requires.known.ready f c.requires.there (map abs c.args.args.now) a l c.loop-activity.invariant.goes) c.in_err-given.ensures.memo (grown_then c.loop-activity.invariant.grown c.in_err-given.ensures.grown)
 
 pub activation-advance-requires-clause-taken : goal.activation-advance-requires-clause-taken
 activation-advance-requires-clause-taken g t c =
@@ -570,7 +688,7 @@ pub activation-loop-activity-preserved : goal.activation-loop-activity-preserved
 activation-loop-activity-preserved g t c =
     let told = rw (c.args_of.ensures, c.group_of-group.ensures) at c.in_ok-given.ensures.value in
     let after = rw c.in-Again.is at c.in_ok-advance.ensures.after in
-    record { goes = after (map abs c.args.args.now) (uses_of c.loop-activity.own) (uses_of c.turn.new.log) c.loop-activity.invariant.goes told; memo = c.in_ok-given.ensures.memo }
+    record { goes = after (map abs c.args.args.now) (uses_of c.loop-activity.own) (uses_of c.turn.new.log) c.loop-activity.invariant.goes told; memo = c.in_ok-given.ensures.memo; grown = grown_then c.loop-activity.invariant.grown c.in_ok-given.ensures.grown }
 
 pub activation-returns-in-Done : goal.activation-returns-in-Done
 activation-returns-in-Done g t c =
@@ -589,13 +707,20 @@ activation-returns-in-Done g t c =
       fits = gave_fits abs (Fits b s.ctx.now cap) c.in-Done.value m (on f ps) is (c.requires.known.ready.results f ps c.requires.there c.requires.args);
       env = refl;
       memo = c.in_ok-given.ensures.memo;
+      grown = grown_then c.loop-activity.invariant.grown c.in_ok-given.ensures.grown;
     }
 
 pub activation-returns-in-Deep : goal.activation-returns-in-Deep
 activation-returns-in-Deep g t c =
     let told = rw (c.args_of.ensures, c.group_of-group.ensures) at c.in_ok-given.ensures.value in
     let after = rw c.in-Deep.is at c.in_ok-advance.ensures.after in
-    record { value = after (map abs c.args.args.now) (uses_of c.loop-activity.own) (uses_of c.turn.new.log) c.loop-activity.invariant.goes told; fits = tt; env = tt; memo = c.in_ok-given.ensures.memo }
+    record { value = after (map abs c.args.args.now) (uses_of c.loop-activity.own) (uses_of c.turn.new.log) c.loop-activity.invariant.goes told; fits = tt; env = tt; memo = c.in_ok-given.ensures.memo; grown = grown_then c.loop-activity.invariant.grown c.in_ok-given.ensures.grown }
+
+pub activation-returns-in_err-advance : goal.activation-returns-in_err-advance
+activation-returns-in_err-advance g t c =
+    let runs = c.in_ok-given.ensures in
+    no_memory g.B.Base.algebra g.B.Base.CAP c.args.setting.now g.K.Specified.spec g.K.Counted.rank (g.K.Known.calls c.args.setting.now.ctx.now) g.K.Counted.before g.K.Counted.ticked _ _ c.from_residual-in_err-advance.result _ _ _ _ _ _ _ _
+    (err_is c.from_residual-in_err-advance.result error.NoMemory c.from_residual-in_err-advance.ensures) runs.memo (grown_then c.loop-activity.invariant.grown runs.grown)
 
 -- ---- turn
 
@@ -646,9 +771,9 @@ turn-returns-in_err-out g t c =
     let here = drop_here c.args.args.now i c.index-args-i.result c.index-args-i.is c.loop-i-test.true in
     let rest = map (option_map all_abs) (drop (i + 1) c.args.args.now) in
     let runs = c.in_err-out.ensures in
-    failed b cap s g.K.Specified.spec g.K.Counted.rank on g.K.Counted.before g.K.Counted.ticked _ _ (yield {X = g.row.B.Denot} {W = g.row.B-Word.Denot} {N = g.row.B-Note.Denot} {C = g.row.B-Ctx.Denot}) c.in_err-out.field-0.0 _ _ (uses_of c.body.new.log) _
-    (of.given_bodies b cap on s c.args.group i out (x ∷ []) l) _ _ _ _ (err_is c.from_residual.result c.in_err-out.field-0.0 c.from_residual.ensures) runs.value
-    (λ j e. rw here at c.loop-i.invariant.whole ∙ bodies_fail b cap on s c.args.group i out x rest l j e) runs.memo
+    failed b cap s g.K.Specified.spec g.K.Counted.rank on g.K.Counted.before g.K.Counted.ticked _ _ (yield {X = g.row.B.Denot} {W = g.row.B-Word.Denot} {N = g.row.B-Note.Denot} {C = g.row.B-Ctx.Denot}) c.in_err-out.field-0.0 _ _ _ (uses_of c.body.new.log) _
+    (of.given_bodies b cap on s c.args.group i out (x ∷ []) l) _ _ _ _ _ (err_is c.from_residual.result c.in_err-out.field-0.0 c.from_residual.ensures) runs.value
+    (λ j e. rw here at c.loop-i.invariant.whole ∙ bodies_fail b cap on s c.args.group i out x rest l j e) runs.memo (grown_then c.loop-i.invariant.grown runs.grown)
 
 pub turn-loop-i-preserved : goal.turn-loop-i-preserved
 turn-loop-i-preserved g t c =
@@ -668,6 +793,7 @@ turn-loop-i-preserved g t c =
       args = each_next (ArgsOf b cap s c.args.group) i x rest (rw here at inv.args);
       fits = runs.fits;
       memo = runs.memo;
+      grown = grown_then inv.grown runs.grown;
     }
 
 -- ---- body
@@ -727,9 +853,9 @@ body-returns-in_err-given g t c =
     let copied : map abs c.in_ok-env.env.items ≡ xs = c.in_ok-env.ensures ∙ ap (λ zs. map abs zs) c.deref.ensures.value in
     let so : of.given_bodies b cap on s c.args.group i first (option_map all_abs c.args.args.now ∷ []) l ≡ of.given_bodies b cap on s c.args.group i first (Some xs ∷ []) l = rw c.in-Some.is refl in
     let runs = rw copied at c.in_err-given.ensures in
-    failed b cap s g.K.Specified.spec g.K.Counted.rank on g.K.Counted.before g.K.Counted.ticked _ _ (yield {X = g.row.B.Denot} {W = g.row.B-Word.Denot} {N = g.row.B-Note.Denot} {C = g.row.B-Ctx.Denot}) c.in_err-given.field-0.0 _ _ (uses_of c.term.new.log) _
-    (of.given_of b cap on s c.args.group true xs x l) _ _ _ _ (err_is c.from_residual-in_err-given.result c.in_err-given.field-0.0 c.from_residual-in_err-given.ensures) runs.value
-    (λ j e. so ∙ body_fails b cap on s c.args.group i first xs x l c.body_of-t.ensures j e) runs.memo
+    failed b cap s g.K.Specified.spec g.K.Counted.rank on g.K.Counted.before g.K.Counted.ticked _ _ (yield {X = g.row.B.Denot} {W = g.row.B-Word.Denot} {N = g.row.B-Note.Denot} {C = g.row.B-Ctx.Denot}) c.in_err-given.field-0.0 _ _ _ (uses_of c.term.new.log) _
+    (of.given_of b cap on s c.args.group true xs x l) _ _ _ _ _ (err_is c.from_residual-in_err-given.result c.in_err-given.field-0.0 c.from_residual-in_err-given.ensures) runs.value
+    (λ j e. so ∙ body_fails b cap on s c.args.group i first xs x l c.body_of-t.ensures j e) runs.memo runs.grown
 
 pub body-returns : goal.body-returns
 body-returns g t c =
@@ -751,4 +877,10 @@ body-returns g t c =
       fits = c.in_ok-joined.ensures.fits;
       env = refl;
       memo = runs.memo;
+      grown = runs.grown;
     }
+
+pub body-returns-in_err-env : goal.body-returns-in_err-env
+body-returns-in_err-env g t c =
+    no_memory g.B.Base.algebra g.B.Base.CAP c.args.setting.now g.K.Specified.spec g.K.Counted.rank (g.K.Known.calls c.args.setting.now.ctx.now) g.K.Counted.before g.K.Counted.ticked _ _ c.from_residual.result _ _ _ _ _ _ _ _
+    (err_is c.from_residual.result error.NoMemory c.from_residual.ensures) c.requires.known.memo (no_more _ _)

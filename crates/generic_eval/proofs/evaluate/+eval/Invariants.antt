@@ -16,6 +16,7 @@ use Rattle.eval_state.specs.Settings.{group_of}
 use Rattle.eval_state.specs.Views.{all_abs, yield}
 use Rattle.eval_forms.specs.Views.{plan}
 use Rattle.eval_forms.specs.Weights.{depths, total, weight, weights}
+use Rattle.generic_eval.specs.Runs.{HaveGrown}
 use Rattle.generic_eval.proofs.evaluate.+eval.Given as goal
 
 abbrev pub decreases-term : goal.decreases-term
@@ -49,6 +50,7 @@ invariant-values-loop-x g l =
       fits : All (λ v. Fits b l.setting.ctx.now g.B.Base.CAP (abs v)) l.out.items;
       env : l.env.items ≡ l.initial.env.items;
       memo : Stands (g.K.Known.calls l.setting.ctx.now) g.K.Counted.before g.K.Counted.ticked (entries l.memo) l.steps;
+      grown : HaveGrown (uses_of l.initial.log) (uses_of l.log) (entries l.initial.memo) (entries l.memo);
     }
 
 abbrev pub decreases-values-loop-x : goal.decreases-values-loop-x
@@ -64,6 +66,7 @@ invariant-turn-loop-i g l =
       args : EachFrom (ArgsOf b g.B.Base.CAP l.setting l.group) l.i (map (option_map all_abs) (drop l.i l.fn.args));
       fits : IfSome l.out (λ y. YieldFits b g.B.Base.CAP l.setting l.group (yield y));
       memo : Stands (g.K.Known.calls l.setting.ctx.now) g.K.Counted.before g.K.Counted.ticked (entries l.memo) l.steps;
+      grown : HaveGrown (uses_of l.initial.log) (uses_of l.log) (entries l.initial.memo) (entries l.memo);
     }
 
 -- the turns that are left come to what the call gives
@@ -72,6 +75,7 @@ invariant-activation-loop-activity g l =
     record {
       goes : Goes g.B.Base.algebra g.B.Base.CAP l.setting (g.K.Known.calls l.setting.ctx.now) l.fun (map abs l.fn.args) l.activity (uses_of l.own);
       memo : Stands (g.K.Known.calls l.setting.ctx.now) g.K.Counted.before g.K.Counted.ticked (entries l.memo) l.steps;
+      grown : HaveGrown (uses_of l.initial.own) (uses_of l.own) (entries l.initial.memo) (entries l.memo);
     }
 
 abbrev pub decreases-activation-loop-activity : goal.decreases-activation-loop-activity
