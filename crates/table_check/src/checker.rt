@@ -4,13 +4,14 @@ ghost use Rattle.std.specs.Prelude.{◌≡◌, ◌+◌, ◌≤◌, ◌↔◌, �
 ghost use Rattle.std.specs.BTreeMap.{btree_map_len};
 ghost use Rattle.fixed_point.specs.Analysis.{Analysis};
 ghost use Rattle.fixed_point.specs.Elements.{Elements};
+ghost use Rattle.fixed_point.specs.Runs.{IsSoundTable};
 ghost use Rattle.fixed_point.specs.Table.{IsClosed, TableFits};
 ghost use Rattle.fixed_point.specs.Verdicts.{is_open, verdict_of};
 ghost use Rattle.fixed_point.specs.Views.{listings};
 
 use crate::fault::fault_of;
 use crate::open::is_open;
-use fixed_point::{Analyser, Table, Verdict};
+use fixed_point::{Analyser, Described, Table, Verdict};
 use std::alloc::{AllocError as NoMemory, Global};
 use std::sync::ledger::Ledger;
 use step_counter::Steps;
@@ -30,8 +31,9 @@ fn is_entry_open<A: Analyser>(
 }
 
 /// Whether a table is closed, or its first part that fails: the entry, and then the blocks by their addresses, each
-/// for its decoding, its number of targets, its targets, its uses, and what it reaches.
-pub fn check<A: Analyser, L: Ledger>(
+/// for its decoding, its number of targets, its targets, its uses, and what it reaches. What an accepted table says
+/// holds of every run of the machine.
+pub fn check<A: Described, L: Ledger>(
     alloc: Global,
     analyser: &A,
     table: &Table<A::Elem>,
@@ -41,6 +43,7 @@ pub fn check<A: Analyser, L: Ledger>(
     requires table { TableFits (A.analysis analyser.now) (listings A.view table.now) }
     ensures value { IfOk result (λ v. v ≡ verdict_of (A.analysis analyser.now) (listings A.view table.now)) }
     ensures accepted { IfOk result (λ v. (v ≡ Verdict.Accepted) ↔ IsClosed (A.analysis analyser.now) (listings A.view table.now)) }
+    ensures sound { IfOk result (λ v. v ≡ Verdict.Accepted → IsSoundTable (A.analysis analyser.now) (A.machine analyser.now) (listings A.view table.now)) }
     ensures one { IfOk result (λ v. v ≡ Verdict.Accepted → steps.new ≡ steps.old + btree_map_len table.now.blocks) }
     ensures most { steps.new ≤ steps.old + btree_map_len table.now.blocks }
 {

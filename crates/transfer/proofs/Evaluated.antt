@@ -1,6 +1,6 @@
 -- What an evaluation gives of an instruction.
-use Rattle.std.proofs.Common.{◌≡◌, ℕ, List, [], Option, Some, None, Result, Ok, IsTrue, refl, sym, ap, subst, ◌∙◌}
-use Rattle.recursion_fix.specs.Answer.{IfGives, fails, gives}
+use Rattle.std.proofs.Common.{◌≡◌, ℕ, ◌<◌, ◌^◌, List, [], Option, Some, None, Result, Ok, Err, IsTrue, inl, refl, sym, ap, subst, ◌∙◌}
+use Rattle.recursion_fix.specs.Answer.{IfGives, Succeeds, fails, gives}
 use Rattle.base_trait.specs.Algebra.{Algebra}
 use Rattle.base_trait.specs.Laws.{Laws}
 use Rattle.base_trait.specs.Uses.{Seen}
@@ -9,8 +9,10 @@ use Rattle.tsl_values.specs.Values.{Val}
 use Rattle.meaning.specs.Decode.{decoded}
 use Rattle.value_laws.specs.Abs.{Abs}
 use Rattle.reinterpretation.specs.Answers.{Answer, behind}
+use Rattle.reinterpretation.proofs.Plain.{widened_calls_succeed}
 use Rattle.eval_state.specs.Given.{Gives}
 use Rattle.eval_state.specs.declared.error.EvalError.{EvalError}
+use Rattle.eval_state.specs.declared.error.EvalError.TheVariants.{Deep}
 use Rattle.fixed_point.specs.Code.{is_code}
 use Rattle.fixed_point.specs.Elements.{Elements}
 use Rattle.domain_laws.specs.Domain.{Meaning}
@@ -19,6 +21,7 @@ use Rattle.domain_laws.specs.Values.{IsStateValue}
 use Rattle.transfer_laws.specs.Laws.{IsAnalysed}
 use Rattle.transfer_laws.specs.Problem.{Problem}
 use Rattle.transfer_laws.specs.Transfer.{arguments, counter_of}
+use Rattle.transfer_laws.proofs.Evaluated.{are_arguments}
 use Rattle.transfer_laws.proofs.Keeping.{evaluations_give_states}
 
 -- an answer behind no reads
@@ -38,6 +41,9 @@ module _ {V A : Type 0} (view : V → A) (r : Result (Option V) EvalError) (log 
   pub gave_none : (answer : Answer A) → r ≡ Ok None → Gives view r log answer → answer ≡ gives None log
   gave_none answer e h = subst (λ r. Gives view r log answer) e h
 
+  pub gave_deep : (answer : Answer A) (f : ℕ) → r ≡ Err (Deep f) → Gives view r log answer → answer ≡ fails f
+  gave_deep answer f e h = subst (λ r. Gives view r log answer) e h
+
 module _ {E W N C : Type 0} (B : Algebra W N C) (laws : Laws W N C B) (cap : ℕ) (D : Elements E State) (M : Meaning E W N C) (p : Problem) (calls : ℕ → ℕ → List (Abs W N) → Answer (Abs W N)) (h : IsAnalysed B cap D M p calls) where
   -- a value that has a counter is one of states
   pub counted_state : (a : ℕ) (x : E) (code_word : ℕ) (instruction : Val) (y : Abs W N) (log : List Seen) → IsTrue (is_code p.addresses a) → D.fits x
@@ -46,3 +52,11 @@ module _ {E W N C : Type 0} (B : Algebra W N C) (laws : Laws W N C B) (cap : ℕ
   counted_state a x code_word instruction y log here fit e answer counter =
       subst (λ r. IfGives r (λ y. counter_of y ≡ Some counter → IsStateValue B M.context cap (state_type p.spec) y)) answer
       (evaluations_give_states B laws cap D M p calls a x code_word instruction counter h here fit e)
+
+  -- no evaluation is too deep: widening ends each activation
+  pub not_deep : (a : ℕ) (x : E) (code_word : ℕ) (instruction : Val) (f : ℕ) → a < 2 ^ 32 → D.fits x → decoded p.machine.instr p.spec.rows code_word ≡ Some instruction
+      → calls a p.machine.interp (arguments B cap M p a x instruction) ≡ fails f → ⊥
+  not_deep a x code_word instruction f lt fit e deep =
+      subst Succeeds deep
+      (widened_calls_succeed B laws p.spec M.context cap a 64 2 (calls a) p.machine.interp (arguments B cap M p a x instruction) h.posed.accepted (inl h.joins) (h.right a)
+      (are_arguments B laws cap D M p calls h a lt x fit code_word instruction e))

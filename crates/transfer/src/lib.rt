@@ -4,7 +4,7 @@
 //! # A transfer, with an example
 //!
 //! Take sets of at most two numbers for the words, a state of a counter and a word `x`, and at 4096 an instruction that adds 1
-//! to `x` and goes on where `x` was not 0. From the element `x: {0, 1}` it goes so:
+//! to `x` and goes on where `x` was not 0, and else to 4294967292. From the element `x: {0, 1}` it goes so:
 //!
 //! | step | gives |
 //! |---|---|
@@ -17,7 +17,7 @@
 //!
 //! Where the word has no decoding, it is the outcome. Where the counter may be more addresses than the limit, its word is. Where the
 //! evaluation has no value there are no targets and no element, and the uses of its reads stand. One step is counted
-//! for each word that has a decoding.
+//! for each word that has a decoding. No evaluation is too deep, since widening ends each activation.
 //!
 //! # What is proved
 //!

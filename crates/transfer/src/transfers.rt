@@ -66,7 +66,12 @@ impl<'a, D: Domain> ImageAnalysis<'a, D> {
         match self.evaluated(alloc, &ctx, at, args, &mut log) {
             Ok(Some(state)) => self.moved(alloc, &ctx, x, &state, &log),
             Ok(None) => self.ended(alloc, &log),
-            Err(EvalError::Deep { .. }) => Ok(without_targets::<D>(alloc, Vec::new(alloc))),
+            // Widening ends each activation.
+            Err(
+                EvalError::Deep {
+                    function: _function,
+                },
+            ) => unreachable!(),
             Err(EvalError::NoMemory) => Err(NoMemory),
         }
     }

@@ -6,6 +6,7 @@ ghost use Rattle.base_trait.specs.Uses.{Seen};
 ghost use Rattle.fixed_point.specs.Analysis.{Analysis, height_of};
 ghost use Rattle.fixed_point.specs.Elements.{Elements};
 ghost use Rattle.fixed_point.specs.Play.{begin};
+ghost use Rattle.fixed_point.specs.Runs.{IsSoundTable};
 ghost use Rattle.fixed_point.specs.Table.{FitsImage, IsClosed, TableFits};
 ghost use Rattle.fixed_point.specs.Views.{listings};
 ghost use Rattle.worklist.specs.Fitting.{AllFit};
@@ -18,7 +19,7 @@ use crate::blocks::blocks_of;
 use crate::report::{AnalyseError, Report};
 use crate::run::run;
 use crate::worklist::{Worklist, nothing};
-use fixed_point::{Analyser, Table};
+use fixed_point::{Analyser, Described, Table};
 use std::alloc::{AllocError as NoMemory, Global};
 use std::sync::ledger::Ledger;
 use step_counter::Steps;
@@ -36,8 +37,9 @@ fn begun<A: Analyser>(analyser: &A, alloc: Global) -> Result<Worklist<A::Elem>, 
     Ok(work)
 }
 
-/// Transfers the least pending address until none is pending, and then each reached address once more.
-pub fn analyse<A: Analyser, L: Ledger>(
+/// Transfers the least pending address until none is pending, and then each reached address once more. What the table
+/// says holds of every run of the machine.
+pub fn analyse<A: Described, L: Ledger>(
     alloc: Global,
     analyser: &A,
     steps: &mut Steps<L>,
@@ -45,6 +47,7 @@ pub fn analyse<A: Analyser, L: Ledger>(
     requires ready { A.IsReady analyser.now }
     ensures value { IsAnswer (A.analysis analyser.now) A.view result }
     ensures closed { IfOk result (λ r. IsClosed (A.analysis analyser.now) (listings A.view r.table)) }
+    ensures sound { IfOk result (λ r. IsSoundTable (A.analysis analyser.now) (A.machine analyser.now) (listings A.view r.table)) }
     ensures fits { IfOk result (λ r. TableFits (A.analysis analyser.now) (listings A.view r.table)) }
     ensures image { IfOk result (λ r. FitsImage (A.analysis analyser.now) (listings A.view r.table)) }
     ensures one { IfOk result (λ r. steps.new ≡ steps.old + (vec_len r.trace + btree_map_len r.table.blocks)) }

@@ -2,7 +2,7 @@
 //!
 //! What is computed is the play of `fixed_point` specs/Play, whose head explains it: the least pending address is
 //! transferred until there is none, and then each reached address once more, for its targets and uses. `analyse`
-//! works over any `Analyser` that is ready (`IsReady`).
+//! works over any `Analyser` that is ready (`IsReady`) and sound for its machine (`Described`).
 //!
 //! *What stands.* A map has the element of each reached address with the number of its changes, counted up to
 //! three, and a set has the pending addresses. Seen together they are a play (`play_in`, specs/Views). It is like
@@ -15,7 +15,8 @@
 //! trace, and no contract speaks of ranks.
 //!
 //! *What is proved.* Where `analyse` answers a table, its trace is legal and full, the table is the one of the
-//! trace's play, and it is closed: so all that it says holds of every run (`closed_tables_are_sound`). Its
+//! trace's play, and it is closed. So it is sound: the element at each address describes every state that a run has
+//! there, each step goes to an address that its block lists, and the block's uses cover what the step reads. Its
 //! addresses and stamps are the image's. A refusal comes exactly where the least pending address of the trace's
 //! play has no decoding, or too many targets. The steps are as many as transfers, at most N(H + 4) + N, also where
 //! memory runs out.

@@ -1,7 +1,6 @@
 //! What a line gives.
 
-ghost use Rattle.std.specs.Prelude.{◌≡◌, ◌<◌, IfOk};
-ghost use Rattle.fixed_point.specs.Runs.{IsSoundTable};
+ghost use Rattle.std.specs.Prelude.{◌≡◌, ◌<◌};
 ghost use Rattle.fixed_point.specs.Table.{TableFits};
 ghost use Rattle.fixed_point.specs.Views.{listings};
 ghost use Rattle.worklist_tests.specs.Machine.{IsProgram, analysis_of};
@@ -10,27 +9,13 @@ use crate::machine::Interval;
 use crate::program::Program;
 use crate::reading::{program, table};
 use crate::writing::{joined, table_text, verdict_text};
-use fixed_point::laws::closed_tables_are_sound;
-use fixed_point::{Described, Table};
+use fixed_point::Table;
 use std::alloc::{AllocError as NoMemory, Global};
 use std::marker::Brand;
 use std::sync::ledger::{Blank, Ledger};
 use step_counter::Steps;
 use table_check::check;
-use worklist::{AnalyseError, Report, analyse};
-
-/// The table of an analysis: what it says holds of every run.
-fn soundly<A: Described, L: Ledger>(
-    alloc: Global,
-    analyser: &A,
-    steps: &mut Steps<L>,
-) -> Result<Report<A::Elem>, AnalyseError<A::Shown>>
-    requires ready { A.IsReady analyser.now }
-    ensures { IfOk result (λ r. IsSoundTable (A.analysis analyser.now) (A.machine analyser.now) (listings A.view r.table)) }
-{
-    closed_tables_are_sound(analyser);
-    analyse(alloc, analyser, steps)
-}
+use worklist::{AnalyseError, analyse};
 
 /// The trace and the table of an analysis, or how it stopped.
 fn analysed<L: Ledger>(alloc: Global, program: &Program, blank: Blank) -> Result<String, NoMemory>
@@ -40,7 +25,7 @@ fn analysed<L: Ledger>(alloc: Global, program: &Program, blank: Blank) -> Result
     requires some { 0 < blank.parts }
 {
     let mut steps: Steps<L> = Steps::new(blank);
-    match soundly(alloc, program, &mut steps) {
+    match analyse(alloc, program, &mut steps) {
         Ok(report) => {
             let trace = joined(alloc, &report.trace)?;
             let table = table_text(alloc, &report.table)?;

@@ -7,6 +7,7 @@ use Rattle.std.proofs.lemmas.Map.Iter.{rest_so_far}
 use Rattle.fixed_point.specs.Verdicts.{IsFirstFault, Stands}
 use Rattle.fixed_point.specs.Views.{listing, listings}
 use Rattle.fixed_point.specs.declared.table.Block.{Block}
+use Rattle.fixed_point.proofs.Soundness.{closed_tables_are_sound}
 use Rattle.fixed_point.proofs.Verdicts.{accepted_are_closed, closed_told, fault_none, fault_some, means_from, verdicts_mean}
 use Rattle.table_check.specs.Standing.{AllStand}
 use Rattle.table_check.proofs.Entries.{at_seam, closed_from, earlier_stands}
@@ -81,6 +82,12 @@ returns-in-Some-2-clause-accepted g c =
     let right = accepted_are_closed A laws t c.requires.table in
     (λ same. right.0 (means ∙ same), λ closed. sym means ∙ right.1 closed)
 
+pub returns-in-Some-2-clause-sound : goal.returns-in-Some-2-clause-sound
+returns-in-Some-2-clause-sound g c same =
+    let ready = c.requires.ready in
+    closed_tables_are_sound (g.A.Analyser.analysis c.args.analyser.now) (g.A.Analyser.machine c.args.analyser.now) (g.met.A.Analyser.laws c.args.analyser.now ready) (g.met.A.Described.sound c.args.analyser.now ready)
+    (listings g.A.Analyser.view c.args.table.now) c.requires.table ((returns-in-Some-2-clause-accepted g c).0 same)
+
 pub loop-at-preserved : goal.loop-at-preserved
 loop-at-preserved g c =
     let A = g.A.Analyser.analysis c.args.analyser.now in
@@ -120,3 +127,9 @@ returns-clause-accepted g c =
     let entry = closed_told A t A.entry A.start (sym (c.in_ok-is_entry_open.ensures) ∙ c.if-branch.false) in
     let closed = closed_from g.A.Analyser.view A c.args.table.now c.iter-at-items.ensures.ordered entry (subst (AllStand g.A.Analyser.view A c.args.table.now) (sym whole) c.loop-at.invariant.stand) in
     (λ same. closed, λ also. refl)
+
+pub returns-clause-sound : goal.returns-clause-sound
+returns-clause-sound g c same =
+    let ready = c.requires.ready in
+    closed_tables_are_sound (g.A.Analyser.analysis c.args.analyser.now) (g.A.Analyser.machine c.args.analyser.now) (g.met.A.Analyser.laws c.args.analyser.now ready) (g.met.A.Described.sound c.args.analyser.now ready)
+    (listings g.A.Analyser.view c.args.table.now) c.requires.table ((returns-clause-accepted g c).0 same)

@@ -3,6 +3,7 @@ use Rattle.std.specs.Prelude.{option_map}
 use Rattle.fixed_point.specs.Play.{play}
 use Rattle.fixed_point.specs.Views.{listings}
 use Rattle.fixed_point.specs.declared.table.Table.{Table}
+use Rattle.fixed_point.proofs.Soundness.{closed_tables_are_sound}
 use Rattle.fixed_point.proofs.Tables.{full_traces_close, tables_fit_the_image}
 use Rattle.worklist.specs.Views.{play_in, reached_at}
 use Rattle.worklist.proofs.Tables.{all_move, few_reached, table_fits, table_made}
@@ -56,3 +57,11 @@ returns-clause-image g c =
     tables_fit_the_image A laws trace (listings g.A.Analyser.view t)
     (table_fits g.A.Analyser.view A laws c.run.new.work t c.in_ok-trace.ensures.fine c.in_ok-blocks.ensures.value)
     (table_made g.A.Analyser.view A laws c.run.new.work t (play A trace) c.in_ok-blocks.ensures.value c.in_ok-trace.ensures.value.like)
+
+pub returns-clause-sound : goal.returns-clause-sound
+returns-clause-sound g c =
+    let A = g.A.Analyser.analysis c.args.analyser.now in
+    let ready = c.requires.ready in
+    let t : Table _ = record { blocks = c.in_ok-blocks.blocks } in
+    closed_tables_are_sound A (g.A.Analyser.machine c.args.analyser.now) (g.met.A.Analyser.laws c.args.analyser.now ready) (g.met.A.Described.sound c.args.analyser.now ready)
+    (listings g.A.Analyser.view t) (returns-clause-fits g c) (returns-clause-closed g c)

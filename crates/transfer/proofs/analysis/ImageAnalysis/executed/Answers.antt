@@ -1,4 +1,4 @@
-use Rattle.std.proofs.Common.{◌∙◌, Ok, map, sym, ap, subst}
+use Rattle.std.proofs.Common.{◌∙◌, Ok, Err, map, sym, ap, subst}
 use Rattle.abs_value.specs.View.{abs}
 use Rattle.base_trait.specs.Uses.{uses_of}
 use Rattle.tsl_values.specs.Views.{val}
@@ -7,7 +7,7 @@ use Rattle.transfer_laws.specs.Transfer.{outcome_of}
 use Rattle.transfer_laws.proofs.Evaluated.{are_arguments}
 use Rattle.transfer.specs.Analysis.{calls_of, problem}
 use Rattle.transfer.specs.Laws.{is_analysed}
-use Rattle.transfer.proofs.Evaluated.{counted_state, gave_none, gave_value}
+use Rattle.transfer.proofs.Evaluated.{counted_state, gave_deep, gave_none, gave_value, not_deep}
 use Rattle.transfer.proofs.Outcomes.{instead}
 use Rattle.transfer.proofs.analysis.ImageAnalysis.executed.Goals as goal
 
@@ -77,3 +77,20 @@ returns-in-Ok-None g c =
     (sym (ap (outcome_of B M p (g.D.Domain.view c.args.x.now))
     (ap calls (sym c.in_ok-args.ensures) ∙ gave_none abs c.evaluated.result log (calls (map abs c.in_ok-args.args.items)) (c.in-Ok-None.is ∙ ap Ok c.in-Ok-None.field-0-is) c.evaluated.ensures)))
     c.ended.ensures
+
+pub unreachable-requires : goal.unreachable-requires
+unreachable-requires g c =
+    let B = g.D.B.Base.algebra in
+    let laws = g.met.D.B.Base.laws in
+    let cap = g.D.B.Base.CAP in
+    let it = c.args.self.now in
+    let D = g.D.Domain.elements it.domain.now in
+    let M = g.D.Domain.meaning it.domain.now in
+    let p = problem it in
+    let ready = c.requires.ready in
+    let calls = calls_of B cap M p c.args.at it.machine.interp in
+    let log = uses_of c.evaluated.new.log in
+    let analysed = is_analysed B laws cap D M (g.D.Domain.is_for it.domain.now) it (g.met.D.Domain.laws it.domain.now p.spec ready.made) ready in
+    not_deep B laws cap D M p (calls_of B cap M p) analysed c.args.at (g.D.Domain.view c.args.x.now) c.args.word (val c.args.instruction.now) c.in-Err-Deep._function
+    c.ranges.at.fits c.requires.fits c.requires.decoded
+    (ap calls (sym c.in_ok-args.ensures) ∙ gave_deep abs c.evaluated.result log (calls (map abs c.in_ok-args.args.items)) c.in-Err-Deep._function (c.in-Err-Deep.is ∙ ap Err c.in-Err-Deep.field-0-is) c.evaluated.ensures)
