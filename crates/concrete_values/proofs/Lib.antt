@@ -1,0 +1,5 @@
+pub mod Exact
+pub mod Meant
+pub mod Same
+pub mod Single
+pub mod Views
