@@ -1,4 +1,4 @@
--- The reinterpretation of calls as a function of the specification alone, level by level: a call at a level has the answer of an
+-- The reinterpretation of calls as a function, computed level by level: a call at a level has the answer of an
 -- activation whose calls of other groups are those one level down. Groups call groups of lower rank, and no rank is greater than the
 -- number of functions, so one more level than that has all calls. For example, where f calls g and g calls none, level 1 has the
 -- calls of g, and level 2 those of f.

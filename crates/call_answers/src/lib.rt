@@ -1,4 +1,4 @@
-//! The reinterpretation of calls as a function of the specification alone: definitions and laws. Nothing runs.
+//! The reinterpretation of calls as a function, computed level by level: definitions and laws. Nothing runs.
 //!
 //! `reinterpretation` says by a relation which `calls` are right. Here they are a total function of plain data, `answers` (specs/Answers):
 //! a call has the answer of an activation that is driven turn by turn (specs/Driven), and calls go level by level.

@@ -7,9 +7,8 @@
 //!
 //! # From a domain to an analysis
 //!
-//! A struct of references to a domain, its specification and what else a transfer needs has a ghost field
-//! `{ IsTrue (D.is_for domain.now (specification spec.now)) }`, and its analysis has the domain's elements. `is_for` is a
-//! test since such a field has to have one proof at most.
+//! A struct of references to a domain, its specification and what else a transfer needs is an analysis (`transfer`), with the
+//! domain's elements. It is ready where, besides, `is_for` says that the domain is for its specification.
 #![tactic(auto)]
 
 mod domain;

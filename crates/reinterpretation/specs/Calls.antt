@@ -45,7 +45,7 @@ module _ {W N C : Type 0} (B : Algebra W N C) (c : C) (cap : ℕ) (spec : Spec) 
     IsCallAnswer calls f args answer = IsAnswer f (group_turn B c cap spec a calls (group_of spec f)) (moves B c cap) policy (only f args) [] answer
 
     -- `calls` is the reinterpretation of the functions: each call of one on arguments that are its has the answer of an activation,
-    -- from an empty log, and no other call has a value.
+    -- from an empty log. Calls of a function that is missing, and on arguments of other types, have no value.
     pub record AreRight (calls : ℕ → List (Abs W N) → Answer (Abs W N)) : Type 0 where
       pub missing : (f : ℕ) (args : List (Abs W N)) → length spec.funs ≤ f → calls f args ≡ gives None []
       pub untyped : (f : ℕ) (args : List (Abs W N)) → have_types (environment_of spec) (parts args) (params_of spec f) ≡ false → calls f args ≡ gives None []

@@ -57,7 +57,8 @@ enter scope name ty = scope ++ (name, type_or ty) ∷ []
 
 module _ (env : Environment) where
   abbrev mutual
-    -- The type of a term, where it has no fault: what is left of it decides it.
+    -- The type of a term without faults: where parts have to be of one type, the first of them fixes it. Of a term with a fault it
+    -- means nothing, and nothing below looks at it.
     pub type_of : Scope → Expr → Option Ty
     type_of scope (e.let_in name x body span) = type_of (enter scope name.text (type_of scope x)) body
     type_of scope (e.if_else c x y span) = type_of scope x
@@ -75,7 +76,7 @@ module _ (env : Environment) where
     type_of scope (e.match_on x arms span) = arms_type scope (type_or (type_of scope x)) arms
     type_of scope (e.paren x span) = type_of scope x
 
-    -- that of the first arm, where values have a type
+    -- that of the first arm, where the values that are matched have a type
     pub arms_type : Scope → Ty → ExprArms → Option Ty
     arms_type scope ty e.no_arm = None
     arms_type scope ty (e.arm p body span rest) = type_of (scope ++ variables env ty p) body
@@ -142,7 +143,7 @@ module _ (env : Environment) where
     argument_faults scope (t ∷ ts) (e.Terms.more a args) = wanted env t (part_of a (fault_in scope a) (type_of scope a)) then argument_faults scope ts args
     argument_faults scope _ _ = None
 
-    -- of arms, where values have a type, and the bodies the type that the first one fixes
+    -- of arms, where the values that are matched have a type, and of bodies the type that the first one fixes is wanted
     pub arms_fault : Scope → Ty → Option Ty → ExprArms → Option SpecError
     arms_fault scope ty want e.no_arm = None
     arms_fault scope ty want (e.arm p body span rest) =

@@ -1,4 +1,4 @@
--- Calls on values, part by part. Two values that are not of one type give the first of them, and do not absorb one another.
+-- Calls on values, part by part. Of two values that are not of one type the calls give some value, and neither absorbs the other.
 use Rattle.std.specs.Prelude.{ℕ, Bool, true, false, ◌&&◌, ◌||◌, ◌==◌, not, if◌then◌else◌, Option, Some, None}
 use Rattle.base_trait.specs.Algebra.{Algebra}
 use Rattle.base_trait.specs.declared.tri.Tri.{Tri}

@@ -1,4 +1,4 @@
--- The shape of a type: a finite tree, since no datatype contains itself. A value has one shape, whatever its constructors.
+-- The shape of a type: a finite tree, since no datatype contains itself. The values of a type have one shape, whatever their constructors.
 use Rattle.std.specs.Prelude.{◌≡◌, ℕ, ◌+◌, ⊤, Bool, true, false}
 use Rattle.base_trait.specs.Algebra.{Algebra}
 use Rattle.base_trait.specs.declared.uses.Stamped.{Stamped}

@@ -7,8 +7,8 @@
 //!
 //! *Calls* go part by part (specs/Calls). Join and widening are one recursion, `merge_of`, over what is done with two words
 //! and with two maps: constructor by constructor, where one that is on one side alone comes as it is. So
-//! `{ None: present }` and `{ Some: [{1}] }` merge to `{ None: present, Some: [{1}] }`. They are total: two values that
-//! are not of one type give the first. What absorbs has to have each constructor that the other has.
+//! `{ None: present }` and `{ Some: [{1}] }` merge to `{ None: present, Some: [{1}] }`. They are total: of two
+//! values that are not of one type they give some value. What absorbs has to have each constructor that the other has.
 //!
 //! *Shapes* (specs/Shapes). A type is a finite tree, since no datatype contains itself, and a value of it has its shape. A
 //! rank is counted along the shape: a missing constructor is one more than the greatest rank that its fields can have, so
