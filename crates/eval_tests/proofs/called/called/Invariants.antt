@@ -1,0 +1,4 @@
+use Rattle.eval_tests.proofs.called.called.Given as goal
+
+abbrev pub ghosts-counted : goal.ghosts-counted
+ghosts-counted g a = record { name = a.blank.name; parts = a.blank.parts }

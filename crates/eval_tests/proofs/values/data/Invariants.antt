@@ -1,0 +1,10 @@
+use Rattle.std.specs.Prelude.{IfSome}
+use Rattle.value_laws.specs.Fits.{Fits}
+use Rattle.abs_value.specs.View.{abs}
+use Rattle.eval_tests.proofs.values.data.Given as goal
+
+abbrev pub invariant-loop-part : goal.invariant-loop-part
+invariant-loop-part g l =
+    (goal.iterator-loop-part g).can_next l.part-iterator ×
+    (goal.iterator-loop-part g).is_finite l.part-iterator ×
+    IfSome l.found (λ v. Fits g.B.Base.algebra l.setting.ctx.now g.B.Base.CAP (abs v))

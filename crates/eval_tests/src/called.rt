@@ -1,0 +1,92 @@
+//! Calls of functions, each made twice with one memo.
+
+ghost use Rattle.std.specs.Prelude.{◌≡◌, ◌<◌, map};
+ghost use Rattle.abs_value.specs.View.{abs};
+ghost use Rattle.reinterpretation.specs.Calls.{AreArguments};
+ghost use Rattle.eval_state.specs.Memos.{entries};
+ghost use Rattle.eval_state.specs.Settings.{spec_of};
+ghost use Rattle.generic_eval.specs.Calls.{IsRight, MayEvaluate};
+
+use crate::shown::Shown;
+use crate::text::{push_deep, push_found, push_reads};
+use abs_value::AV;
+use base_trait::Log;
+use eval_state::{EvalError, Memo, Setting, copy_all, memo_len, memo_new};
+use generic_eval::eval;
+use std::alloc::{AllocError as NoMemory, Global};
+use std::marker::Brand;
+use std::sync::ledger::{Blank, Ledger};
+use step_counter::Steps;
+
+/// Appends what a call gives. As many steps are ticked as entries are added to the memo.
+fn push_call<B: Shown, L: Ledger>(
+    alloc: Global,
+    out: &mut String,
+    what: &str,
+    setting: &Setting<B>,
+    function: u32,
+    args: &[AV<B>],
+    memo: &mut Memo<B>,
+    steps: &mut Steps<L>,
+) -> Result<(), NoMemory>
+    requires ready { MayEvaluate B.algebra B.CAP setting.now }
+    requires args { AreArguments B.algebra setting.now.ctx.now B.CAP (spec_of setting.now) function (map abs args.now) }
+    requires memo { IsRight B.algebra B.CAP setting.now (entries memo.old) }
+    ensures { IsRight B.algebra B.CAP setting.now (entries memo.new) }
+{
+    let before = memo_len(memo);
+    let mut log = Log::new(alloc);
+    let args = copy_all(alloc, setting.ctx, args)?;
+    let given = eval::<B, L>(alloc, setting, function, args, memo, steps, &mut log);
+    let kept = memo_len(memo);
+    let ticked = kept.saturating_sub(before);
+    let counts = format!(in alloc; "    {what}: {ticked} ticked, {kept} kept, ")?;
+    out.push_str(counts.as_str())?;
+    match given {
+        Ok(value) => {
+            push_found(alloc, out, setting.spec, &value)?;
+            push_reads(alloc, out, setting.spec, &log)
+        }
+        Err(EvalError::Deep { function }) => push_deep(out, setting.spec, function),
+        Err(EvalError::NoMemory) => Err(NoMemory),
+    }
+}
+
+/// What a call gives twice, where the counter is of this blank.
+fn counted<B: Shown, L: Ledger>(
+    alloc: Global,
+    setting: &Setting<B>,
+    function: u32,
+    args: &[AV<B>],
+    blank: Blank,
+) -> Result<String, NoMemory>
+    requires name { blank.name ≡ L.name }
+    requires parts { blank.parts ≡ L.parts }
+    requires some { 0 < blank.parts }
+    requires ready { MayEvaluate B.algebra B.CAP setting.now }
+    requires args { AreArguments B.algebra setting.now.ctx.now B.CAP (spec_of setting.now) function (map abs args.now) }
+{
+    let mut memo = memo_new(alloc);
+    let mut steps: Steps<L> = Steps::new(blank);
+    let mut out = String::new(alloc);
+    push_call(
+        alloc, &mut out, "once", setting, function, args, &mut memo, &mut steps,
+    )?;
+    push_call(
+        alloc, &mut out, "again", setting, function, args, &mut memo, &mut steps,
+    )?;
+    Ok(out)
+}
+
+/// What a call gives twice, with a memo and a counter of its own.
+pub(crate) fn called<B: Shown>(
+    alloc: Global,
+    setting: &Setting<B>,
+    function: u32,
+    args: &[AV<B>],
+) -> Result<String, NoMemory>
+    requires ready { MayEvaluate B.algebra B.CAP setting.now }
+    requires args { AreArguments B.algebra setting.now.ctx.now B.CAP (spec_of setting.now) function (map abs args.now) }
+{
+    counted::<B, Brand>(alloc, setting, function, args, Blank::new(1))
+}

@@ -1,0 +1,154 @@
+//! What cases give.
+
+ghost use Rattle.std.specs.Prelude.{◌≤◌, IfSome, IsTrue, length};
+ghost use Rattle.spec_types.specs.Views.{specification};
+ghost use Rattle.meaning_laws.specs.Accepted.{IsAccepted};
+ghost use Rattle.recursion_fix.specs.Activation.{HasTurn};
+ghost use Rattle.call_answers.specs.Laws.{JoinsUnder};
+
+use crate::arguments::{arguments, function};
+use crate::called::called;
+use crate::shown::Shown;
+use accepted_specs::laws::checked_are_accepted;
+use cir_lower::lower;
+use concrete_base::Concrete;
+use defuse_base::DefUse;
+use eval_state::Setting;
+use interval_base::Interval;
+use kset_base::KSet;
+use paired_base::Paired;
+use recursion_fix::Policy;
+use spec_types::{Spec, Use};
+use std::alloc::{AllocError as NoMemory, Global};
+use tsl_lexer::lex;
+use tsl_parser::parse;
+use tsl_types::check;
+
+/// The address of the instruction.
+const AT: u32 = 4096;
+
+/// The specification of a text that is a library without a fault, where memory lasts.
+fn library(alloc: Global, source: &[u8]) -> Option<Spec>
+    requires { length source.now ≤ 262144 }
+    ensures { IfSome result (λ spec. IsAccepted (specification spec)) }
+{
+    checked_are_accepted();
+    let Ok(tokens) = lex(alloc, source) else {
+        return None;
+    };
+    let Ok(tree) = parse(alloc, &tokens, source.len() as u32) else {
+        return None;
+    };
+    match check(alloc, &tree, Use::Library) {
+        Ok(spec) => Some(spec),
+        Err(_fault) => None,
+    }
+}
+
+/// The policy of `stop TURNS` or `widen UNROLL DELAY`, in decimal.
+fn policy(text: &str) -> Option<Policy>
+    ensures { IfSome result HasTurn }
+{
+    if let Some((unroll, delay)) = text.strip_prefix("widen ").and_then(|t| t.split_once(' ')) {
+        let unroll = unroll.parse::<u32>().ok()?;
+        let delay = delay.parse::<u32>().ok()?;
+        return Some(Policy::Widen { unroll, delay });
+    }
+    match text.strip_prefix("stop ")?.parse::<u32>() {
+        Ok(turns) if turns >= 1 => Some(Policy::Stop { turns }),
+        _ => None,
+    }
+}
+
+fn no_case(alloc: Global) -> Result<String, NoMemory> {
+    String::from_str(alloc, "    no case\n")
+}
+
+/// What a call gives over a base.
+fn over<B: Shown>(
+    alloc: Global,
+    ctx: B::Ctx,
+    spec: &Spec,
+    policy: Policy,
+    call: &str,
+) -> Result<String, NoMemory>
+    requires accepted { IsAccepted (specification spec.now) }
+    requires turn { HasTurn policy }
+    requires joins { JoinsUnder B.algebra policy }
+{
+    let Some((name, texts)) = call.split_once(" | ") else {
+        return no_case(alloc);
+    };
+    let Some(function) = function(spec, name) else {
+        return no_case(alloc);
+    };
+    let cir = lower(alloc, spec)?;
+    let setting: Setting<B> = Setting {
+        spec,
+        cir: &cir,
+        ctx: &ctx,
+        at: AT,
+        policy,
+    };
+    match arguments::<B>(alloc, &setting, function, texts)? {
+        Some(args) => called::<B>(alloc, &setting, function, &args),
+        None => no_case(alloc),
+    }
+}
+
+/// The same over a base that joins.
+fn over_joining<B: Shown>(
+    alloc: Global,
+    ctx: B::Ctx,
+    spec: &Spec,
+    policy: Policy,
+    call: &str,
+) -> Result<String, NoMemory>
+    requires accepted { IsAccepted (specification spec.now) }
+    requires turn { HasTurn policy }
+    requires joins { IsTrue B.algebra.joins }
+{
+    over::<B>(alloc, ctx, spec, policy, call)
+}
+
+/// What a call gives over the base of a name.
+fn over_named(
+    alloc: Global,
+    base: &str,
+    spec: &Spec,
+    policy: Policy,
+    call: &str,
+) -> Result<String, NoMemory>
+    requires accepted { IsAccepted (specification spec.now) }
+    requires turn { HasTurn policy }
+{
+    match (base, policy) {
+        ("concrete", Policy::Stop { turns }) => {
+            over::<Concrete>(alloc, (), spec, Policy::Stop { turns }, call)
+        }
+        ("kset", _) => over_joining::<KSet<16>>(alloc, (), spec, policy, call),
+        ("interval", _) => over_joining::<Interval>(alloc, (), spec, policy, call),
+        ("kset+defuse", _) => {
+            over_joining::<Paired<KSet<16>, DefUse>>(alloc, ((), ()), spec, policy, call)
+        }
+        _ => no_case(alloc),
+    }
+}
+
+/// What a case of a specification gives.
+pub(crate) fn answer(alloc: Global, source: &str, case: &str) -> Result<String, NoMemory> {
+    if source.len() > 262_144 {
+        return String::from_str(alloc, "    no specification\n");
+    }
+    let Some(spec) = library(alloc, source.as_bytes()) else {
+        return String::from_str(alloc, "    no specification\n");
+    };
+    let Some((setting, call)) = case.split_once(" | ") else {
+        return no_case(alloc);
+    };
+    let (base, words) = setting.split_once(' ').unwrap_or((setting, ""));
+    match policy(words) {
+        Some(policy) => over_named(alloc, base, &spec, policy, call),
+        None => no_case(alloc),
+    }
+}
