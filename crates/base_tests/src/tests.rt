@@ -7,6 +7,7 @@ use super::generic::sum_with_either;
 use base_trait::{Base, Log};
 use concrete_base::Concrete;
 use defuse_base::{DefUse, Stamps};
+use interval_base::Interval;
 use kset_base::KSet;
 use paired_base::Paired;
 use std::alloc::{AllocError, Global};
@@ -17,6 +18,8 @@ use word_ops::{Cmp, Op1, Op2};
 const ALL: u64 = 0xffff_ffff_ffff_ffff;
 
 type Pair = Paired<KSet<16>, KSet<1>>;
+
+type SetAndInterval = Paired<KSet<16>, Interval>;
 
 /// A call that gives a word. A cast has its new width.
 #[derive(Clone, Copy)]
@@ -409,6 +412,21 @@ fn comparisons(rt: HostRuntime) -> Result<(), Fail> {
         compared::<Concrete>(&rt, alloc, &(), Cmp::LtU, 8, &[250], &[7])?,
         "false"
     );
+    Ok(())
+}
+
+#[test]
+fn one_part_of_a_pair_decides(rt: HostRuntime) -> Result<(), Fail> {
+    let alloc = rt.alloc();
+    assert_eq!(rt;
+        compared::<SetAndInterval>(&rt, alloc, &((), ()), Cmp::LtU, 8, &[1, 9], &[5])?,
+        "both"
+    );
+    let low = word::<SetAndInterval>(&rt, alloc, &((), ()), 8, &[1, 3])?;
+    let set = word::<KSet<16>>(&rt, alloc, &(), 8, &[])?;
+    let range = word::<Interval>(&rt, alloc, &(), 8, &[5, 9])?;
+    let order = SetAndInterval::cmp(&((), ()), Cmp::LtU, 8, &low, &(set, range));
+    assert!(rt; order.may_true && !order.may_false);
     Ok(())
 }
 
