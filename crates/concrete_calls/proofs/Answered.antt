@@ -17,9 +17,9 @@ use Rattle.abs_value.specs.View.{abs}
 use Rattle.abs_value.specs.declared.value.AV.{AV}
 use Rattle.reinterpretation.specs.Answers.{Answer, behind}
 use Rattle.call_answers.specs.Answers.{answers}
-use Rattle.eval_state.specs.Given.{Gives}
-use Rattle.eval_state.specs.declared.error.EvalError.{EvalError}
-use Rattle.eval_state.specs.declared.error.EvalError.TheVariants as e
+use Rattle.eval_memo.specs.Given.{Gives}
+use Rattle.eval_memo.specs.declared.error.EvalError.{EvalError}
+use Rattle.eval_memo.specs.declared.error.EvalError.TheVariants as e
 use Rattle.concrete_values.specs.Laws as values
 use Rattle.concrete_values.specs.Laws.{AreArgumentsFor, IsMeant, room}
 use Rattle.concrete_values.proofs.Meant.{calls_are_meant}

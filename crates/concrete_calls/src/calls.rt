@@ -17,7 +17,7 @@ use abs_value::AV;
 use base_trait::Log;
 use cir_lower::Cir;
 use concrete_base::Concrete;
-use eval_state::{EvalError, Setting};
+use eval_memo::{EvalError, Setting};
 use generic_eval::eval_anew;
 use recursion_fix::Policy;
 use spec_types::Spec;

@@ -1,69 +1,120 @@
 -- Calls of the function of instructions.
-use Rattle.std.proofs.Common.{◌≡◌, ℕ, true, Some, List, [], ◌∷◌, subst, sym, ap, ap₂, refl, ◌∙◌, ◌++◌, map}
+use Rattle.std.proofs.Common.{◌≡◌, ℕ, true, Some, List, [], ◌∷◌, length, subst, sym, ap₂, refl, ◌++◌, map}
 use Rattle.std.specs.Prelude.{◌&&◌}
+use Rattle.std.proofs.lemmas.Bool.{lt-ltb}
+use Rattle.std.proofs.lemmas.Option.{slice_get_within}
+use Rattle.base_trait.specs.declared.uses.Stamped.{Stamped}
+use Rattle.concrete_base.specs.declared.Concrete.{Concrete}
+use Rattle.concrete_base.specs.Meaning.{concrete}
 use Rattle.spec_types.specs.declared.ty.Ty.TheVariants.{Data}
 use Rattle.spec_types.specs.declared.spec.Machine.{Machine}
 use Rattle.spec_types.specs.Specification.{Spec}
+use Rattle.spec_types.specs.WellFormed.{is_type}
 use Rattle.tsl_values.specs.Values.{Val, vals}
-use Rattle.tsl_values.specs.declared.value.Value.{Value}
 use Rattle.tsl_values.specs.States.{State, value_of}
-use Rattle.tsl_values.specs.Views.{val}
 use Rattle.tsl_values.specs.Types.{environment_of, has_type, have_types}
-use Rattle.base_trait.specs.Uses.{Read}
-use Rattle.meaning.specs.Outcomes.{Outcome, gives}
-use Rattle.meaning.specs.Runs.{meaning, stepped_of, steps_to, deep}
+use Rattle.meaning.specs.Outcomes as o
+use Rattle.meaning.specs.Outcomes.{Outcome}
+use Rattle.meaning.specs.Runs as r
+use Rattle.meaning.specs.Runs.{meaning, stepped_of}
 use Rattle.meaning_laws.specs.Typed.{IsOutcomeOf}
 use Rattle.meaning_laws.proofs.Turns.{meanings_have_types}
 use Rattle.meaning_laws.specs.Accepted.{IsAccepted, IsMachine, IsMachineIfAny}
-use Rattle.tsl_den.specs.declared.outcome.Direct.{Direct}
-use Rattle.tsl_den.specs.declared.outcome.Direct.TheVariants.{Done, Deep}
-use Rattle.tsl_den.specs.Calls.{IsCall, IsMeant}
-use Rattle.emulator.specs.Values.{state_of}
+use Rattle.value_laws.specs.Abs.{Abs, parts}
+use Rattle.value_types.specs.OfValues.{ValueFits, of_value}
+use Rattle.value_types.specs.Types as abstract
+use Rattle.abs_value.specs.View.{abs}
+use Rattle.abs_value.specs.declared.value.AV.{AV}
+use Rattle.reinterpretation.specs.Terms.{params_in}
+use Rattle.concrete_values.specs.Laws.{AreArgumentsFor, StandsFor, room}
+use Rattle.concrete_calls.specs.declared.outcome.Called.TheVariants.{Deep, Done}
+use Rattle.concrete_calls.specs.Calls.{IsMeantBy}
+use Rattle.concrete_calls.proofs.Typed.{is_standing, value_fits}
+use Rattle.emulator.specs.States.{Shows}
+use Rattle.emulator.specs.Values.{IsStepped}
+use Rattle.emulator.specs.declared.step.Stepped.TheVariants as c
 use Rattle.emulator.proofs.States.{of_state}
 
 pub machine_of : (spec : Spec) (m : Machine) → IsAccepted spec → spec.machine ≡ Some m → IsMachine spec m
 machine_of spec m ok e = subst (IsMachineIfAny spec) e ok.machine
 
-pub call_is : (spec : Spec) (m : Machine) (p q : Val) → IsAccepted spec → spec.machine ≡ Some m → has_type (environment_of spec) p (Data m.instr) ≡ true → has_type (environment_of spec) q (Data m.state) ≡ true → IsCall spec m.interp (p ∷ q ∷ [])
-call_is spec m p q ok e h k =
-    let is = machine_of spec m ok e in
-    let typed : have_types (environment_of spec) (vals (p ∷ q ∷ [])) (Data m.instr ∷ Data m.state ∷ []) ≡ true = ap₂ (λ a b. a && (b && true)) h k in
-    record { function = is.interp; there = is.interp_there; typed = subst (λ ts. have_types (environment_of spec) (vals (p ∷ q ∷ [])) ts ≡ true) (sym is.takes) typed }
+module _ (spec : Spec) (m : Machine) (ok : IsAccepted spec) (e : spec.machine ≡ Some m) where
+  instr_is : is_type (environment_of spec) (Data m.instr) ≡ true
+  instr_is = lt-ltb m.instr (length spec.datas) (machine_of spec m ok e).instr
 
--- what the function of instructions gives has the type of states
-pub given_typed : (spec : Spec) (m : Machine) (p q v : Val) (a d : ℕ) (l : List Read) → IsAccepted spec → spec.machine ≡ Some m → has_type (environment_of spec) p (Data m.instr) ≡ true → has_type (environment_of spec) q (Data m.state) ≡ true
-    → meaning spec a d m.interp (p ∷ q ∷ []) [] ≡ gives v l → has_type (environment_of spec) v (Data m.state) ≡ true
-given_typed spec m p q v a d l ok e h k given =
-    let is = machine_of spec m ok e in
-    let call = call_is spec m p q ok e h k in
-    let typed : have_types (environment_of spec) (vals (p ∷ q ∷ [])) is.interp.params ≡ true = subst (λ ts. have_types (environment_of spec) (vals (p ∷ q ∷ [])) ts ≡ true) (sym is.takes) (ap₂ (λ a b. a && (b && true)) h k) in
-    let out = meanings_have_types spec a d m.interp is.interp (p ∷ q ∷ []) [] ok is.interp_there typed refl in
-    let of : IsOutcomeOf (environment_of spec) (Data m.state) (gives v l) = subst (IsOutcomeOf (environment_of spec) (Data m.state)) given (subst (λ ty. IsOutcomeOf (environment_of spec) ty (meaning spec a d m.interp (p ∷ q ∷ []) [])) is.returns out) in
-    of.0
+  state_is : is_type (environment_of spec) (Data m.state) ≡ true
+  state_is = let is = machine_of spec m ok e in lt-ltb m.state (length spec.datas) (slice_get_within spec.datas m.state is.states is.states_there)
 
--- what a step comes to where the call gives a value
-pub record IsDone (x : Val) (out : Outcome Val) : Type 0 where
-  pub next : State
-  pub there : state_of x ≡ Some next
-  pub reads : List Read
-  pub step : stepped_of out ≡ steps_to next reads
+  pub instruction_fits : (p : Val) → has_type (environment_of spec) p (Data m.instr) ≡ true → ValueFits (environment_of spec) p
+  instruction_fits p h = value_fits spec ok p (Data m.instr) instr_is h
 
-module _ (spec : Spec) (m : Machine) (p : Val) (s : State) (d : ℕ) (ok : IsAccepted spec) (e : spec.machine ≡ Some m) (h : has_type (environment_of spec) p (Data m.instr) ≡ true) (k : has_type (environment_of spec) (value_of m.state s) (Data m.state) ≡ true) (args : List Val) (answer : Direct)
-    (are : args ≡ p ∷ value_of m.state s ∷ []) (meant : IsMeant answer (meaning spec s.pc d m.interp args [])) where
-  given : (v : Value) → answer ≡ Done v → (reads : List Read) × (meaning spec s.pc d m.interp (p ∷ value_of m.state s ∷ []) [] ≡ gives (val v) reads)
-  given v is = subst (λ a. IsMeant a (meaning spec s.pc d m.interp (p ∷ value_of m.state s ∷ []) [])) is (subst (λ as_. IsMeant answer (meaning spec s.pc d m.interp as_ [])) are meant)
+  -- ---- the value of a state
+  pub state_fits : (s : State) → has_type (environment_of spec) (value_of m.state s) (Data m.state) ≡ true → ValueFits (environment_of spec) (value_of m.state s)
+  state_fits s h = value_fits spec ok (value_of m.state s) (Data m.state) state_is h
 
-  pub done_step : (v : Value) → answer ≡ Done v → IsDone (val v) (meaning spec s.pc d m.interp (p ∷ value_of m.state s ∷ []) [])
-  done_step v is =
-      let g = given v is in
-      let of = of_state spec m (machine_of spec m ok e) (val v) (given_typed spec m p (value_of m.state s) (val v) s.pc d g.0 ok e h k g.1) in
-      record { next = of.next; there = of.there; reads = g.0; step = ap stepped_of g.1 ∙ of.step g.0 }
+  pub state_shown : (s : State) (x : Abs ℕ Stamped) → has_type (environment_of spec) (value_of m.state s) (Data m.state) ≡ true → x ≡ of_value concrete tt room (environment_of spec) (value_of m.state s) → Shows spec m.state s x
+  state_shown s x h is =
+      let stands = is_standing spec ok (value_of m.state s) (Data m.state) state_is h in
+      subst (Shows spec m.state s) (sym is) (record { of_type = h; typed = stands.typed; fits = stands.fits; stands = stands.stands })
 
-  pub deep_step : answer ≡ Deep → stepped_of (meaning spec s.pc d m.interp (p ∷ value_of m.state s ∷ []) []) ≡ deep
-  deep_step is =
-      let g = subst (λ a. IsMeant a (meaning spec s.pc d m.interp (p ∷ value_of m.state s ∷ []) [])) is (subst (λ as_. IsMeant answer (meaning spec s.pc d m.interp as_ [])) are meant) in
-      ap stepped_of g.1
+  -- ---- an instruction and a state as arguments
+  module _ (p : Val) (h : has_type (environment_of spec) p (Data m.instr) ≡ true) (s : State) (x : Abs ℕ Stamped) (shows : Shows spec m.state s x) where
+    pub arguments : AreArgumentsFor spec m.interp (machine_of spec m ok e).interp (of_value concrete tt room (environment_of spec) p ∷ x ∷ []) (p ∷ value_of m.state s ∷ [])
+    arguments =
+        let env = environment_of spec in
+        let is = machine_of spec m ok e in
+        let first = is_standing spec ok p (Data m.instr) instr_is h in
+        let xs = of_value concrete tt room env p ∷ x ∷ [] in
+        let typed : abstract.have_types env (parts xs) (Data m.instr ∷ Data m.state ∷ []) ≡ true = ap₂ (λ a b. a && (b && true)) first.typed shows.typed in
+        let concrete_typed : have_types env (vals (p ∷ value_of m.state s ∷ [])) (Data m.instr ∷ Data m.state ∷ []) ≡ true = ap₂ (λ a b. a && (b && true)) h shows.of_type in
+        record {
+          there = is.interp_there;
+          arguments = record {
+            typed = subst (λ o. abstract.have_types env (parts xs) (params_in o) ≡ true) (sym is.interp_there) (subst (λ ts. abstract.have_types env (parts xs) ts ≡ true) (sym is.takes) typed);
+            fit = (first.fits, (shows.fits, tt));
+          };
+          stand = (first.stands, (shows.stands, tt));
+          typed = subst (λ ts. have_types env (vals (p ∷ value_of m.state s ∷ [])) ts ≡ true) (sym is.takes) concrete_typed;
+        }
+
+    -- ---- what the call gives
+    module _ (at : ℕ) (d : ℕ) where
+      abbrev call : Outcome Val
+      call = meaning spec at d m.interp (p ∷ value_of m.state s ∷ []) []
+
+      given_typed : IsOutcomeOf (environment_of spec) (Data m.state) call
+      given_typed =
+          let is = machine_of spec m ok e in
+          subst (λ ty. IsOutcomeOf (environment_of spec) ty call) is.returns (meanings_have_types spec at d m.interp is.interp (p ∷ value_of m.state s ∷ []) [] ok is.interp_there arguments.typed refl)
+
+      pub done_step : (next : AV Concrete ℕ Stamped (Unit {0})) → IsMeantBy spec (machine_of spec m ok e).interp (Done next) call → IsStepped spec m.state s (c.To next) (stepped_of call)
+      done_step next meant = by call given_typed meant
+        where
+          by : (out : Outcome Val) → IsOutcomeOf (environment_of spec) (Data m.state) out → IsMeantBy spec (machine_of spec m ok e).interp (Done next) out → IsStepped spec m.state s (c.To next) (stepped_of out)
+          by (o.deep i) typed meant = absurd meant
+          by o.wrong typed meant = absurd meant
+          by (o.gives v reads) typed meant =
+              let is = machine_of spec m ok e in
+              let of = of_state spec m is v typed.0 in (
+                of.next,
+                reads,
+                of.step reads,
+                record {
+                  of_type = subst (λ u. has_type (environment_of spec) u (Data m.state) ≡ true) of.same typed.0;
+                  typed = subst (λ ty. abstract.has_type (environment_of spec) (abs next) ty ≡ true) is.returns meant.typed;
+                  fits = meant.fits;
+                  stands = subst (λ u. StandsFor (abs next) u) of.same meant.stands;
+                },
+              )
+
+      pub deep_step : IsMeantBy spec (machine_of spec m ok e).interp Deep call → stepped_of call ≡ r.deep
+      deep_step meant = by call meant
+        where
+          by : (out : Outcome Val) → IsMeantBy spec (machine_of spec m ok e).interp Deep out → stepped_of out ≡ r.deep
+          by (o.deep i) meant = refl
+          by o.wrong meant = absurd meant
+          by (o.gives v reads) meant = absurd meant
 
 -- the two arguments
-pub arguments : (xs₀ xs₁ xs₂ : List Value) (i v : Value) (q : Val) → xs₀ ≡ [] → xs₁ ≡ xs₀ ++ i ∷ [] → xs₂ ≡ xs₁ ++ v ∷ [] → val v ≡ q → map val xs₂ ≡ val i ∷ q ∷ []
-arguments xs₀ xs₁ xs₂ i v q e₀ e₁ e₂ e = rw (e₂, e₁, e₀, ← e) refl
+pub pushed : (xs₀ xs₁ xs₂ : List (AV Concrete ℕ Stamped (Unit {0}))) (i v : AV Concrete ℕ Stamped (Unit {0})) (x : Abs ℕ Stamped) → xs₀ ≡ [] → xs₁ ≡ xs₀ ++ i ∷ [] → xs₂ ≡ xs₁ ++ v ∷ [] → abs i ≡ x → map abs xs₂ ≡ x ∷ abs v ∷ []
+pushed xs₀ xs₁ xs₂ i v x e₀ e₁ e₂ e = rw (e₂, e₁, e₀, ← e) refl

@@ -1,19 +1,32 @@
 -- Ends of runs.
 use Rattle.std.proofs.Common.{◌≡◌, ℕ, zero, suc, ◌+◌, ◌≤◌, Some, Option, refl, ap, sym, ◌∙◌, arith, ◌-◌, ◌<◌, subst}
+use Rattle.base_trait.specs.declared.uses.Stamped.{Stamped}
+use Rattle.concrete_base.specs.declared.Concrete.{Concrete}
+use Rattle.abs_value.specs.View.{abs}
+use Rattle.abs_value.specs.declared.value.AV.{AV}
 use Rattle.spec_types.specs.declared.spec.Machine.{Machine}
 use Rattle.spec_types.specs.Specification.{Spec}
 use Rattle.tsl_values.specs.States.{State}
 use Rattle.meaning.specs.Runs as r
 use Rattle.meaning.specs.Runs.{Ended, Stepped, step, goes_on, run_from, after}
-use Rattle.meaning_laws.specs.KeptTypes.{IsTypedState, IsTypedStep}
-use Rattle.state_text.specs.declared.stop.Stop.TheVariants.{Left, Undecodable, Turns}
-use Rattle.tsl_values.specs.Types.{environment_of}
+use Rattle.value_laws.specs.Abs.{Abs}
+use Rattle.state_text.specs.declared.stop.Stop.TheVariants.{Bound, Left, Undecodable, Turns}
 use Rattle.tsl_values.specs.Views.{state}
 use Rattle.tsl_values.specs.declared.value.State.{State as CodeState}
-use Rattle.emulator.specs.declared.step.Stepped.{Stepped as Code}
-use Rattle.emulator.specs.declared.step.Stepped.TheVariants as c
 use Rattle.emulator.specs.Ends.{IsEnd, stop_at}
+use Rattle.emulator.specs.Laws.{AllAscend, IsSameState}
+use Rattle.emulator.specs.States.{IsLast, IsOfState, IsStateValue, Shows}
 use Rattle.emulator.specs.Values.{IsStepped}
+use Rattle.emulator.specs.declared.step.Stepped.{Stepped as CodeStepped}
+use Rattle.emulator.specs.declared.step.Stepped.TheVariants as c
+use Rattle.emulator.proofs.Standing.{state_value}
+
+abbrev CodeValue : Type 0
+CodeValue = AV Concrete ℕ Stamped (Unit {0})
+
+-- the state that is last, of all for which a value stands
+abbrev IsLastOf : Abs ℕ Stamped → State → Type 0
+IsLastOf x last = (s : State) → IsStateValue s x → IsLast last s
 
 module _ (spec : Spec) (m : Machine) (code : ℕ → Option ℕ) (d : ℕ) where
   -- a run has done no fewer steps at its end than at its beginning
@@ -60,40 +73,72 @@ module _ (spec : Spec) (m : Machine) (code : ℕ → Option ℕ) (d : ℕ) where
       let make : ℕ → Ended = λ j. record { state = end.state; done = j; stop = r.Stop.bound } in
       before n 0 s k (e ∙ sym zero_less) ∙ ap make zero_less
 
+  -- where a run stands after some steps: its state is one for which the value stands
+  pub record Reaches (bound : ℕ) (start : State) (done : ℕ) (x : Abs ℕ Stamped) : Type 0 where
+    pub at : State
+    pub shows : Shows spec m.state at x
+    pub run : run_from spec m code d bound 0 start ≡ run_from spec m code d (bound - done) done at
+
+  pub begins : (bound : ℕ) (start : State) (x : Abs ℕ Stamped) → Shows spec m.state start x → Reaches bound start 0 x
+  begins bound start x shows = let all : bound ≡ bound - 0 = omega arith in record { at = start; shows = shows; run = ap (λ n. run_from spec m code d n 0 start) all }
+
+  pub reached_state : (bound : ℕ) (start : State) (done : ℕ) (x : Abs ℕ Stamped) → Reaches bound start done x → IsOfState x
+  reached_state bound start done x so_far = record { shown = so_far.at; is = state_value spec m.state so_far.at x so_far.shows }
+
   -- ---- one step of the loop
-  module _ (bound done : ℕ) (start s : State) (x : Code) (so_far : run_from spec m code d bound 0 start ≡ run_from spec m code d (bound - done) done s) (more : done < bound) (stepped : IsStepped s x (step spec m code d s)) where
-    next_run : run_from spec m code d bound 0 start ≡ goes_on spec m code d (run_from spec m code d (bound - (done + 1)) (suc done)) done s (step spec m code d s)
+  module _ (bound : ℕ) (start : State) (done : ℕ) (x : Abs ℕ Stamped) (so_far : Reaches bound start done x) (more : done < bound) (y : CodeStepped) (stepped : IsStepped spec m.state so_far.at y (step spec m code d so_far.at)) where
+    comes_to : (z : CodeStepped) → y ≡ z → IsStepped spec m.state so_far.at z (step spec m code d so_far.at)
+    comes_to z is = subst (λ u. IsStepped spec m.state so_far.at u (step spec m code d so_far.at)) is stepped
+
+    next_run : run_from spec m code d bound 0 start ≡ goes_on spec m code d (run_from spec m code d (bound - (done + 1)) (suc done)) done so_far.at (step spec m code d so_far.at)
     next_run =
         let left : bound - done ≡ suc (bound - (done + 1)) = omega (arith, more) in
-        so_far ∙ ap (λ n. run_from spec m code d n done s) left
+        so_far.run ∙ ap (λ n. run_from spec m code d n done so_far.at) left
 
-    stops : (y : Stepped) → step spec m code d s ≡ y → after spec m code d bound start ≡ goes_on spec m code d (run_from spec m code d (bound - (done + 1)) (suc done)) done s y
-    stops y is = next_run ∙ ap (goes_on spec m code d (run_from spec m code d (bound - (done + 1)) (suc done)) done s) is
+    stops : (z : Stepped) → step spec m code d so_far.at ≡ z → after spec m code d bound start ≡ goes_on spec m code d (run_from spec m code d (bound - (done + 1)) (suc done)) done so_far.at z
+    stops z is = next_run ∙ ap (goes_on spec m code d (run_from spec m code d (bound - (done + 1)) (suc done)) done so_far.at) is
 
-    pub left_end : (t : CodeState) → x ≡ c.Left t → IsEnd (after spec m code d bound start) (record { state = t; done = done; stop = Left })
-    left_end t is =
-        let here = subst (λ y. IsStepped s y (step spec m code d s)) is stepped in
-        subst (λ end. IsEnd end (record { state = t; done = done; stop = Left })) (sym (stops r.left here.1)) (record { last = here.0; done = refl; stop = refl })
+    pub left_state : (same : CodeValue) → y ≡ c.Left same → IsOfState (abs same)
+    left_state same is = record { shown = so_far.at; is = state_value spec m.state so_far.at (abs same) (comes_to (c.Left same) is).0 }
 
-    pub undecodable_end : (t : CodeState) (word : ℕ) → x ≡ c.Undecodable t word → IsEnd (after spec m code d bound start) (record { state = t; done = done; stop = Undecodable t.pc word })
-    undecodable_end t word is =
-        let here = subst (λ y. IsStepped s y (step spec m code d s)) is stepped in
-        let at = ap (λ z. Some (Undecodable z.pc word)) (sym here.0) in
-        subst (λ end. IsEnd end (record { state = t; done = done; stop = Undecodable t.pc word })) (sym (stops (r.undecodable word) here.1)) (record { last = here.0; done = refl; stop = at })
+    pub left_end : (same : CodeValue) (t : CodeState) → y ≡ c.Left same → IsLastOf (abs same) (state t) → IsEnd (after spec m code d bound start) (record { state = t; done = done; stop = Left })
+    left_end same t is of =
+        let here = comes_to (c.Left same) is in
+        let last = of so_far.at (state_value spec m.state so_far.at (abs same) here.0) in
+        subst (λ end. IsEnd end (record { state = t; done = done; stop = Left })) (sym (stops r.left here.1)) (record { last = last.same; ascending = last.ascending; done = refl; stop = refl })
 
-    pub deep_end : x ≡ c.Deep → ((after spec m code d bound start).done ≡ done) × ((after spec m code d bound start).stop ≡ r.Stop.turns)
+    pub undecodable_state : (same : CodeValue) (word : ℕ) → y ≡ c.Undecodable same word → IsOfState (abs same)
+    undecodable_state same word is = record { shown = so_far.at; is = state_value spec m.state so_far.at (abs same) (comes_to (c.Undecodable same word) is).0 }
+
+    pub undecodable_end : (same : CodeValue) (word : ℕ) (t : CodeState) → y ≡ c.Undecodable same word → IsLastOf (abs same) (state t)
+        → IsEnd (after spec m code d bound start) (record { state = t; done = done; stop = Undecodable t.pc word })
+    undecodable_end same word t is of =
+        let here = comes_to (c.Undecodable same word) is in
+        let last = of so_far.at (state_value spec m.state so_far.at (abs same) here.0) in
+        let at = ap (λ pc. Some (Undecodable pc word)) (sym last.same.counter) in
+        subst (λ end. IsEnd end (record { state = t; done = done; stop = Undecodable t.pc word })) (sym (stops (r.undecodable word) here.1)) (record { last = last.same; ascending = last.ascending; done = refl; stop = at })
+
+    pub deep_end : y ≡ c.Deep → ((after spec m code d bound start).done ≡ done) × ((after spec m code d bound start).stop ≡ r.Stop.turns)
     deep_end is =
-        let here = subst (λ y. IsStepped s y (step spec m code d s)) is stepped in
+        let here = comes_to c.Deep is in
         (ap (λ end. end.done) (stops r.deep here), ap (λ end. end.stop) (stops r.deep here))
 
-    pub goes_further : (ty : ℕ) (t : CodeState) → x ≡ c.To t → IsTypedStep (environment_of spec) ty (step spec m code d s)
-        → (run_from spec m code d bound 0 start ≡ run_from spec m code d (bound - (done + 1)) (done + 1) (state t)) × IsTypedState (environment_of spec) ty (state t)
-    goes_further ty t is typed =
-        let here = subst (λ y. IsStepped s y (step spec m code d s)) is stepped in
+    pub goes_further : (next : CodeValue) → y ≡ c.To next → Reaches bound start (done + 1) (abs next)
+    goes_further next is =
+        let here = comes_to (c.To next) is in
         let one : suc done ≡ done + 1 = omega arith in
-        let of = subst (IsTypedStep (environment_of spec) ty) here.1 typed in
-        (stops (r.steps_to (state t) here.0) here.1 ∙ ap (λ k. run_from spec m code d (bound - (done + 1)) k (state t)) one, of.0)
+        record { at = here.0; shows = here.3; run = stops (r.steps_to here.0 here.1) here.2 ∙ ap (λ k. run_from spec m code d (bound - (done + 1)) k here.0) one }
+
+  -- the end of a run of all its steps
+  pub bound_end : (bound : ℕ) (start : State) (done : ℕ) (x : Abs ℕ Stamped) (t : CodeState) → Reaches bound start done x → bound ≤ done → done ≤ bound → IsLastOf x (state t)
+      → IsEnd (after spec m code d bound start) (record { state = t; done = bound; stop = Bound })
+  bound_end bound start done x t so_far no_more no_further of =
+      let none : bound - done ≡ 0 = omega (arith, no_more) in
+      let all : done ≡ bound = omega (arith, no_more, no_further) in
+      let last = of so_far.at (state_value spec m.state so_far.at x so_far.shows) in
+      let end = so_far.run ∙ ap (λ n. run_from spec m code d n done so_far.at) none in
+      subst (λ end. IsEnd end (record { state = t; done = bound; stop = Bound })) (sym end) (record { last = last.same; ascending = last.ascending; done = sym all; stop = refl })
 
 -- the end of a run that is stopped by a deep step
-pub turns_end : (end : Ended) (t : CodeState) (done : ℕ) → end.stop ≡ r.Stop.turns → end.done ≡ done → state t ≡ end.state → IsEnd end (record { state = t; done = done; stop = Turns t.pc })
-turns_end end t done stop count last = record { last = last; done = sym count; stop = ap (stop_at end.state.pc) stop ∙ ap (λ s. Some (Turns s.pc)) (sym last) }
+pub turns_end : (end : Ended) (t : CodeState) (done : ℕ) → end.stop ≡ r.Stop.turns → end.done ≡ done → IsSameState (state t) end.state → AllAscend (state t).parts → IsEnd end (record { state = t; done = done; stop = Turns t.pc })
+turns_end end t done stop count last ascending = record { last = last; ascending = ascending; done = sym count; stop = ap (stop_at end.state.pc) stop ∙ ap (λ pc. Some (Turns pc)) (sym last.counter) }

@@ -10,6 +10,7 @@ use Rattle.tsl_values.specs.Views.{state}
 use Rattle.meaning.specs.Runs as r
 use Rattle.meaning.specs.Runs.{Ended, after}
 use Rattle.meaning_laws.specs.KeptTypes.{IsTypedState}
+use Rattle.emulator.specs.Laws.{AllAscend, IsSameState}
 use Rattle.emulator.specs.declared.runs.Emulated.{Emulated}
 use Rattle.emulator.specs.declared.runs.Run.{Run}
 use Rattle.emulator.specs.declared.runs.Run.TheVariants as run
@@ -22,9 +23,11 @@ stop_at pc (r.Stop.undecodable word) = Some (Undecodable pc word)
 stop_at pc r.Stop.turns = Some (Turns pc)
 stop_at pc r.Stop.wrong = None
 
--- An answer is the end of a run: its last state, the number of steps that were done, and why it ended.
+-- An answer is the end of a run: its last state, the number of steps that were done, and why it ended. Maps of the state may list other
+-- cells than those of the run's, and have the same cell at each key; their keys ascend.
 pub record IsEnd (end : Ended) (answer : Emulated) : Type 0 where
-  pub last : state answer.state ≡ end.state
+  pub last : IsSameState (state answer.state) end.state
+  pub ascending : AllAscend (state answer.state).parts
   pub done : answer.done ≡ end.done
   pub stop : stop_at end.state.pc end.stop ≡ Some answer.stop
 

@@ -1,12 +1,14 @@
 -- States as values, and what a step of the code comes to.
-use Rattle.std.specs.Prelude.{◌≡◌, ◌^◌, nat_lt, Option, Some, None, List, if◌then◌else◌}
+use Rattle.std.specs.Prelude.{◌≡◌, ℕ, ◌^◌, nat_lt, Option, Some, None, List, if◌then◌else◌}
 use Rattle.base_trait.specs.Uses.{Read}
+use Rattle.spec_types.specs.Specification.{Spec}
 use Rattle.tsl_values.specs.Values.{Val, Vals, word, made, val_then, val_list}
 use Rattle.tsl_values.specs.States.{State}
-use Rattle.tsl_values.specs.Views.{state}
 use Rattle.meaning.specs.Runs as r
+use Rattle.abs_value.specs.View.{abs}
 use Rattle.emulator.specs.declared.step.Stepped.{Stepped}
 use Rattle.emulator.specs.declared.step.Stepped.TheVariants.{To, Left, Undecodable, Deep}
+use Rattle.emulator.specs.States.{Shows}
 
 -- the state of a constructor's fields, whose first is a counter of at most 32 bits
 abbrev pub state_of_parts : Vals → Option State
@@ -18,8 +20,9 @@ state_of (made ty case parts) = state_of_parts parts
 state_of _ = None
 
 -- A step from a state comes to this.
-abbrev pub IsStepped : State → Stepped → r.Stepped → Type 0
-IsStepped s (To next) step = (reads : List Read) × (step ≡ r.steps_to (state next) reads)
-IsStepped s (Left same) step = (state same ≡ s) × (step ≡ r.left)
-IsStepped s (Undecodable same code_word) step = (state same ≡ s) × (step ≡ r.undecodable code_word)
-IsStepped s Deep step = step ≡ r.deep
+module _ (spec : Spec) (ty : ℕ) (s : State) where
+  abbrev pub IsStepped : Stepped → r.Stepped → Type 0
+  IsStepped (To next) step = (n : State) × (reads : List Read) × (step ≡ r.steps_to n reads) × Shows spec ty n (abs next)
+  IsStepped (Left same) step = Shows spec ty s (abs same) × (step ≡ r.left)
+  IsStepped (Undecodable same code_word) step = Shows spec ty s (abs same) × (step ≡ r.undecodable code_word)
+  IsStepped Deep step = step ≡ r.deep

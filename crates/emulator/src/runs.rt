@@ -7,17 +7,20 @@ ghost use Rattle.tsl_values.specs.Views.{state};
 ghost use Rattle.meaning.specs.Runs.{after};
 ghost use Rattle.meaning_laws.specs.Accepted.{IsAccepted};
 ghost use Rattle.meaning_laws.specs.KeptTypes.{IsTypedState};
+ghost use Rattle.cir_lower.specs.Code.{IsCodeOf};
+ghost use Rattle.cir_lower.specs.Views.{code};
 ghost use Rattle.insn_decode.specs.Decoders.{IsDecoderOf};
 ghost use Rattle.insn_decode.specs.Image.{code_at};
 ghost use Rattle.emulator.specs.Ends.{IsEmulated, IsEnd, IsRun, IsStateOf};
 
+use crate::abstract_states::{begun, last};
 use crate::step::{Stepped, step};
-use crate::values::copied;
+use cir_lower::{Cir, lower};
 use insn_decode::{Decoder, Image};
 use spec_types::{Machine, Spec};
 use state_text::Stop;
 use std::alloc::{AllocError, Global};
-use tsl_den::State;
+use tsl_values::State;
 
 /// The end of a run: its last state, how many steps were done, and why there was no further one.
 #[derive(Debug, Drop)]
@@ -53,11 +56,15 @@ pub fn emulate(
     let Some(machine) = spec.machine else {
         unreachable!();
     };
-    let first = copied(alloc, &start)?;
-    match run_steps(alloc, spec, machine, decoder, image, first, bound, turns)? {
+    let cir = lower(alloc, spec)?;
+    match run_steps(
+        alloc, spec, &cir, machine, decoder, image, &start, bound, turns,
+    )? {
         Run::Ended(end) => Ok(end),
         Run::Deep(done) => {
-            match run_steps(alloc, spec, machine, decoder, image, start, done, turns)? {
+            match run_steps(
+                alloc, spec, &cir, machine, decoder, image, &start, done, turns,
+            )? {
                 Run::Ended(before) => Ok(stopped_by_turns(before)),
                 Run::Deep(_) => unreachable!(),
             }
@@ -81,32 +88,39 @@ fn stopped_by_turns(before: Emulated) -> Emulated
 fn run_steps(
     alloc: Global,
     spec: &Spec,
+    cir: &Cir,
     machine: Machine,
     decoder: &Decoder,
     image: &Image,
-    start: State,
+    start: &State,
     bound: u64,
     turns: u32,
 ) -> Result<Run, AllocError>
     requires accepted { IsAccepted (specification spec.now) }
     requires machine { (specification spec.now).machine ≡ Some machine }
+    requires code { IsCodeOf (code cir.now) (specification spec.now) }
     requires decoder { IsDecoderOf (specification spec.now).rows decoder.now }
-    requires typed { IsTypedState (environment_of (specification spec.now)) machine.state (state start) }
-    ensures { IfOk result (λ r. IsRun (after (specification spec.now) machine (code_at image.now) turns bound (state start)) r) }
+    requires typed { IsTypedState (environment_of (specification spec.now)) machine.state (state start.now) }
+    ensures { IfOk result (λ r. IsRun (after (specification spec.now) machine (code_at image.now) turns bound (state start.now)) r) }
 {
-    let mut s = start;
+    let mut s = begun(alloc, spec, machine, start)?;
     for done in 0..bound {
-        match step(alloc, spec, machine, decoder, image, s, turns)? {
+        match step(alloc, spec, cir, machine, decoder, image, s, turns)? {
             Stepped::To(next) => s = next,
-            Stepped::Left(state) => return Ok(ended(state, done, Stop::Left)),
-            Stepped::Undecodable(state, word) => {
+            Stepped::Left(same) => {
+                let state = last(alloc, &same)?;
+                return Ok(ended(state, done, Stop::Left));
+            }
+            Stepped::Undecodable(same, word) => {
+                let state = last(alloc, &same)?;
                 let at = state.pc;
                 return Ok(ended(state, done, Stop::Undecodable { at, word }));
             }
             Stepped::Deep => return Ok(Run::Deep(done)),
         }
     }
-    Ok(ended(s, bound, Stop::Bound))
+    let state = last(alloc, &s)?;
+    Ok(ended(state, bound, Stop::Bound))
 }
 
 fn ended(state: State, done: u64, stop: Stop) -> Run

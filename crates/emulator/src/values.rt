@@ -7,19 +7,18 @@ ghost use Rattle.tsl_values.specs.Views.{state, val};
 ghost use Rattle.emulator.specs.Values as values;
 
 use std::alloc::{AllocError, Global};
-use tsl_den::{State, Value, copy_all};
+use tsl_values::{State, Value, copy_all};
 
 /// The value of a state, where the datatype of states has this number.
-pub(crate) fn value_of(ty: u32, s: State) -> Result<Value, AllocError>
-    ensures { IfOk result (λ v. val v ≡ states.value_of ty (state s)) }
+pub(crate) fn value_of(alloc: Global, ty: u32, s: &State) -> Result<Value, AllocError>
+    ensures { IfOk result (λ v. val v ≡ states.value_of ty (state s.now)) }
 {
-    let State { pc, parts } = s;
-    let mut parts = parts;
+    let mut parts = copy_all(alloc, &s.parts)?;
     parts.insert(
         0,
         Value::Word {
             w: 32,
-            v: u64::from(pc),
+            v: u64::from(s.pc),
         },
     )?;
     Ok(Value::Made { ty, case: 0, parts })
@@ -54,14 +53,4 @@ fn state_of_parts(parts: Vec<Value>) -> Option<State>
         },
         Value::Flag(_) | Value::Made { .. } | Value::Map(_) => None,
     }
-}
-
-/// The same state again.
-pub(crate) fn copied(alloc: Global, s: &State) -> Result<State, AllocError>
-    ensures { IfOk result (λ r. state r ≡ state s.now) }
-{
-    Ok(State {
-        pc: s.pc,
-        parts: copy_all(alloc, &s.parts)?,
-    })
 }

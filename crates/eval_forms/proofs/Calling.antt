@@ -1,6 +1,6 @@
 -- A call that is no turn is of a group of lower rank.
 use Rattle.std.proofs.Common.{◌≡◌, ℕ, ◌<◌, Bool, true, false, inl, inr, refl}
-use Rattle.eval_state.specs.Order.{MayCall}
+use Rattle.eval_memo.specs.Order.{MayCall}
 
 module _ (n : ℕ) (group : ℕ → ℕ) (rank : ℕ → ℕ) (g : ℕ) (tail : Bool) (f : ℕ) where
   lower : (b : Bool) → MayCall n group rank g b f → (b ≡ true → group f ≡ g → ⊥) → rank (group f) < rank g

@@ -3,7 +3,7 @@ use Rattle.std.proofs.Common.{◌≡◌, ℕ, Option, Some, None, option_map, sy
 use Rattle.std.specs.Prelude.{IfOk, IfSome, Result, Ok, Err}
 use Rattle.base_trait.specs.Algebra.{Algebra}
 use Rattle.spec_types.specs.CoreTerms.{Core}
-use Rattle.eval_state.specs.declared.setting.Setting.{Setting}
+use Rattle.eval_memo.specs.declared.setting.Setting.{Setting}
 use Rattle.eval_forms.specs.Next.{IsNext}
 use Rattle.eval_forms.specs.Plans.{Next}
 

@@ -1,7 +1,5 @@
 pub mod Calling
-pub mod CoreForms
 pub mod Followers
-pub mod OperandsFit
 pub mod Parts
 pub mod Planned
 pub mod Planning

@@ -1,12 +1,18 @@
 -- The plain plan of one of the code's.
-use Rattle.std.proofs.Common.{◌≡◌, ◌∙◌, ℕ, map, sym, ap, Vec, Global}
+use Rattle.std.proofs.Common.{◌≡◌, ◌∙◌, ℕ, map, sym, ap, Box, Vec, Global}
 use Rattle.abs_value.specs.View.{abs}
 use Rattle.abs_value.specs.declared.value.AV.{AV}
-use Rattle.eval_forms.specs.declared.next.Plan.{Arm, fold-roll-Plan}
-use Rattle.eval_forms.specs.declared.next.Plan.TheVariants.{rolls-Arm}
+use Rattle.eval_forms.specs.declared.next.Plan.{Arm, Both, Nothing, Plan as Planned, fold-roll-Plan}
+use Rattle.eval_forms.specs.declared.next.Plan.TheVariants.{rolls-Arm, rolls-Both, rolls-Nothing}
 use Rattle.eval_forms.specs.declared.next.Plan.TheOpen.{Plan-F}
-use Rattle.eval_forms.specs.Plans.{Plan, arm}
+use Rattle.eval_forms.specs.Plans.{Plan, arm, both, nothing}
 use Rattle.eval_forms.specs.Views.{plan, plan_step}
 
 pub plan_Arm : {X W N C : Type 0} (n : ℕ) (v : Vec (AV X W N C) Global) → plan (Arm n v) ≡ arm n (map abs v.items)
 plan_Arm {X} {W} {N} {C} n v = ap plan (sym (rolls-Arm n v)) ∙ fold-roll-Plan X W N C (Plan W N) (plan_step X W N C) (Plan-F.Arm n v)
+
+pub plan_Nothing : (X W N C : Type 0) → plan {X = X} {W = W} {N = N} {C = C} Nothing ≡ nothing
+plan_Nothing X W N C = ap plan (sym rolls-Nothing) ∙ fold-roll-Plan X W N C (Plan W N) (plan_step X W N C) Plan-F.Nothing
+
+pub plan_Both : {X W N C : Type 0} (p q : Box (Planned X W N C) Global) → plan (Both p q) ≡ both (plan p.value) (plan q.value)
+plan_Both {X} {W} {N} {C} p q = ap plan (sym (rolls-Both p q)) ∙ fold-roll-Plan X W N C (Plan W N) (plan_step X W N C) (Plan-F.Both p q)

@@ -12,7 +12,7 @@ use Rattle.value_laws.specs.Abs.{Abs, Cases, no_case, absent, present}
 use Rattle.value_laws.specs.Fits.{Fits}
 use Rattle.reinterpretation.specs.Choices.{abs_at, abs_named, cases_there, flag_there, word_there}
 use Rattle.abs_steps.proofs.Steps.{at_fits}
-use Rattle.eval_state.specs.declared.setting.Setting.{Setting}
+use Rattle.eval_memo.specs.declared.setting.Setting.{Setting}
 use Rattle.eval_forms.specs.Lines.{of_choice, of_condition}
 use Rattle.eval_forms.specs.Next.{IsNext, PlanFits}
 use Rattle.eval_forms.specs.Plans.{Plan, arm, both, either, goes, nothing, planned, present_plan, row_plan, size}

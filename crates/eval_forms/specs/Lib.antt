@@ -1,7 +1,6 @@
 pub mod Forms
 pub mod Lines
 pub mod Next
-pub mod Operands
 pub mod Plans
 pub mod Views
 pub mod Weights

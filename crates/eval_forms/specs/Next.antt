@@ -3,9 +3,9 @@ use Rattle.std.specs.Prelude.{⊤, ℕ, ◌+◌, ◌<◌, All, length}
 use Rattle.base_trait.specs.Algebra.{Algebra}
 use Rattle.spec_types.specs.CoreTerms.{Core}
 use Rattle.value_laws.specs.Fits.{Fits}
-use Rattle.eval_state.specs.declared.setting.Setting.{Setting}
-use Rattle.eval_state.specs.Ready.{YieldFits}
-use Rattle.eval_state.specs.Settings.{group_of, spec_of}
+use Rattle.eval_memo.specs.declared.setting.Setting.{Setting}
+use Rattle.eval_memo.specs.Ready.{YieldFits}
+use Rattle.eval_memo.specs.Settings.{group_of, spec_of}
 use Rattle.eval_forms.specs.Forms.{branches}
 use Rattle.eval_forms.specs.Plans.{Next, Plan, given, calls, goes, nothing, arm, both, size}
 use Rattle.eval_forms.specs.Weights.{weight, weights}

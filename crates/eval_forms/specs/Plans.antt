@@ -16,9 +16,9 @@ use Rattle.reinterpretation.specs.Answers.{Answer, Evaluation, behind, then_on, 
 use Rattle.reinterpretation.specs.Choices.{abs_at, abs_named, cases_there, flag_there, word_there}
 use Rattle.reinterpretation.specs.Steps.{accessed, binary, compared, made_of, resized, unary, updated}
 use Rattle.reinterpretation.specs.Terms.{GroupArgs, asked_with, leaf}
-use Rattle.eval_state.specs.declared.setting.Setting.{Setting}
+use Rattle.eval_memo.specs.declared.setting.Setting.{Setting}
 use Rattle.eval_forms.specs.Forms.{branches}
-use Rattle.eval_state.specs.Settings.{given_arm, group_of, join_yields, leaf_of, spec_of}
+use Rattle.eval_memo.specs.Settings.{given_arm, group_of, join_yields, leaf_of, spec_of}
 
 -- Which branches of a form are evaluated.
 pub data Plan (W N : Type 0) : Type 0 where
@@ -41,6 +41,11 @@ size (both p q) = 1 + (size p + size q)
 -- those that a condition may take
 abbrev pub either : {W N : Type 0} → Tri → Plan W N → Plan W N → Plan W N
 either o p q = if o.may_true then (if o.may_false then both p q else p) else (if o.may_false then q else nothing)
+
+-- one after another, and a last one
+abbrev pub all_both : {W N : Type 0} → List (Plan W N) → Plan W N → Plan W N
+all_both [] q = q
+all_both (p ∷ ps) q = both p (all_both ps q)
 
 abbrev pub row_plan : {W N : Type 0} → ℕ → Option (List (Abs W N)) → Plan W N
 row_plan r None = nothing

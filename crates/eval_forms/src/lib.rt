@@ -13,9 +13,7 @@
 
 mod forms;
 mod next;
-mod operands;
 mod plans;
-mod values;
 
 pub use forms::{branch, part};
 pub use next::{Next, Plan, follow};

@@ -60,7 +60,32 @@ fn row_plan<B: Base>(
     }
 }
 
+/// These plans, and one more behind them.
+fn with_plan<B: Base>(mut firsts: Vec<Plan<B>>, first: Plan<B>) -> Result<Vec<Plan<B>>, NoMemory>
+    ensures { IfOk result (λ r. (q : of.Plan B.Word B.Note) → of.all_both (map plan r.items) q ≡ of.all_both (map plan firsts.items) (of.both (plan first) q)) }
+{
+    firsts.push(first)?;
+    Ok(firsts)
+}
+
+/// Plans one after another, and a last one.
+fn all_both<B: Base>(
+    alloc: Global,
+    mut firsts: Vec<Plan<B>>,
+    last: Plan<B>,
+) -> Result<Plan<B>, NoMemory>
+    ensures { IfOk result (λ r. plan r ≡ of.all_both (map plan firsts.items) (plan last)) }
+{
+    let mut out = last;
+    while let Some(first) = firsts.pop() {
+        out = both(alloc, first, out)?;
+    }
+    Ok(out)
+}
+
 /// The arms that a decision may pick. What it cannot come to is not looked at.
+///
+/// It goes on in a loop where an answer is no, so that many literals of one position take no more stack than one.
 #[cycle(planned)]
 pub(crate) fn planned<B: Base>(
     alloc: Global,
@@ -71,41 +96,43 @@ pub(crate) fn planned<B: Base>(
     requires fits { Fits B.algebra ctx.now B.CAP (abs x.now) }
     ensures { IfOk result (λ r. plan r ≡ of.planned B.algebra ctx.now (abs x.now) (tree by.now)) }
 {
-    match by {
-        Decision::Row { row, binds } => row_plan(alloc, ctx, x, *row, binds),
-        Decision::OnCase { at, arms } => present_plan(alloc, ctx, x, arms, cases_there(x, at)),
-        Decision::OnWord { at, value, yes, no } => {
-            let o = word_there(alloc, ctx, x, at, *value)?;
-            either_planned(alloc, ctx, x, o, yes, no)
+    let mut firsts = Vec::new(alloc);
+    let mut rest = by;
+    loop {
+        match rest {
+            Decision::Row { row, binds } => {
+                let last = row_plan(alloc, ctx, x, *row, binds)?;
+                return all_both(alloc, firsts, last);
+            }
+            Decision::OnCase { at, arms } => {
+                let last = present_plan(alloc, ctx, x, arms, cases_there(x, at))?;
+                return all_both(alloc, firsts, last);
+            }
+            Decision::OnWord { at, value, yes, no } => {
+                let o = word_there(alloc, ctx, x, at, *value)?;
+                match (o.may_true, o.may_false) {
+                    (true, true) => {
+                        firsts = with_plan(firsts, planned(alloc, ctx, x, yes)?)?;
+                        rest = no;
+                    }
+                    (true, false) => rest = yes,
+                    (false, true) => rest = no,
+                    (false, false) => return all_both(alloc, firsts, Plan::Nothing),
+                }
+            }
+            Decision::OnFlag { at, yes, no } => {
+                let o = flag_there(x, at);
+                match (o.may_true, o.may_false) {
+                    (true, true) => {
+                        firsts = with_plan(firsts, planned(alloc, ctx, x, yes)?)?;
+                        rest = no;
+                    }
+                    (true, false) => rest = yes,
+                    (false, true) => rest = no,
+                    (false, false) => return all_both(alloc, firsts, Plan::Nothing),
+                }
+            }
         }
-        Decision::OnFlag { at, yes, no } => {
-            either_planned(alloc, ctx, x, flag_there(x, at), yes, no)
-        }
-    }
-}
-
-/// Those of the decisions that a condition may take.
-#[cycle(planned)]
-fn either_planned<B: Base>(
-    alloc: Global,
-    ctx: &B::Ctx,
-    x: &AV<B>,
-    o: Tri,
-    yes: &Decision,
-    no: &Decision,
-) -> Result<Plan<B>, NoMemory>
-    requires fits { Fits B.algebra ctx.now B.CAP (abs x.now) }
-    ensures { IfOk result (λ r. plan r ≡ of.either o (of.planned B.algebra ctx.now (abs x.now) (tree yes.now)) (of.planned B.algebra ctx.now (abs x.now) (tree no.now))) }
-{
-    match (o.may_true, o.may_false) {
-        (true, true) => {
-            let first = planned(alloc, ctx, x, yes)?;
-            let second = planned(alloc, ctx, x, no)?;
-            both(alloc, first, second)
-        }
-        (true, false) => planned(alloc, ctx, x, yes),
-        (false, true) => planned(alloc, ctx, x, no),
-        (false, false) => Ok(Plan::Nothing),
     }
 }
 

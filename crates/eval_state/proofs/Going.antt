@@ -42,11 +42,11 @@ use Rattle.reinterpretation.proofs.Termed.{IsYield}
 use Rattle.reinterpretation.proofs.Tested.{fit_tells}
 use Rattle.reinterpretation.proofs.Typed.{IsOf}
 use Rattle.eval_state.specs.declared.activity.Activity.{Activity}
-use Rattle.eval_state.specs.declared.setting.Setting.{Setting}
+use Rattle.eval_memo.specs.declared.setting.Setting.{Setting}
 use Rattle.eval_state.specs.Activities.{Goes, Taken, due, meaning, measure, standing, turns_from}
 use Rattle.call_answers.specs.Laws.{JoinsUnder}
-use Rattle.eval_state.specs.Ready.{AreGroupArgs, ArgsOf, IsReady}
-use Rattle.eval_state.specs.Settings.{group_of, group_turn, spec_of}
+use Rattle.eval_memo.specs.Ready.{AreGroupArgs, ArgsOf, IsReady}
+use Rattle.eval_memo.specs.Settings.{group_of, group_turn, spec_of}
 use Rattle.eval_state.proofs.JoinedYields.{from_any}
 
 -- What is answered to two sides is answered to what has them.

@@ -21,9 +21,9 @@ use Rattle.reinterpretation.proofs.Plain.{Nothing, are_given, each_nothing, keep
 use Rattle.reinterpretation.proofs.Termed as termed
 use Rattle.reinterpretation.proofs.Termed.{args_joined}
 use Rattle.reinterpretation.proofs.Typed.{are_fit, are_typed}
-use Rattle.eval_state.specs.declared.setting.Setting.{Setting}
-use Rattle.eval_state.specs.Ready.{AreGroupArgs, ArgsOf, IsReady, YieldFits}
-use Rattle.eval_state.specs.Settings.{spec_of}
+use Rattle.eval_memo.specs.declared.setting.Setting.{Setting}
+use Rattle.eval_memo.specs.Ready.{AreGroupArgs, ArgsOf, IsReady, YieldFits}
+use Rattle.eval_memo.specs.Settings.{spec_of}
 
 module _ {X W N C : Type 0} (B : Algebra W N C) (laws : Laws W N C B) (cap : ℕ) (s : Setting X W N C) where
   -- ---- arguments as the reinterpretation has them

@@ -1,9 +1,3 @@
-pub mod Answering
-pub mod Arguments
 pub mod Going
-pub mod Growth
-pub mod Holding
-pub mod Items
 pub mod JoinedYields
-pub mod Memoing
 pub mod Ordered

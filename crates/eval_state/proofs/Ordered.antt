@@ -32,11 +32,11 @@ use Rattle.reinterpretation.specs.Answers.{Answer}
 use Rattle.reinterpretation.specs.Calls.{AreArguments, AreRight}
 use Rattle.reinterpretation.specs.Laws.{IsResult}
 use Rattle.reinterpretation.proofs.Plain.{calls_keep_types, past}
-use Rattle.eval_state.specs.declared.setting.Setting.{Setting}
-use Rattle.eval_state.specs.Order.{AllInOrder, InOrder, MayCall}
+use Rattle.eval_memo.specs.declared.setting.Setting.{Setting}
+use Rattle.eval_memo.specs.Order.{AllInOrder, InOrder, MayCall}
 use Rattle.call_answers.specs.Laws.{JoinsUnder}
-use Rattle.eval_state.specs.Ready.{IsReady}
-use Rattle.eval_state.specs.Settings.{spec_of}
+use Rattle.eval_memo.specs.Ready.{IsReady}
+use Rattle.eval_memo.specs.Settings.{spec_of}
 
 module _ (env : Environment) (n : ℕ) (there : (f : ℕ) (s : Signature) → slice_get env.funs f ≡ Some s → f < n) (group rank : ℕ → ℕ) (g : ℕ) where
   abbrev Goes : Call → Type 0

@@ -20,8 +20,8 @@ use Rattle.reinterpretation.specs.Terms.{GroupArgs}
 use Rattle.eval_state.specs.declared.activity.Activity.{Activity}
 use Rattle.eval_state.specs.declared.activity.Step.{Step}
 use Rattle.eval_state.specs.declared.activity.Step.TheVariants.{Again, Done, Deep}
-use Rattle.eval_state.specs.declared.setting.Setting.{Setting}
-use Rattle.eval_state.specs.Settings.{group_of, group_turn, spec_of}
+use Rattle.eval_memo.specs.declared.setting.Setting.{Setting}
+use Rattle.eval_memo.specs.Settings.{group_of, group_turn, spec_of}
 
 -- what the turns mean of an activation of function f that began with these arguments
 abbrev pub turns_from : {X W N C : Type 0} → Algebra W N C → ℕ → Setting X W N C → ℕ → List (Abs W N) → Meaning (GroupArgs W N) (Abs W N)

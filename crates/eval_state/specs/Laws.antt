@@ -11,11 +11,11 @@ use Rattle.recursion_fix.specs.Activation.{HasTurn}
 use Rattle.value_laws.specs.Abs.{Abs}
 use Rattle.reinterpretation.specs.Answers.{Answer}
 use Rattle.reinterpretation.specs.Calls.{AreRight}
-use Rattle.eval_state.specs.declared.setting.Setting.{Setting}
-use Rattle.eval_state.specs.Order.{InOrder}
+use Rattle.eval_memo.specs.declared.setting.Setting.{Setting}
+use Rattle.eval_memo.specs.Order.{InOrder}
 use Rattle.call_answers.specs.Laws.{JoinsUnder}
-use Rattle.eval_state.specs.Ready.{IsReady}
-use Rattle.eval_state.specs.Settings.{spec_of}
+use Rattle.eval_memo.specs.Ready.{IsReady}
+use Rattle.eval_memo.specs.Settings.{spec_of}
 
 -- Each body of an accepted specification calls functions that are there, of groups of lower rank; or of its own group, in tail position.
 abbrev pub BodiesCallInOrder : Type 0

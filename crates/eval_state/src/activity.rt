@@ -5,16 +5,15 @@ ghost use Rattle.abs_value.specs.View.{abs};
 ghost use Rattle.recursion_fix.specs.Answer.{next_of, out_of};
 ghost use Rattle.reinterpretation.specs.Calls.{AreArguments};
 ghost use Rattle.eval_state.specs.Activities.{After, Goes, Taken, due, measure};
-ghost use Rattle.eval_state.specs.Ready.{IsReady};
-ghost use Rattle.eval_state.specs.Settings.{spec_of};
+ghost use Rattle.eval_memo.specs.Ready.{IsReady};
+ghost use Rattle.eval_memo.specs.Settings.{spec_of};
 ghost use Rattle.eval_state.specs.Views.{all_abs, group_args, yield};
 ghost use Rattle.eval_state.specs.declared.activity.Step.TheVariants.{Again};
 
 use crate::given::Given;
-use crate::setting::{Known, Setting};
-use crate::steps::{copy_all, group_of};
 use abs_value::AV;
 use base_trait::Base;
+use eval_memo::{Known, Setting, copy_all, group_of};
 use group_turns::{Specified, Turning, only};
 use recursion_fix::{Asked, Driver};
 use std::alloc::{AllocError as NoMemory, Global};
@@ -40,21 +39,21 @@ pub fn begin<B: Base, K: Known<B>>(
     alloc: Global,
     setting: &Setting<B>,
     fun: u32,
-    args: &[AV<B>],
+    args: Vec<AV<B>>,
 ) -> Result<Activity<B, K>, NoMemory>
     requires setting { IsReady B.algebra B.CAP setting.now K.spec K.rank (K.calls setting.now.ctx.now) }
     requires there { fun < length (spec_of setting.now).funs }
-    requires args { AreArguments B.algebra setting.now.ctx.now B.CAP (spec_of setting.now) fun (map abs args.now) }
-    ensures { IfOk result (λ a. Goes B.algebra B.CAP setting.now (K.calls setting.now.ctx.now) fun (map abs args.now) a []) }
+    requires args { AreArguments B.algebra setting.now.ctx.now B.CAP (spec_of setting.now) fun (map abs args.items) }
+    ensures { IfOk result (λ a. Goes B.algebra B.CAP setting.now (K.calls setting.now.ctx.now) fun (map abs args.items) a []) }
 {
     let turns = Turning {
         ctx: B::copy_ctx(alloc, setting.ctx)?,
         group: group_of(setting.spec, fun),
         at: setting.at,
-        origin: copy_all(alloc, setting.ctx, args)?,
+        origin: copy_all(alloc, setting.ctx, &args)?,
         of: PhantomData,
     };
-    let first = only(alloc, fun, copy_all(alloc, setting.ctx, args)?)?;
+    let first = only(alloc, fun, args)?;
     let driver = Driver::new(first, setting.policy);
     Ok(Activity { driver, turns })
 }

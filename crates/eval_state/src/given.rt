@@ -8,15 +8,14 @@ ghost use Rattle.reinterpretation.specs.Terms as terms;
 ghost use Rattle.recursion_fix.specs.Answer.{out_of};
 ghost use Rattle.group_arguments.specs.Groups.{join_some, merge_each};
 ghost use Rattle.group_turns.specs.Fitting.{EachFits};
-ghost use Rattle.eval_state.specs.Ready.{IsReady, YieldFits};
-ghost use Rattle.eval_state.specs.Settings as of;
-ghost use Rattle.eval_state.specs.Settings.{group_of, spec_of};
+ghost use Rattle.eval_memo.specs.Ready.{IsReady, YieldFits};
+ghost use Rattle.eval_memo.specs.Settings as of;
+ghost use Rattle.eval_memo.specs.Settings.{group_of, spec_of};
 ghost use Rattle.eval_state.specs.Views.{group_args, yield};
 
-use crate::setting::{Known, Setting};
-use crate::steps::are_arguments;
 use abs_value::{AV, Way};
 use base_trait::Base;
+use eval_memo::{Known, Setting, are_arguments};
 use group_turns::merge_groups;
 use std::alloc::{AllocError as NoMemory, Global};
 

@@ -2,8 +2,8 @@
 
 ghost use Rattle.eval_state.specs.Laws.{BodiesCallInOrder, MayBeEvaluated};
 
-use crate::setting::Setting;
 use base_trait::Base;
+use eval_memo::Setting;
 
 /// Each body of an accepted specification calls functions that are there, of groups of lower rank; or of its own group,
 /// in tail position.

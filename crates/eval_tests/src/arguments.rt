@@ -4,13 +4,13 @@ ghost use Rattle.std.specs.Prelude.{All, IfOk, IfSome, map};
 ghost use Rattle.value_laws.specs.Fits.{Fits};
 ghost use Rattle.abs_value.specs.View.{abs};
 ghost use Rattle.reinterpretation.specs.Calls.{AreArguments};
-ghost use Rattle.eval_state.specs.Settings.{spec_of};
+ghost use Rattle.eval_memo.specs.Settings.{spec_of};
 
 use crate::values::value;
 use crate::words::Found;
 use abs_value::AV;
 use base_trait::Base;
-use eval_state::Setting;
+use eval_memo::Setting;
 use group_turns::are_typed;
 use spec_types::{Spec, Ty};
 use std::alloc::Global;

@@ -3,15 +3,15 @@
 ghost use Rattle.std.specs.Prelude.{◌≡◌, ◌<◌, map};
 ghost use Rattle.abs_value.specs.View.{abs};
 ghost use Rattle.reinterpretation.specs.Calls.{AreArguments};
-ghost use Rattle.eval_state.specs.Memos.{entries};
-ghost use Rattle.eval_state.specs.Settings.{spec_of};
+ghost use Rattle.eval_memo.specs.Memos.{entries};
+ghost use Rattle.eval_memo.specs.Settings.{spec_of};
 ghost use Rattle.generic_eval.specs.Calls.{IsRight, MayEvaluate};
 
 use crate::shown::Shown;
 use crate::text::{push_deep, push_found, push_reads};
 use abs_value::AV;
 use base_trait::Log;
-use eval_state::{EvalError, Memo, Setting, copy_all, memo_len, memo_new};
+use eval_memo::{EvalError, Memo, Setting, copy_all, memo_len, memo_new};
 use generic_eval::eval;
 use std::alloc::{AllocError as NoMemory, Global};
 use std::marker::Brand;

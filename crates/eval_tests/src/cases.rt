@@ -13,7 +13,7 @@ use accepted_specs::laws::checked_are_accepted;
 use cir_lower::lower;
 use concrete_base::Concrete;
 use defuse_base::DefUse;
-use eval_state::Setting;
+use eval_memo::Setting;
 use interval_base::Interval;
 use kset_base::KSet;
 use paired_base::Paired;

@@ -11,7 +11,7 @@ use abs_map::{AMap, KeySet};
 use abs_steps::made_of;
 use abs_value::AV;
 use base_trait::{Base, Tri};
-use eval_state::Setting;
+use eval_memo::Setting;
 use spec_types::{Case, Ty};
 use std::alloc::Global;
 use tsl_lexer::Text;

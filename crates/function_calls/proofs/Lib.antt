@@ -1,3 +1,4 @@
 pub mod Typing
 pub mod Steps
+pub mod Values
 pub mod Written

@@ -9,9 +9,9 @@ use Rattle.spec_types.specs.Environment.{Environment}
 use Rattle.spec_types.specs.Specification.{Fun, Spec}
 use Rattle.tsl_values.specs.Values.{Val, flag, vals, word}
 use Rattle.tsl_values.specs.Types.{environment_of, has_type, have_types}
-use Rattle.tsl_den.specs.Calls.{IsCall}
 use Rattle.meaning.specs.Runs.{meaning}
 use Rattle.function_calls.specs.Arguments.{argument_in, arguments_in, word_of}
+use Rattle.function_calls.specs.Written.{IsWrittenCall}
 use Rattle.function_calls.specs.Calls.{arguments_of, call_end, called, end_of_meaning, is_written, number_of, bad_words, end_of_call}
 
 none_some : {A B : Type 0} {x : A} → None ≡ Some x → B
@@ -88,10 +88,10 @@ is_called spec fun texts number args e =
       given = subst (λ (xs : List Val). arguments_in found.0.params texts ≡ Some xs) (ap (λ p. p.1) parts) written.1;
     }
 
-pub called_is_call : (spec : Spec) (fun : List ℕ) (texts : List (List ℕ)) (number : ℕ) (args : List Val) → called spec fun texts ≡ Some (number, args) → IsCall spec number args
+pub called_is_call : (spec : Spec) (fun : List ℕ) (texts : List (List ℕ)) (number : ℕ) (args : List Val) → called spec fun texts ≡ Some (number, args) → IsWrittenCall spec number args
 called_is_call spec fun texts number args e =
     let c = is_called spec fun texts number args e in
-    record { function = c.function; there = c.there; typed = arguments_typed (environment_of spec) c.function.params texts args c.given }
+    record { function = c.function; there = c.there; written = c.written; typed = arguments_typed (environment_of spec) c.function.params texts args c.given }
 
 -- what a call by words comes to
 pub call_is : (spec : Spec) (turns : ℕ) (fun : List ℕ) (texts : List (List ℕ)) (number : ℕ) (args : List Val) → called spec fun texts ≡ Some (number, args)

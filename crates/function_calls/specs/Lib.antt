@@ -2,3 +2,4 @@ pub mod Arguments
 pub mod Calls
 pub mod Ends
 pub mod Laws
+pub mod Written

@@ -7,13 +7,16 @@ ghost use Rattle.meaning_laws.specs.Accepted.{IsAccepted};
 ghost use Rattle.function_calls.specs.Arguments.{borrowed};
 ghost use Rattle.function_calls.specs.Calls.{call_end, called, end_of_meaning, is_written, number_of};
 ghost use Rattle.meaning.specs.Runs.{meaning};
-ghost use Rattle.tsl_den.specs.Calls.{IsCall};
 ghost use Rattle.function_calls.specs.Ends.{end_of};
+ghost use Rattle.function_calls.specs.Written.{IsWrittenCall};
 
 use crate::arguments::arguments;
+use cir_lower::lower;
+use concrete_calls::{Called, called, standing};
+use concrete_values::value_in;
 use spec_types::{Fun, Spec, Ty};
 use std::alloc::{AllocError, Global};
-use tsl_den::{Direct, Value, direct};
+use tsl_values::Value;
 
 /// What a call by words comes to.
 #[derive(Drop)]
@@ -37,7 +40,7 @@ pub fn call_by_words(
     requires { IsAccepted (specification spec.now) }
     ensures { IfOk result (λ end. end_of end ≡ call_end (specification spec.now) turns fun.now (borrowed texts.now)) }
 {
-    match called(alloc, spec, fun, texts)? {
+    match named(alloc, spec, fun, texts)? {
         Some((number, args)) => end_of_call(alloc, spec, number, args, turns),
         None => Ok(CallEnd::BadWords),
     }
@@ -52,18 +55,20 @@ fn end_of_call(
     turns: u32,
 ) -> Result<CallEnd, AllocError>
     requires accepted { IsAccepted (specification spec.now) }
-    requires call { IsCall (specification spec.now) number (map val args.items) }
+    requires call { IsWrittenCall (specification spec.now) number (map val args.items) }
     ensures { IfOk result (λ end. end_of end
         ≡ end_of_meaning (meaning (specification spec.now) 0 turns number (map val args.items) [])) }
 {
-    match direct(alloc, spec, number, args, 0, turns)? {
-        Direct::Done(value) => Ok(CallEnd::Value(value)),
-        Direct::Deep => Ok(CallEnd::Spent),
+    let cir = lower(alloc, spec)?;
+    let args = standing(alloc, spec, &args)?;
+    match called(alloc, spec, &cir, number, args, 0, turns)? {
+        Called::Done(value) => Ok(CallEnd::Value(value_in(alloc, &value)?)),
+        Called::Deep => Ok(CallEnd::Spent),
     }
 }
 
 /// The function and the arguments that the words name.
-fn called(
+fn named(
     alloc: Global,
     spec: &Spec,
     fun: &str,

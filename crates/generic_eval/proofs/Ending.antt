@@ -16,17 +16,17 @@ use Rattle.abs_value.specs.declared.value.AV.{AV}
 use Rattle.reinterpretation.specs.Answers.{Answer, behind, ◌>>=◌}
 use Rattle.reinterpretation.specs.Calls.{AreArguments}
 use Rattle.reinterpretation.specs.Terms.{GroupArgs, params_of}
-use Rattle.eval_state.specs.declared.error.EvalError.{EvalError}
-use Rattle.eval_state.specs.declared.error.EvalError.TheVariants as e
-use Rattle.eval_state.specs.declared.setting.Setting.{Setting}
+use Rattle.eval_memo.specs.declared.error.EvalError.{EvalError}
+use Rattle.eval_memo.specs.declared.error.EvalError.TheVariants as e
+use Rattle.eval_memo.specs.declared.setting.Setting.{Setting}
 use Rattle.eval_forms.specs.Forms.{parts}
-use Rattle.eval_state.specs.Given.{Gives}
-use Rattle.eval_state.specs.Memos.{Holds, Remembered, Stands}
+use Rattle.eval_memo.specs.Given.{Gives}
+use Rattle.eval_memo.specs.Memos.{Holds, Remembered, Stands}
 use Rattle.eval_forms.specs.Plans.{Next, follow, given_next}
-use Rattle.eval_state.specs.Ready.{IsReady, YieldFits}
+use Rattle.eval_memo.specs.Ready.{IsReady, YieldFits}
 use Rattle.generic_eval.specs.Runs.{HaveGrown, Runs, RunsCall}
-use Rattle.eval_state.specs.Settings.{given_of, spec_of, values_of}
-use Rattle.eval_state.proofs.Answering.{passed}
+use Rattle.eval_memo.specs.Settings.{given_of, spec_of, values_of}
+use Rattle.eval_memo.proofs.Answering.{passed}
 use Rattle.generic_eval.proofs.Following.{followed}
 
 pub all_viewed : {V A : Type 0} (P : A → Type 0) (view : V → A) (xs : List V) → All P (map view xs) → All (λ x. P (view x)) xs

@@ -13,10 +13,10 @@ use Rattle.reinterpretation.specs.Answers.{Answer, Evaluation, behind, ◌>>=◌
 use Rattle.reinterpretation.specs.Choices.{flag_there}
 use Rattle.reinterpretation.specs.Steps.{accessed, binary, compared, made_of, resized, unary, updated}
 use Rattle.reinterpretation.specs.Terms.{GroupArgs, asked_with, leaf}
-use Rattle.eval_state.specs.declared.setting.Setting.{Setting}
+use Rattle.eval_memo.specs.declared.setting.Setting.{Setting}
 use Rattle.eval_forms.specs.Forms.{branches, parts}
 use Rattle.eval_forms.specs.Plans.{arm, calls, follow, given, given_next, given_plan, valued}
-use Rattle.eval_state.specs.Settings.{given_call, given_of, group_of, leaf_of, spec_of, value_of, values_of}
+use Rattle.eval_memo.specs.Settings.{given_call, given_of, group_of, leaf_of, spec_of, value_of, values_of}
 use Rattle.generic_eval.proofs.Planning.{given_either, given_planned}
 use Rattle.generic_eval.proofs.Tailed.{given_args, given_choose, given_if, given_let, given_plain}
 

@@ -2,8 +2,8 @@
 use Rattle.std.proofs.Common.{List}
 use Rattle.base_trait.specs.Lists.{IsGrown}
 use Rattle.base_trait.specs.Uses.{Seen}
-use Rattle.eval_state.specs.Memos.{Remembered}
-use Rattle.eval_state.proofs.Growth.{grown_itself, grown_on}
+use Rattle.eval_memo.specs.Memos.{Remembered}
+use Rattle.eval_memo.proofs.Growth.{grown_itself, grown_on}
 use Rattle.generic_eval.specs.Runs.{HaveGrown}
 
 module _ {W N : Type 0} where

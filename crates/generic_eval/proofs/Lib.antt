@@ -1,6 +1,7 @@
 pub mod Ending
 pub mod Following
 pub mod Growing
+pub mod Joining
 pub mod Parting
 pub mod Planning
 pub mod Starting

@@ -3,7 +3,7 @@ use Rattle.std.proofs.Common.{◌≡◌, ◌<◌, ◌≤◌, ◌+◌, ℕ, zero,
 use Rattle.spec_types.specs.CoreTerms as form
 use Rattle.spec_types.specs.CoreTerms.{Core, Cores, no_core, core_then}
 use Rattle.eval_forms.specs.Forms.{branches, count, part_at, parts, parts_from}
-use Rattle.eval_state.specs.Order.{AllInOrder, InOrder}
+use Rattle.eval_memo.specs.Order.{AllInOrder, InOrder}
 use Rattle.eval_forms.specs.Weights.{weight, weights}
 
 some_is : {A : Type 0} (x y : A) → Some x ≡ Some y → x ≡ y

@@ -11,10 +11,10 @@ use Rattle.group_arguments.specs.Groups.{join_some}
 use Rattle.reinterpretation.specs.Answers.{Answer, Evaluation, branch, joined, joined_from, then_on}
 use Rattle.reinterpretation.specs.Choices.{abs_at, abs_named, arm_on, arms_present, cases_there, flag_there, word_there}
 use Rattle.reinterpretation.specs.Terms.{GroupArgs}
-use Rattle.eval_state.specs.declared.setting.Setting.{Setting}
+use Rattle.eval_memo.specs.declared.setting.Setting.{Setting}
 use Rattle.eval_forms.specs.Forms.{part_at}
 use Rattle.eval_forms.specs.Plans.{Plan, both, either, given_plan, nothing, planned, present_plan, row_plan}
-use Rattle.eval_state.specs.Settings.{given_arm, given_decided, given_of, join_yields}
+use Rattle.eval_memo.specs.Settings.{given_arm, given_decided, given_of, join_yields}
 
 some_is : {A : Type 0} (x y : A) → Some x ≡ Some y → x ≡ y
 some_is x y e = cc

@@ -10,10 +10,10 @@ use Rattle.value_laws.specs.Fits.{Fits, PartsFit}
 use Rattle.call_answers.proofs.Right.{answers_are_right}
 use Rattle.group_ranks.specs.Ranks.{rank_of}
 use Rattle.group_ranks.proofs.Ranks.{ranks_count}
-use Rattle.eval_state.specs.declared.setting.Setting.{Setting}
-use Rattle.eval_state.specs.Memos.{Remembered, Stands}
-use Rattle.eval_state.specs.Ready.{IsReady}
-use Rattle.eval_state.specs.Settings.{spec_of}
+use Rattle.eval_memo.specs.declared.setting.Setting.{Setting}
+use Rattle.eval_memo.specs.Memos.{Remembered, Stands}
+use Rattle.eval_memo.specs.Ready.{IsReady}
+use Rattle.eval_memo.specs.Settings.{spec_of}
 use Rattle.eval_state.proofs.Ordered.{may_evaluate}
 use Rattle.generic_eval.specs.Calls.{IsRight, MayEvaluate, calls_of}
 

@@ -13,8 +13,8 @@ use Rattle.group_arguments.specs.Groups.{join_some}
 use Rattle.reinterpretation.specs.Answers.{Answer, Evaluation, behind, branch, joined, joined_from, then_on, ◌>>=◌}
 use Rattle.reinterpretation.specs.Choices.{abs_at, abs_named, arm_on, arms_present, cases_there, decided, flag_there, word_there}
 use Rattle.reinterpretation.specs.Terms.{GroupArgs, arm_of, leaf}
-use Rattle.eval_state.specs.declared.setting.Setting.{Setting}
-use Rattle.eval_state.specs.Settings.{IsPlain, given_branch, given_call, given_decided, given_of, join_yields, leaf_of, spec_of, value_of, values_of}
+use Rattle.eval_memo.specs.declared.setting.Setting.{Setting}
+use Rattle.eval_memo.specs.Settings.{IsPlain, given_branch, given_call, given_decided, given_of, join_yields, leaf_of, spec_of, value_of, values_of}
 
 module _ {X W N C : Type 0} (B : Algebra W N C) (cap : ℕ) (calls : ℕ → List (Abs W N) → Answer (Abs W N)) (s : Setting X W N C) where
   leaf_bind : {A : Type 0} (r : Answer A) (f : A → List Seen → Answer (Abs W N)) → leaf_of B cap calls s (r >>= f) ≡ (r >>= λ x l. leaf_of B cap calls s (f x l))

@@ -18,10 +18,10 @@ use Rattle.group_arguments.specs.Groups.{join_some}
 use Rattle.reinterpretation.specs.Answers.{Answer, Evaluation, joined_from, then_on}
 use Rattle.reinterpretation.specs.Terms as terms
 use Rattle.reinterpretation.specs.Terms.{GroupArgs}
-use Rattle.eval_state.specs.declared.setting.Setting.{Setting}
-use Rattle.eval_state.specs.Order.{InOrder}
-use Rattle.eval_state.specs.Ready.{EachFrom, IsReady}
-use Rattle.eval_state.specs.Settings.{body_turn, from_number, given_bodies, given_of, group_of, join_yields, spec_of}
+use Rattle.eval_memo.specs.declared.setting.Setting.{Setting}
+use Rattle.eval_memo.specs.Order.{InOrder}
+use Rattle.eval_memo.specs.Ready.{EachFrom, IsReady}
+use Rattle.eval_memo.specs.Settings.{body_turn, from_number, given_bodies, given_of, group_of, join_yields, spec_of}
 use Rattle.eval_forms.specs.Weights.{total, weight}
 use Rattle.generic_eval.proofs.Weighing.{of_total}
 

@@ -7,9 +7,9 @@ use Rattle.value_laws.specs.Abs.{Abs}
 use Rattle.recursion_fix.specs.Answer.{Yield, fails, gives, out_of}
 use Rattle.reinterpretation.specs.Answers.{Answer, ◌>>=◌}
 use Rattle.reinterpretation.specs.Terms.{GroupArgs, leaf}
-use Rattle.eval_state.specs.declared.setting.Setting.{Setting}
+use Rattle.eval_memo.specs.declared.setting.Setting.{Setting}
 use Rattle.eval_forms.specs.Forms.{part_at, parts_from}
-use Rattle.eval_state.specs.Settings.{leaf_of, value_of, values_of}
+use Rattle.eval_memo.specs.Settings.{leaf_of, value_of, values_of}
 use Rattle.generic_eval.proofs.Parting.{from_here, from_past}
 
 module _ {X W N C : Type 0} (B : Algebra W N C) (cap : ℕ) (calls : ℕ → List (Abs W N) → Answer (Abs W N)) (s : Setting X W N C) where

@@ -9,9 +9,9 @@ use Rattle.value_laws.specs.Abs.{Abs}
 use Rattle.reinterpretation.specs.Answers.{Answer}
 use Rattle.call_answers.specs.Answers.{answers}
 use Rattle.call_answers.specs.Laws.{JoinsUnder}
-use Rattle.eval_state.specs.declared.setting.Setting.{Setting}
-use Rattle.eval_state.specs.Memos.{AreDistinct, AreTrue, Remembered}
-use Rattle.eval_state.specs.Settings.{spec_of}
+use Rattle.eval_memo.specs.declared.setting.Setting.{Setting}
+use Rattle.eval_memo.specs.Memos.{AreDistinct, AreTrue, Remembered}
+use Rattle.eval_memo.specs.Settings.{spec_of}
 
 module _ {X W N C : Type 0} (B : Algebra W N C) (cap : ℕ) (s : Setting X W N C) where
   -- what a call of a function gives, with its own reads

@@ -12,12 +12,12 @@ use Rattle.abs_value.specs.View.{abs}
 use Rattle.abs_value.specs.declared.value.AV.{AV}
 use Rattle.reinterpretation.specs.Answers.{Answer, behind}
 use Rattle.reinterpretation.specs.Terms.{params_of}
-use Rattle.eval_state.specs.declared.error.EvalError.{EvalError}
-use Rattle.eval_state.specs.declared.setting.Setting.{Setting}
-use Rattle.eval_state.specs.Given.{Gives}
-use Rattle.eval_state.specs.Memos.{Holds, Remembered, Stands}
-use Rattle.eval_state.specs.Ready.{IsReady}
-use Rattle.eval_state.specs.Settings.{spec_of}
+use Rattle.eval_memo.specs.declared.error.EvalError.{EvalError}
+use Rattle.eval_memo.specs.declared.setting.Setting.{Setting}
+use Rattle.eval_memo.specs.Given.{Gives}
+use Rattle.eval_memo.specs.Memos.{Holds, Remembered, Stands}
+use Rattle.eval_memo.specs.Ready.{IsReady}
+use Rattle.eval_memo.specs.Settings.{spec_of}
 
 -- A log, once l and now m, and a memo, once es and now fs, have only grown.
 pub record HaveGrown {W N : Type 0} (l m : List Seen) (es fs : List (Remembered W N)) : Type 0 where

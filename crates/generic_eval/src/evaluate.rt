@@ -6,25 +6,24 @@ ghost use Rattle.spec_types.specs.Views.{core};
 ghost use Rattle.value_laws.specs.Fits.{Fits};
 ghost use Rattle.abs_value.specs.View.{abs};
 ghost use Rattle.reinterpretation.specs.Calls.{AreArguments};
-ghost use Rattle.eval_state.specs.Memos.{entries};
+ghost use Rattle.eval_memo.specs.Memos.{entries};
 ghost use Rattle.eval_forms.specs.Forms.{branches, parts};
-ghost use Rattle.eval_state.specs.Order.{AllInOrder, InOrder};
+ghost use Rattle.eval_memo.specs.Order.{AllInOrder, InOrder};
 ghost use Rattle.eval_forms.specs.Plans.{given_plan};
-ghost use Rattle.eval_state.specs.Ready.{AreGroupArgs, ArgsOf, YieldFits};
+ghost use Rattle.eval_memo.specs.Ready.{AreGroupArgs, ArgsOf, YieldFits};
 ghost use Rattle.generic_eval.specs.Runs.{MayRun, Runs, RunsCall};
-ghost use Rattle.eval_state.specs.Settings as of;
-ghost use Rattle.eval_state.specs.Settings.{group_of, spec_of};
+ghost use Rattle.eval_memo.specs.Settings as of;
+ghost use Rattle.eval_memo.specs.Settings.{group_of, spec_of};
 ghost use Rattle.eval_state.specs.Views.{all_abs, yield};
 ghost use Rattle.eval_forms.specs.Next.{PlanFits};
 ghost use Rattle.eval_forms.specs.Views.{plan as plan_of};
 
+use crate::joins::joined_all;
 use abs_value::AV;
 use base_trait::{Base, Log};
 use eval_forms::{Next, Plan, branch, follow, part};
-use eval_state::{
-    Activity, EvalError, Given, Known, Memo, Setting, Step, advance, args_of, begin, body_of,
-    copy_all, group_of, joined, leaf, recalled, recorded, value_in,
-};
+use eval_memo::{EvalError, Known, Memo, Setting, body_of, copy_all, group_of, recalled, recorded};
+use eval_state::{Activity, Given, Step, advance, args_of, begin, joined, leaf, value_in};
 use spec_types::Core;
 use std::alloc::Global;
 use std::sync::ledger::Ledger;
@@ -103,6 +102,8 @@ fn values<B: Base, K: Known<B>, L: Ledger>(
 }
 
 /// What the branches of a form give that a plan names.
+///
+/// It goes on in a loop at the second of two, so that many literals of one position take no more stack than one.
 #[cycle(eval)]
 fn go<B: Base, K: Known<B>, L: Ledger>(
     alloc: Global,
@@ -126,51 +127,62 @@ fn go<B: Base, K: Known<B>, L: Ledger>(
         return Err(EvalError::NoMemory);
     }
     let room = room - 1;
-    match plan {
-        Plan::Nothing => Ok(None),
-        Plan::Arm(number, named) => {
-            let Some(body) = branch(t, number as usize) else {
-                return Ok(None);
-            };
-            let outer = env.len();
-            let mut named = named;
-            env.append(&mut named)?;
-            let given = term::<B, K, L>(
-                alloc, setting, room, group, tail, env, body, memo, steps, log,
-            )?;
-            env.truncate(outer);
-            Ok(given)
-        }
-        Plan::Both(first, second) => {
-            let x = go::<B, K, L>(
-                alloc,
-                setting,
-                room,
-                group,
-                tail,
-                env,
-                t,
-                Box::into_inner(first),
-                memo,
-                steps,
-                log,
-            )?;
-            let y = go::<B, K, L>(
-                alloc,
-                setting,
-                room,
-                group,
-                tail,
-                env,
-                t,
-                Box::into_inner(second),
-                memo,
-                steps,
-                log,
-            )?;
-            Ok(joined::<B, K>(alloc, setting, group, x, y)?)
+    let mut firsts = Vec::new(alloc);
+    let mut rest = plan;
+    loop {
+        match rest {
+            Plan::Nothing => {
+                return Ok(joined_all::<B, K>(alloc, setting, group, firsts, None)?);
+            }
+            Plan::Arm(number, named) => {
+                let last = arm::<B, K, L>(
+                    alloc, setting, room, group, tail, env, t, number, named, memo, steps, log,
+                )?;
+                return Ok(joined_all::<B, K>(alloc, setting, group, firsts, last)?);
+            }
+            Plan::Both(first, second) => {
+                let plan = Box::into_inner(first);
+                let given = go::<B, K, L>(
+                    alloc, setting, room, group, tail, env, t, plan, memo, steps, log,
+                )?;
+                firsts.push(given)?;
+                rest = Box::into_inner(second);
+            }
         }
     }
+}
+
+/// What a branch of a form gives, with the values of more variables.
+#[cycle(eval)]
+fn arm<B: Base, K: Known<B>, L: Ledger>(
+    alloc: Global,
+    setting: &Setting<B>,
+    room: u32,
+    group: u32,
+    tail: bool,
+    env: &mut Vec<AV<B>>,
+    t: &Core,
+    number: u32,
+    mut named: Vec<AV<B>>,
+    memo: &mut Memo<B>,
+    steps: &mut Steps<L>,
+    log: &mut Log,
+) -> Result<Option<Given<B>>, EvalError>
+    requires known { MayRun B.algebra B.CAP setting.now K.spec K.rank (K.calls setting.now.ctx.now) K.before K.ticked env.old.items (entries memo.old) steps.old }
+    requires order { AllInOrder (length (spec_of setting.now).funs) (group_of setting.now) K.rank group tail (branches (core t.now)) }
+    requires named { All (Fits B.algebra setting.now.ctx.now B.CAP) (map abs named.items) }
+    ensures { Runs B.algebra B.CAP setting.now K.spec K.rank (K.calls setting.now.ctx.now) K.before K.ticked yield (λ y. YieldFits B.algebra B.CAP setting.now group (yield y)) result (uses_of log.old) (uses_of log.new) (of.given_arm B.algebra B.CAP (K.calls setting.now.ctx.now) setting.now group tail (map abs env.old.items) (branches (core t.now)) number (map abs named.items) (uses_of log.old)) env.old.items env.new.items (entries memo.old) (entries memo.new) steps.new }
+{
+    let Some(body) = branch(t, number as usize) else {
+        return Ok(None);
+    };
+    let outer = env.len();
+    env.append(&mut named)?;
+    let given = term::<B, K, L>(
+        alloc, setting, room, group, tail, env, body, memo, steps, log,
+    )?;
+    env.truncate(outer);
+    Ok(given)
 }
 
 /// What a turn of a group gives: the bodies of the functions that have arguments, in the order of their numbers.
@@ -249,27 +261,28 @@ pub(crate) fn call<B: Base, K: Known<B>, L: Ledger>(
         return Ok(value);
     }
     let mut own = Log::new(alloc);
-    let value = activation::<B, K, L>(alloc, setting, room, fun, &args, memo, steps, &mut own)?;
+    let again = copy_all(alloc, setting.ctx, &args)?;
+    let value = activation::<B, K, L>(alloc, setting, room, fun, again, memo, steps, &mut own)?;
     Ok(recorded::<B, K, L>(alloc, setting, fun, args, value, own, memo, steps, log)?)
 }
 
 /// The value of an activation.
 #[cycle(eval)]
-fn activation<B: Base, K: Known<B>, L: Ledger>(
+pub(crate) fn activation<B: Base, K: Known<B>, L: Ledger>(
     alloc: Global,
     setting: &Setting<B>,
     room: u32,
     fun: u32,
-    args: &[AV<B>],
+    args: Vec<AV<B>>,
     memo: &mut Memo<B>,
     steps: &mut Steps<L>,
     own: &mut Log,
 ) -> Result<Option<AV<B>>, EvalError>
     requires known { MayRun B.algebra B.CAP setting.now K.spec K.rank (K.calls setting.now.ctx.now) K.before K.ticked [] (entries memo.old) steps.old }
     requires there { fun < length (spec_of setting.now).funs }
-    requires args { AreArguments B.algebra setting.now.ctx.now B.CAP (spec_of setting.now) fun (map abs args.now) }
+    requires args { AreArguments B.algebra setting.now.ctx.now B.CAP (spec_of setting.now) fun (map abs args.items) }
     requires own { uses_of own.old ≡ [] }
-    ensures { Runs B.algebra B.CAP setting.now K.spec K.rank (K.calls setting.now.ctx.now) K.before K.ticked abs (λ v. Fits B.algebra setting.now.ctx.now B.CAP (abs v)) result (uses_of own.old) (uses_of own.new) (K.calls setting.now.ctx.now fun (map abs args.now)) [] [] (entries memo.old) (entries memo.new) steps.new }
+    ensures { Runs B.algebra B.CAP setting.now K.spec K.rank (K.calls setting.now.ctx.now) K.before K.ticked abs (λ v. Fits B.algebra setting.now.ctx.now B.CAP (abs v)) result (uses_of own.old) (uses_of own.new) (K.calls setting.now.ctx.now fun (map abs args.items)) [] [] (entries memo.old) (entries memo.new) steps.new }
 {
     let group = group_of(setting.spec, fun);
     let mut activity: Activity<B, K> = begin::<B, K>(alloc, setting, fun, args)?;

@@ -8,17 +8,17 @@ ghost use Rattle.abs_value.specs.View.{abs};
 ghost use Rattle.reinterpretation.specs.Answers.{behind};
 ghost use Rattle.reinterpretation.specs.Calls.{AreArguments};
 ghost use Rattle.call_answers.specs.Answers.{answers};
-ghost use Rattle.eval_state.specs.Given.{Gives};
-ghost use Rattle.eval_state.specs.Memos.{Holds, Stands, entries};
-ghost use Rattle.eval_state.specs.Ready.{IsReady};
-ghost use Rattle.eval_state.specs.Settings.{spec_of};
+ghost use Rattle.eval_memo.specs.Given.{Gives};
+ghost use Rattle.eval_memo.specs.Memos.{Holds, Stands, entries};
+ghost use Rattle.eval_memo.specs.Ready.{IsReady};
+ghost use Rattle.eval_memo.specs.Settings.{spec_of};
 ghost use Rattle.generic_eval.specs.Calls.{IsRight, MayEvaluate, calls_of};
 
-use crate::evaluate::call;
+use crate::evaluate::{activation, call};
 use crate::known::{Defined, Placed};
 use abs_value::AV;
 use base_trait::{Base, Log};
-use eval_state::{EvalError, Memo, Setting, memo_new};
+use eval_memo::{EvalError, Memo, Setting, append, memo_new};
 use std::alloc::Global;
 use std::marker::Brand;
 use std::sync::ledger::{Blank, Ledger};
@@ -95,7 +95,42 @@ fn counted<B: Base, L: Ledger>(
 {
     let mut memo = memo_new(alloc);
     let mut steps: Steps<L> = Steps::new(blank);
-    eval::<B, L>(alloc, setting, function, args, &mut memo, &mut steps, log)
+    alone::<B, Brand, L>(alloc, setting, function, args, &mut memo, &mut steps, log)
+}
+
+/// The same as `evaluated`, where the call itself is not kept, since nobody can ask for it again.
+fn alone<B: Base, K: Placed, L: Ledger>(
+    alloc: Global,
+    setting: &Setting<B>,
+    function: u32,
+    args: Vec<AV<B>>,
+    memo: &mut Memo<B>,
+    steps: &mut Steps<L>,
+    log: &mut Log,
+) -> Result<Option<AV<B>>, EvalError>
+    requires ready { IsReady B.algebra B.CAP setting.now K.spec K.rank (answers B.algebra setting.now.ctx.now B.CAP K.spec K.at K.policy) }
+    requires args { AreArguments B.algebra setting.now.ctx.now B.CAP (spec_of setting.now) function (map abs args.items) }
+    requires memo { Stands (answers B.algebra setting.now.ctx.now B.CAP K.spec K.at K.policy) K.before K.ticked (entries memo.old) steps.old }
+    ensures value { Gives abs result (uses_of log.new) (behind (uses_of log.old) (answers B.algebra setting.now.ctx.now B.CAP K.spec K.at K.policy function (map abs args.items))) }
+    ensures fits { IfOk result (λ r. IfSome r (λ v. Fits B.algebra setting.now.ctx.now B.CAP (abs v))) }
+    ensures grown { IsGrown (uses_of log.old) (uses_of log.new) }
+{
+    if function as usize >= setting.spec.funs.len() {
+        return Ok(None);
+    }
+    let mut own = Log::new(alloc);
+    let value = activation::<B, Defined<K>, L>(
+        alloc,
+        setting,
+        MOST_NESTED,
+        function,
+        args,
+        memo,
+        steps,
+        &mut own,
+    )?;
+    append(alloc, log, &own)?;
+    Ok(value)
 }
 
 /// The same as `eval`, where what is known of the setting, of the memo and of the steps is picked by the caller's proof.

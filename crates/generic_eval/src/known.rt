@@ -4,7 +4,7 @@ ghost use Rattle.std.specs.Prelude.{ℕ};
 ghost use Rattle.recursion_fix.specs.declared.policy.Policy.{Policy};
 
 use base_trait::Base;
-use eval_state::{Counted, Known};
+use eval_memo::{Counted, Known};
 use group_turns::Specified;
 use std::marker::{Brand, PhantomData};
 

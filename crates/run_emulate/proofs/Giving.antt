@@ -8,6 +8,7 @@ use Rattle.spec_types.specs.Specification.{Spec}
 use Rattle.spec_types.specs.Views.{specification}
 use Rattle.spec_decls.proofs.States.{machines_are_there}
 use Rattle.meaning_laws.specs.Accepted.{IsAccepted}
+use Rattle.meaning_laws.proofs.Kept.{runs_keep_types}
 use Rattle.accepted_specs.proofs.Accepted.{checked_are_accepted}
 use Rattle.insn_decode.specs.declared.image_error.ImageError.{ImageError}
 use Rattle.insn_decode.specs.declared.image_error.ImageError.TheVariants as image_error
@@ -20,9 +21,11 @@ use Rattle.state_text.specs.OneState.{one_state}
 use Rattle.state_text.specs.Reading.{Entry, read}
 use Rattle.state_text.specs.Stops.{stopped_text}
 use Rattle.tsl_values.specs.States.{State}
+use Rattle.tsl_values.specs.Types.{environment_of}
 use Rattle.tsl_values.specs.Views.{state}
 use Rattle.emulator.specs.declared.runs.Emulated.{Emulated}
-use Rattle.emulator.specs.Ends.{IsEmulated}
+use Rattle.emulator.specs.Ends.{IsEmulated, IsStateOf}
+use Rattle.emulator.proofs.Texts.{same_texts}
 use Rattle.run_steps.specs.Outcome.{Answer}
 use Rattle.run_steps.specs.declared.outcome.Halt.{Halt}
 use Rattle.run_steps.specs.Outcomes.{Gives, Stops, halt_of_entry, halt_of_imaging}
@@ -30,6 +33,7 @@ use Rattle.run_steps.specs.Sources.{IsSpecification, Specifies}
 use Rattle.run_emulate.specs.Code.{Images, imaged}
 use Rattle.run_emulate.specs.Entry.{StartsFrom, entered, state_in}
 use Rattle.run_emulate.specs.Running.{IsRunOf, answer_of, end_of}
+use Rattle.run_emulate.proofs.Ascending.{state_ascends}
 
 -- ---- machines
 
@@ -84,17 +88,20 @@ some_machine None is = absurd (cc)
 some_machine (Some machine) is = (machine, refl)
 
 -- what is told of the end of a run
-pub run_told : (spec : Spec) (image : Image) (turns bound : ℕ) (start : State) (e : Emulated) (answer : Answer) → IsSome spec.machine → IsEmulated spec (code_at image) turns bound start e
+pub run_told : (spec : Spec) (image : Image) (turns bound : ℕ) (start : State) (e : Emulated) (answer : Answer) → IsAccepted spec → IsSome spec.machine → IsStateOf spec start → IsEmulated spec (code_at image) turns bound start e
     → answer ≡ answer_of e.stop (stopped_text spec e.stop e.done (state e.state)) → IsRunOf spec image turns bound start answer
-run_told spec image turns bound start e answer some emulated told =
+run_told spec image turns bound start e answer ok some typed emulated told =
     let m = some_machine spec.machine some in
+    let last = end_of spec m.0 image turns bound start in
     let end = emulated m.0 m.1 in
+    let kept = runs_keep_types spec m.0 (code_at image) turns bound start ok m.1 (typed m.0 m.1) in
+    let one_text = same_texts spec e.stop last.done (state e.state) last.state end.ascending (state_ascends (environment_of spec) m.0.state last.state kept.state) end.last in
     record {
       machine = m.0;
       is_machine = m.1;
       tells = record {
         stop = e.stop;
         why = end.stop;
-        told = told ∙ ap (λ (n : ℕ). answer_of e.stop (stopped_text spec e.stop n (state e.state))) end.done ∙ ap (λ (s : State). answer_of e.stop (stopped_text spec e.stop (end_of spec m.0 image turns bound start).done s)) end.last;
+        told = told ∙ ap (λ (n : ℕ). answer_of e.stop (stopped_text spec e.stop n (state e.state))) end.done ∙ ap (answer_of e.stop) one_text;
       };
     }

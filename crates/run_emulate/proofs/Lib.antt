@@ -1,3 +1,4 @@
+pub mod Ascending
 pub mod Cells
 pub mod Chains
 pub mod Giving

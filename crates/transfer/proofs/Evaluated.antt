@@ -10,9 +10,9 @@ use Rattle.meaning.specs.Decode.{decoded}
 use Rattle.value_laws.specs.Abs.{Abs}
 use Rattle.reinterpretation.specs.Answers.{Answer, behind}
 use Rattle.reinterpretation.proofs.Plain.{widened_calls_succeed}
-use Rattle.eval_state.specs.Given.{Gives}
-use Rattle.eval_state.specs.declared.error.EvalError.{EvalError}
-use Rattle.eval_state.specs.declared.error.EvalError.TheVariants.{Deep}
+use Rattle.eval_memo.specs.Given.{Gives}
+use Rattle.eval_memo.specs.declared.error.EvalError.{EvalError}
+use Rattle.eval_memo.specs.declared.error.EvalError.TheVariants.{Deep}
 use Rattle.fixed_point.specs.Code.{is_code}
 use Rattle.fixed_point.specs.Elements.{Elements}
 use Rattle.domain_laws.specs.Domain.{Meaning}

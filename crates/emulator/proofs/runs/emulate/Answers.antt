@@ -1,11 +1,13 @@
 use Rattle.std.proofs.Common.{◌≡◌, Some, ap, sym, ◌∙◌, subst}
 use Rattle.spec_types.specs.declared.spec.Machine.{Machine}
 use Rattle.spec_types.specs.Views.{specification}
+use Rattle.tsl_values.specs.States.{State}
 use Rattle.tsl_values.specs.Views.{state}
 use Rattle.meaning.specs.Runs as r
 use Rattle.meaning.specs.Runs.{Ended, after}
 use Rattle.insn_decode.specs.Image.{code_at}
 use Rattle.emulator.specs.Ends.{IsEnd, IsRun}
+use Rattle.emulator.specs.Laws.{IsSameState}
 use Rattle.emulator.proofs.Ends.{before_deep, turns_end}
 use Rattle.emulator.proofs.runs.emulate.Goals as goal
 
@@ -19,8 +21,7 @@ unreachable-requires-in-Deep-2 c =
     let m = c.in-Some.machine in
     let d = c.args.turns in
     let start = state c.args.start in
-    let first = subst (λ s. IsRun (after spec m code d c.args.bound s) c.in_ok-end.field-0) c.in_ok-first.ensures c.in_ok-end.ensures in
-    let deep = subst (IsRun (after spec m code d c.args.bound start)) c.in-Deep.is first in
+    let deep = subst (IsRun (after spec m code d c.args.bound start)) c.in-Deep.is c.in_ok-end.ensures in
     let end = before_deep spec m code d c.args.bound c.in-Deep.done start deep.0 in
     let again = subst (IsRun (after spec m code d c.in-Deep.done start)) c.in-Deep-2.is c.in_ok-before-in-Deep.ensures in
     let stop : r.Stop.bound ≡ r.Stop.turns = ap (λ e. e.stop) (sym end) ∙ again.1 in
@@ -33,11 +34,13 @@ returns-in-Ended-2 c = λ machine is.
     let d = c.args.turns in
     let start = state c.args.start in
     let m = c.in-Some.machine in
-    let first = subst (λ s. IsRun (after spec m code d c.args.bound s) c.in_ok-end.field-0) c.in_ok-first.ensures c.in_ok-end.ensures in
-    let deep = subst (IsRun (after spec m code d c.args.bound start)) c.in-Deep.is first in
+    let run = after spec m code d c.args.bound start in
+    let before = c.in-Ended-2.before in
+    let deep = subst (IsRun run) c.in-Deep.is c.in_ok-end.ensures in
     let end = before_deep spec m code d c.args.bound c.in-Deep.done start deep.0 in
     let again = subst (IsRun (after spec m code d c.in-Deep.done start)) c.in-Ended-2.is c.in_ok-before-in-Deep.ensures in
     let count = deep.0 ∙ sym (again.done ∙ ap (λ e. e.done) end) in
-    let whole = turns_end (after spec m code d c.args.bound start) c.in-Ended-2.before.state c.in-Ended-2.before.done deep.1 count (again.last ∙ ap (λ e. e.state) end) in
+    let last = subst (λ (s : State). IsSameState (state before.state) s) (ap (λ e. e.state) end) again.last in
+    let whole = turns_end run before.state before.done deep.1 count last again.ascending in
     let one : m ≡ machine = same m machine (sym c.in-Some.is ∙ is) in
-    subst (λ x. IsEnd (after spec x code d c.args.bound start) c.stopped_by_turns.result) one (subst (IsEnd (after spec m code d c.args.bound start)) (sym c.stopped_by_turns.ensures) whole)
+    subst (λ x. IsEnd (after spec x code d c.args.bound start) c.stopped_by_turns.result) one (subst (IsEnd run) (sym c.stopped_by_turns.ensures) whole)

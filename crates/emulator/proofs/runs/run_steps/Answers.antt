@@ -2,36 +2,60 @@ use Rattle.std.proofs.Common.{sym, subst}
 use Rattle.spec_types.specs.Views.{specification}
 use Rattle.tsl_values.specs.Views.{state}
 use Rattle.meaning.specs.Runs.{after}
-use Rattle.meaning_laws.proofs.Kept.{steps_keep_types}
+use Rattle.abs_value.specs.View.{abs}
 use Rattle.insn_decode.specs.Image.{code_at}
 use Rattle.emulator.specs.Ends.{IsRun}
-use Rattle.emulator.proofs.Ends.{left_end, undecodable_end, deep_end, goes_further}
+use Rattle.emulator.proofs.Ends.{begins, bound_end, deep_end, goes_further, left_end, left_state, reached_state, undecodable_end, undecodable_state}
 use Rattle.emulator.proofs.runs.run_steps.Goals as goal
+
+pub loop-done-init : goal.loop-done-init
+loop-done-init c = begins (specification c.args.spec.now) c.args.machine (code_at c.args.image.now) c.args.turns c.args.bound (state c.args.start.now) (abs c.in_ok-s.s) c.in_ok-s.ensures
+
+pub step-requires-clause-state : goal.step-requires-clause-state
+step-requires-clause-state c = record { shown = c.loop-done.invariant.at; shows = c.loop-done.invariant.shows }
+
+pub last-requires : goal.last-requires
+last-requires c =
+    let so_far = c.loop-done.invariant in
+    record { state = left_state (specification c.args.spec.now) c.args.machine (code_at c.args.image.now) c.args.turns c.args.bound (state c.args.start.now) c.loop-done.done (abs c.loop-done.s) so_far c.loop-done-test.true c.in_ok-next.field-0 (c.in_ok-next.ensures so_far.at so_far.shows) c.in-Left.same c.in-Left.is }
 
 pub returns-in-Left : goal.returns-in-Left
 returns-in-Left c =
     let spec = specification c.args.spec.now in
     let code = code_at c.args.image.now in
-    let end = left_end spec c.args.machine code c.args.turns c.args.bound c.loop-done.done (state c.args.start) (state c.loop-done.s) c.in_ok-next.field-0 c.loop-done.invariant.run c.loop-done-test.true c.in_ok-next.ensures c.in-Left.state c.in-Left.is in
-    subst (IsRun (after spec c.args.machine code c.args.turns c.args.bound (state c.args.start))) (sym c.ended.ensures) end
+    let so_far = c.loop-done.invariant in
+    let end = left_end spec c.args.machine code c.args.turns c.args.bound (state c.args.start.now) c.loop-done.done (abs c.loop-done.s) so_far c.loop-done-test.true c.in_ok-next.field-0 (c.in_ok-next.ensures so_far.at so_far.shows) c.in-Left.same c.in_ok-state-in-Left.state c.in-Left.is c.in_ok-state-in-Left.ensures in
+    subst (IsRun (after spec c.args.machine code c.args.turns c.args.bound (state c.args.start.now))) (sym c.ended.ensures) end
+
+pub last-requires-in-Undecodable : goal.last-requires-in-Undecodable
+last-requires-in-Undecodable c =
+    let so_far = c.loop-done.invariant in
+    record { state = undecodable_state (specification c.args.spec.now) c.args.machine (code_at c.args.image.now) c.args.turns c.args.bound (state c.args.start.now) c.loop-done.done (abs c.loop-done.s) so_far c.loop-done-test.true c.in_ok-next.field-0 (c.in_ok-next.ensures so_far.at so_far.shows) c.in-Undecodable.same c.in-Undecodable.word c.in-Undecodable.is }
 
 pub returns-in-Undecodable : goal.returns-in-Undecodable
 returns-in-Undecodable c =
     let spec = specification c.args.spec.now in
     let code = code_at c.args.image.now in
-    let end = undecodable_end spec c.args.machine code c.args.turns c.args.bound c.loop-done.done (state c.args.start) (state c.loop-done.s) c.in_ok-next.field-0 c.loop-done.invariant.run c.loop-done-test.true c.in_ok-next.ensures c.in-Undecodable.state c.in-Undecodable.word c.in-Undecodable.is in
-    subst (IsRun (after spec c.args.machine code c.args.turns c.args.bound (state c.args.start))) (sym c.ended-in-Undecodable.ensures) end
+    let so_far = c.loop-done.invariant in
+    let end = undecodable_end spec c.args.machine code c.args.turns c.args.bound (state c.args.start.now) c.loop-done.done (abs c.loop-done.s) so_far c.loop-done-test.true c.in_ok-next.field-0 (c.in_ok-next.ensures so_far.at so_far.shows) c.in-Undecodable.same c.in-Undecodable.word c.in_ok-state-in-Undecodable.state c.in-Undecodable.is c.in_ok-state-in-Undecodable.ensures in
+    subst (IsRun (after spec c.args.machine code c.args.turns c.args.bound (state c.args.start.now))) (sym c.ended-in-Undecodable.ensures) end
 
 pub returns-in-Deep : goal.returns-in-Deep
 returns-in-Deep c =
-    let spec = specification c.args.spec.now in
-    let code = code_at c.args.image.now in
-    deep_end spec c.args.machine code c.args.turns c.args.bound c.loop-done.done (state c.args.start) (state c.loop-done.s) c.in_ok-next.field-0 c.loop-done.invariant.run c.loop-done-test.true c.in_ok-next.ensures c.in-Deep.is
+    let so_far = c.loop-done.invariant in
+    deep_end (specification c.args.spec.now) c.args.machine (code_at c.args.image.now) c.args.turns c.args.bound (state c.args.start.now) c.loop-done.done (abs c.loop-done.s) so_far c.loop-done-test.true c.in_ok-next.field-0 (c.in_ok-next.ensures so_far.at so_far.shows) c.in-Deep.is
 
 pub loop-done-preserved : goal.loop-done-preserved
 loop-done-preserved c =
+    let so_far = c.loop-done.invariant in
+    goes_further (specification c.args.spec.now) c.args.machine (code_at c.args.image.now) c.args.turns c.args.bound (state c.args.start.now) c.loop-done.done (abs c.loop-done.s) so_far c.loop-done-test.true c.in_ok-next.field-0 (c.in_ok-next.ensures so_far.at so_far.shows) c.in-To.next c.in-To.is
+
+pub last-requires-2 : goal.last-requires-2
+last-requires-2 c = record { state = reached_state (specification c.args.spec.now) c.args.machine (code_at c.args.image.now) c.args.turns c.args.bound (state c.args.start.now) c.loop-done.done (abs c.loop-done.s) c.loop-done.invariant }
+
+pub returns : goal.returns
+returns c =
     let spec = specification c.args.spec.now in
     let code = code_at c.args.image.now in
-    let kept = steps_keep_types spec c.args.machine code c.args.turns (state c.loop-done.s) c.requires.accepted c.requires.machine c.loop-done.invariant.typed in
-    let next = goes_further spec c.args.machine code c.args.turns c.args.bound c.loop-done.done (state c.args.start) (state c.loop-done.s) c.in_ok-next.field-0 c.loop-done.invariant.run c.loop-done-test.true c.in_ok-next.ensures c.args.machine.state c.in-To.next c.in-To.is kept in
-    record { run = next.0; typed = next.1 }
+    let end = bound_end spec c.args.machine code c.args.turns c.args.bound (state c.args.start.now) c.loop-done.done (abs c.loop-done.s) c.in_ok-state.state c.loop-done.invariant c.loop-done-test.false c.loop-done.auto.done-end c.in_ok-state.ensures in
+    subst (IsRun (after spec c.args.machine code c.args.turns c.args.bound (state c.args.start.now))) (sym c.ended-2.ensures) end

@@ -1,32 +1,59 @@
-use Rattle.std.proofs.Common.{◌≡◌, Some, ap, sym, ◌∙◌}
+use Rattle.std.proofs.Common.{◌≡◌, ℕ, List, [], ◌∷◌, map, sym, subst}
+use Rattle.base_trait.specs.declared.uses.Stamped.{Stamped}
+use Rattle.concrete_base.specs.Meaning.{concrete}
 use Rattle.spec_types.specs.Views.{specification}
-use Rattle.tsl_values.specs.States.{State, value_of}
-use Rattle.tsl_values.specs.Views.{state, val}
-use Rattle.meaning.specs.Runs.{steps_to}
-use Rattle.emulator.proofs.Calls.{arguments, done_step, deep_step}
+use Rattle.tsl_values.specs.States.{value_of}
+use Rattle.tsl_values.specs.Types.{environment_of}
+use Rattle.tsl_values.specs.Views.{val}
+use Rattle.meaning.specs.Runs.{meaning}
+use Rattle.value_laws.specs.Abs.{Abs}
+use Rattle.value_types.specs.OfValues.{of_value}
+use Rattle.abs_value.specs.View.{abs}
+use Rattle.concrete_values.specs.Laws.{AreArgumentsFor, room}
+use Rattle.concrete_calls.specs.Calls.{IsCall, IsMeantBy}
+use Rattle.emulator.proofs.Calls.{arguments, deep_step, done_step, instruction_fits, machine_of, pushed}
 use Rattle.emulator.proofs.step.executed.Goals as goal
 
-same : (a b : State) → Some a ≡ Some b → a ≡ b
-same a b e = cc
+pub of_value-requires : goal.of_value-requires
+of_value-requires c =
+    record { value = instruction_fits (specification c.args.spec.now) c.args.machine c.requires.accepted c.requires.machine (val c.args.instruction.now) c.requires.instruction }
 
-pub unreachable-requires : goal.unreachable-requires
-unreachable-requires c =
-    let s = state c.args.s in
-    let are = arguments c.new-args.result.items c.push.new.self.items c.push-2.new.self.items c.args.instruction c.in_ok-value_of.field-0 (value_of c.args.machine.state s) c.new-args.ensures.items c.in_ok-push.ensures.items c.in_ok-push-2.ensures.items c.in_ok-value_of.ensures in
-    let done = done_step (specification c.args.spec.now) c.args.machine (val c.args.instruction) s c.args.turns c.requires.accepted c.requires.machine c.requires.instruction c.requires.typed _ c.in_ok-direct.field-0 are c.in_ok-direct.ensures.meant c.in-Done.v c.in-Done.is in
-    let none = c.in-None.ensures ∙ done.there in
-    cc
+pub called-requires-clause-call : goal.called-requires-clause-call
+called-requires-clause-call c =
+    let spec = specification c.args.spec.now in
+    let m = c.args.machine in
+    let p = val c.args.instruction.now in
+    let xs = of_value concrete tt room (environment_of spec) p ∷ abs c.args.s ∷ [] in
+    let are : map abs c.push-2.new.self.items ≡ xs = pushed c.in_ok-args.args.items c.push.new.self.items c.push-2.new.self.items c.in_ok-of_value.field-0 c.args.s (of_value concrete tt room (environment_of spec) p) c.in_ok-args.ensures.items c.in_ok-push.ensures.items c.in_ok-push-2.ensures.items c.in_ok-of_value.ensures.value in
+    let call : IsCall spec m.interp xs = record {
+      function = (machine_of spec m c.requires.accepted c.requires.machine).interp;
+      values = p ∷ value_of m.state c.requires.state.shown ∷ [];
+      are = arguments spec m c.requires.accepted c.requires.machine p c.requires.instruction c.requires.state.shown (abs c.args.s) c.requires.state.shows;
+    } in
+    subst (IsCall spec m.interp) (sym are) call
 
 pub returns-in-Deep : goal.returns-in-Deep
-returns-in-Deep c =
-    let s = state c.args.s in
-    let are = arguments c.new-args.result.items c.push.new.self.items c.push-2.new.self.items c.args.instruction c.in_ok-value_of.field-0 (value_of c.args.machine.state s) c.new-args.ensures.items c.in_ok-push.ensures.items c.in_ok-push-2.ensures.items c.in_ok-value_of.ensures in
-    deep_step (specification c.args.spec.now) c.args.machine (val c.args.instruction) s c.args.turns c.requires.accepted c.requires.machine c.requires.instruction c.requires.typed _ c.in_ok-direct.field-0 are c.in_ok-direct.ensures.meant c.in-Deep.is
+returns-in-Deep c = λ t h.
+    let spec = specification c.args.spec.now in
+    let m = c.args.machine in
+    let p = val c.args.instruction.now in
+    let fun = (machine_of spec m c.requires.accepted c.requires.machine).interp in
+    let vs = p ∷ value_of m.state t ∷ [] in
+    let xs = of_value concrete tt room (environment_of spec) p ∷ abs c.args.s ∷ [] in
+    let are : map abs c.push-2.new.self.items ≡ xs = pushed c.in_ok-args.args.items c.push.new.self.items c.push-2.new.self.items c.in_ok-of_value.field-0 c.args.s (of_value concrete tt room (environment_of spec) p) c.in_ok-args.ensures.items c.in_ok-push.ensures.items c.in_ok-push-2.ensures.items c.in_ok-of_value.ensures.value in
+    let args = subst (λ (zs : List (Abs ℕ Stamped)). AreArgumentsFor spec m.interp fun zs vs) (sym are) (arguments spec m c.requires.accepted c.requires.machine p c.requires.instruction t (abs c.args.s) h) in
+    let meant = c.in_ok-called.ensures fun vs args in
+    deep_step spec m c.requires.accepted c.requires.machine p c.requires.instruction t (abs c.args.s) h c.args.at c.args.turns (subst (λ y. IsMeantBy spec fun y (meaning spec c.args.at c.args.turns m.interp vs [])) c.in-Deep.is meant)
 
-pub returns-in-Some : goal.returns-in-Some
-returns-in-Some c =
-    let s = state c.args.s in
-    let are = arguments c.new-args.result.items c.push.new.self.items c.push-2.new.self.items c.args.instruction c.in_ok-value_of.field-0 (value_of c.args.machine.state s) c.new-args.ensures.items c.in_ok-push.ensures.items c.in_ok-push-2.ensures.items c.in_ok-value_of.ensures in
-    let done = done_step (specification c.args.spec.now) c.args.machine (val c.args.instruction) s c.args.turns c.requires.accepted c.requires.machine c.requires.instruction c.requires.typed _ c.in_ok-direct.field-0 are c.in_ok-direct.ensures.meant c.in-Done.v c.in-Done.is in
-    let next = same done.next (state c.in-Some.next) (sym done.there ∙ sym c.in-Some.ensures) in
-    (done.reads, done.step ∙ ap (λ n. steps_to n done.reads) next)
+pub returns-in-Done : goal.returns-in-Done
+returns-in-Done c = λ t h.
+    let spec = specification c.args.spec.now in
+    let m = c.args.machine in
+    let p = val c.args.instruction.now in
+    let fun = (machine_of spec m c.requires.accepted c.requires.machine).interp in
+    let vs = p ∷ value_of m.state t ∷ [] in
+    let xs = of_value concrete tt room (environment_of spec) p ∷ abs c.args.s ∷ [] in
+    let are : map abs c.push-2.new.self.items ≡ xs = pushed c.in_ok-args.args.items c.push.new.self.items c.push-2.new.self.items c.in_ok-of_value.field-0 c.args.s (of_value concrete tt room (environment_of spec) p) c.in_ok-args.ensures.items c.in_ok-push.ensures.items c.in_ok-push-2.ensures.items c.in_ok-of_value.ensures.value in
+    let args = subst (λ (zs : List (Abs ℕ Stamped)). AreArgumentsFor spec m.interp fun zs vs) (sym are) (arguments spec m c.requires.accepted c.requires.machine p c.requires.instruction t (abs c.args.s) h) in
+    let meant = c.in_ok-called.ensures fun vs args in
+    done_step spec m c.requires.accepted c.requires.machine p c.requires.instruction t (abs c.args.s) h c.args.at c.args.turns c.in-Done.next (subst (λ y. IsMeantBy spec fun y (meaning spec c.args.at c.args.turns m.interp vs [])) c.in-Done.is meant)

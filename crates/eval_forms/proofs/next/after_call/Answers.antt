@@ -2,7 +2,7 @@ use Rattle.std.proofs.Common.{◌<◌, length, rules}
 use Rattle.std.proofs.lemmas.List.Elements.{All-map}
 use Rattle.value_laws.specs.Fits.{Fits}
 use Rattle.abs_value.specs.View.{abs}
-use Rattle.eval_state.specs.Settings.{group_of, spec_of}
+use Rattle.eval_memo.specs.Settings.{group_of, spec_of}
 use Rattle.eval_forms.proofs.Calling.{not_tail, other_group}
 use Rattle.eval_forms.proofs.next.after_call.Goals.{else-tail-via-then-tail+else-group_of-group, else-tail-via-else-tail}
 use Rattle.eval_forms.proofs.next.after_call.Goals as goal

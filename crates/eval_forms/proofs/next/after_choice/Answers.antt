@@ -1,8 +1,8 @@
 use Rattle.std.proofs.Common.{◌≡◌, Some, map, rules}
 use Rattle.value_laws.specs.Fits.{Fits}
 use Rattle.abs_value.specs.View.{abs}
-use Rattle.eval_forms.specs.Operands.{one}
-use Rattle.eval_forms.proofs.OperandsFit.{one_fits}
+use Rattle.eval_values.specs.Operands.{one}
+use Rattle.eval_values.proofs.OperandsFit.{one_fits}
 use Rattle.eval_forms.proofs.next.after_choice.Goals as goal
 
 pub planned-requires : goal.planned-requires

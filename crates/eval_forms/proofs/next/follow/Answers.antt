@@ -10,7 +10,7 @@ use Rattle.value_laws.specs.Fits.{Fits}
 use Rattle.abs_value.specs.View.{abs}
 use Rattle.eval_forms.specs.Plans.{goes}
 use Rattle.eval_forms.specs.Views.{following}
-use Rattle.eval_forms.proofs.CoreForms.{core_Choose, core_If, core_Let}
+use Rattle.eval_values.proofs.CoreForms.{core_Choose, core_If, core_Let}
 use Rattle.eval_forms.proofs.Followers.{any_next, at_next, given_next}
 use Rattle.eval_forms.proofs.Planned.{plan_Arm}
 use Rattle.eval_forms.proofs.Sizes.{choose_next, if_next, let_next}

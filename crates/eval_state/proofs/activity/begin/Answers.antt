@@ -6,7 +6,7 @@ use Rattle.group_turns.specs.Views.{group_args}
 use Rattle.recursion_fix.specs.Activation.{start}
 use Rattle.recursion_fix.specs.Views.{activation}
 use Rattle.eval_state.specs.Activities.{turns_from}
-use Rattle.eval_state.specs.Settings.{group_of, spec_of}
+use Rattle.eval_memo.specs.Settings.{group_of, spec_of}
 use Rattle.eval_state.proofs.Going.{begins}
 use Rattle.eval_state.proofs.activity.begin.Goals as goal
 
@@ -16,16 +16,15 @@ returns g c =
     let cap = g.B.Base.CAP in
     let s = c.args.setting.now in
     let f = c.args.fun in
-    let args = map abs c.args.args.now in
+    let args = map abs c.args.args.items in
     let ctx = c.in_ok-copy_ctx.field-0 in
     let origin = c.in_ok-copy_all.field-0 in
     let same_ctx : ctx ≡ s.ctx.now = search rules in
     let same_group : c.group_of.result ≡ group_of s f = search rules in
     let same_origin : map abs origin.items ≡ args = search rules in
-    let copied : map abs c.in_ok-copy_all-2.field-0.items ≡ args = search rules in
-    let first : group_args c.in_ok-first.first ≡ only f (map abs c.in_ok-copy_all-2.field-0.items) = search rules in
+    let first : group_args c.in_ok-first.first ≡ only f args = search rules in
     let begun : c.new-driver.result ≡ start c.in_ok-first.first s.policy = search rules in
-    let stands : activation group_args abs c.new-driver.result ≡ start (only f args) s.policy = ap (activation group_args abs) begun ∙ ap (λ z. start z s.policy) (first ∙ ap (only f) copied) in
+    let stands : activation group_args abs c.new-driver.result ≡ start (only f args) s.policy = ap (activation group_args abs) begun ∙ ap (λ z. start z s.policy) first in
     let same : turning b ctx cap (spec_of s) (stamps_from b s.at (map abs origin.items)) c.group_of.result ≡ turns_from b cap s f args =
     ap (λ z. turning b z cap (spec_of s) (stamps_from b s.at (map abs origin.items)) c.group_of.result) same_ctx
     ∙ ap (λ z. turning b s.ctx.now cap (spec_of s) (stamps_from b s.at z) c.group_of.result) same_origin

@@ -7,11 +7,11 @@ use Rattle.abs_value.specs.View.{abs}
 use Rattle.group_arguments.specs.Groups.{only}
 use Rattle.group_arguments.proofs.Groups.{only_is}
 use Rattle.reinterpretation.specs.Terms.{asks, params_of}
-use Rattle.eval_state.specs.Ready.{AreGroupArgs, ArgsOf}
-use Rattle.eval_state.specs.Settings.{spec_of}
+use Rattle.eval_memo.specs.Ready.{AreGroupArgs, ArgsOf}
+use Rattle.eval_memo.specs.Settings.{spec_of}
 use Rattle.eval_state.specs.Views.{all_abs, group_args}
-use Rattle.eval_state.proofs.Arguments.{parts_fit}
-use Rattle.eval_state.proofs.Items.{pushed}
+use Rattle.eval_memo.proofs.Arguments.{parts_fit}
+use Rattle.eval_memo.proofs.Items.{pushed}
 use Rattle.eval_state.proofs.given.asked.Goals as goal
 
 pub loop-i-preserved : goal.loop-i-preserved

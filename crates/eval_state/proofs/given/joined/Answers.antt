@@ -3,7 +3,7 @@ use Rattle.abs_value.specs.View.{abs}
 use Rattle.group_arguments.specs.Groups.{join_some, merge_each}
 use Rattle.value_laws.specs.Calls.{join_of}
 use Rattle.reinterpretation.specs.Terms.{merge_all}
-use Rattle.eval_state.specs.Ready.{YieldFits}
+use Rattle.eval_memo.specs.Ready.{YieldFits}
 use Rattle.eval_state.specs.Views.{group_args, yield}
 use Rattle.eval_state.proofs.JoinedYields.{next_fits, yields_join}
 use Rattle.eval_state.proofs.given.joined.Goals as goal

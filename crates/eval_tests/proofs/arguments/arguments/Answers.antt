@@ -7,7 +7,7 @@ use Rattle.value_types.specs.Types.{have_types}
 use Rattle.abs_value.specs.View.{abs}
 use Rattle.abs_steps.proofs.Fitting.{parts_fit}
 use Rattle.reinterpretation.specs.Terms.{params_of}
-use Rattle.eval_state.specs.Settings.{spec_of}
+use Rattle.eval_memo.specs.Settings.{spec_of}
 use Rattle.eval_tests.proofs.arguments.arguments.Goals as goal
 
 pub returns-then-are_typed : goal.returns-then-are_typed

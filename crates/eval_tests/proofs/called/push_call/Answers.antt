@@ -1,6 +1,6 @@
 use Rattle.std.proofs.Common.{sym, subst}
 use Rattle.reinterpretation.specs.Calls.{AreArguments}
-use Rattle.eval_state.specs.Settings.{spec_of}
+use Rattle.eval_memo.specs.Settings.{spec_of}
 use Rattle.eval_tests.proofs.called.push_call.Goals as goal
 
 pub eval-given-requires-clause-args : goal.eval-given-requires-clause-args

@@ -1,4 +1,4 @@
-use Rattle.std.proofs.Common.{◌≡◌, ◌∙◌, ◌++◌, [], ◌∷◌, ◌+◌, ◌*◌, Some, None, Ok, Err, true, false, length, map, option_map, take, drop, refl, sym, ap, subst, rules, arith}
+use Rattle.std.proofs.Common.{◌≡◌, ◌∙◌, ◌++◌, [], ◌∷◌, ◌+◌, ◌*◌, Option, Some, None, Ok, Err, true, false, length, map, option_map, take, drop, refl, sym, ap, subst, rules, arith}
 use Rattle.std.proofs.Math.Seq.{take-append_seam}
 use Rattle.std.specs.Prelude.{IfSome}
 use Rattle.std.proofs.lemmas.List.{map-append}
@@ -8,36 +8,38 @@ use Rattle.tsl_values.specs.Types.{environment_of}
 use Rattle.value_laws.specs.Abs.{parts as parts_of}
 use Rattle.value_types.specs.Types.{have_types}
 use Rattle.reinterpretation.specs.Terms.{params_of}
-use Rattle.eval_state.specs.declared.error.EvalError.TheVariants as error
-use Rattle.eval_state.specs.Memos.{Holds, called, entries}
+use Rattle.eval_memo.specs.declared.error.EvalError.TheVariants as error
+use Rattle.eval_memo.specs.Memos.{Holds, called, entries}
 use Rattle.value_laws.specs.Fits.{Fits}
 use Rattle.abs_value.specs.View.{abs}
 use Rattle.recursion_fix.specs.Answer.{gives, out_of}
 use Rattle.reinterpretation.specs.Answers.{behind}
 use Rattle.eval_state.specs.Activities.{due}
-use Rattle.eval_state.specs.Given.{Gives}
+use Rattle.eval_memo.specs.Given.{Gives}
 use Rattle.eval_forms.specs.Forms.{branches, part_at, parts}
-use Rattle.eval_forms.specs.Plans.{arm, calls, given_plan, given, goes, size}
-use Rattle.eval_state.specs.Ready.{ArgsOf}
+use Rattle.eval_forms.specs.Plans.{arm, both, calls, given_plan, given, goes, nothing, size}
+use Rattle.eval_memo.specs.Ready.{ArgsOf, YieldFits}
 use Rattle.eval_forms.specs.Next.{IsNext}
-use Rattle.eval_state.specs.Settings as of
-use Rattle.eval_state.specs.Settings.{group_of, group_turn, spec_of}
+use Rattle.eval_memo.specs.Settings as of
+use Rattle.eval_memo.specs.Settings.{group_of, group_turn, spec_of}
 use Rattle.eval_state.specs.Views.{all_abs, yield}
+use Rattle.eval_state.specs.declared.given.Given.{Given as GivenHere}
 use Rattle.eval_forms.specs.Views.{following, plan}
 use Rattle.eval_forms.specs.Weights.{depths, total, weight}
 use Rattle.std.proofs.lemmas.List.Elements.{All-append, All-cons, All-nil}
-use Rattle.eval_forms.proofs.Planned.{plan_Arm}
+use Rattle.eval_forms.proofs.Planned.{plan_Arm, plan_Both, plan_Nothing}
 use Rattle.generic_eval.proofs.Ending.{all_viewed, are_arguments, call_failed, call_fits, failed, leaf_fits, next_is, next_none, no_memory, parts_fail, parts_none}
 use Rattle.generic_eval.proofs.Growing.{grown_then, log_alone, log_then, no_more}
+use Rattle.generic_eval.proofs.Joining.{behind_none, first_fails, first_gave, last_fails, last_gave}
 use Rattle.generic_eval.proofs.Parting.{branches_in_order, fewer, part_in_order, part_weighs}
 use Rattle.generic_eval.proofs.Planning.{arm_is, arm_missing}
 use Rattle.generic_eval.proofs.Valuing.{leaf_failed, leaf_gave, leaf_gives, values_end, values_fail, values_more, values_none}
-use Rattle.eval_state.proofs.Items.{drop_here}
+use Rattle.eval_memo.proofs.Items.{drop_here}
 use Rattle.generic_eval.proofs.Turning.{args_fit, bodies_fail, bodies_next, body_fails, body_gives, body_in_order, body_weighs, each_head, each_next}
 use Rattle.generic_eval.proofs.Weighing.{falls}
-use Rattle.eval_state.proofs.Answering.{behind_is, err_is, gave_fits}
-use Rattle.eval_state.proofs.Growth.{grown_on, grown_same}
-use Rattle.eval_state.proofs.Holding.{keeps_grown, kept_holds, new_not_held}
+use Rattle.eval_memo.proofs.Answering.{behind_is, err_is, gave_fits}
+use Rattle.eval_memo.proofs.Growth.{grown_on, grown_same}
+use Rattle.eval_memo.proofs.Holding.{keeps_grown, kept_holds, new_not_held}
 use Rattle.eval_state.proofs.Going.{goes_failed, goes_fits}
 use Rattle.generic_eval.proofs.evaluate.+eval.Goals as goal
 
@@ -185,39 +187,293 @@ values-returns-in_err-push g t c =
 
 -- ---- go
 
-pub go-returns-in_default-body-in-Arm : goal.go-returns-in_default-body-in-Arm
-go-returns-in_default-body-in-Arm g t c =
+pub go-joined_all-requires-clause-last : goal.go-joined_all-requires-clause-last
+go-joined_all-requires-clause-last g t c = tt
+
+pub go-returns-in-Nothing : goal.go-returns-in-Nothing
+go-returns-in-Nothing g t c =
+    let b = g.B.Base.algebra in
+    let cap = g.B.Base.CAP in
+    let on = (g.K.Known.calls c.args.setting.now.ctx.now) in
+    let s = c.args.setting.now in
+    let at = c.loop-rest in
+    let inv = at.invariant in
+    let env = map abs c.args.env.now.items in
+    let ts = branches (core c.args.t.now) in
+    let l = uses_of at.log in
+    let xs = map (option_map yield) at.firsts.items in
+    let p = plan at.rest in
+    let is : p ≡ nothing = ap plan c.in-Nothing.is ∙ plan_Nothing _ _ _ _ in
+    let gave : given_plan b cap on s c.args.group c.args.tail env ts p l ≡ gives None l = ap (λ p. given_plan b cap on s c.args.group c.args.tail env ts p l) is in
+    record {
+      value = last_gave b cap on s c.args.group c.args.tail env ts xs _ p l None l inv.whole gave ∙ ap (λ o. gives o l) (sym c.in_ok-joined_all-in-Nothing.ensures.value);
+      fits = c.in_ok-joined_all-in-Nothing.ensures.fits;
+      env = inv.env;
+      memo = inv.memo;
+      grown = inv.grown;
+    }
+
+pub go-arm-requires : goal.go-arm-requires
+go-arm-requires g t c κs within =
+    let b = g.B.Base.algebra in
+    let cap = g.B.Base.CAP in
+    let on = (g.K.Known.calls c.args.setting.now.ctx.now) in
+    let s = c.args.setting.now in
+    let at = c.loop-rest in
+    let inv = at.invariant in
+    let env = map abs c.args.env.now.items in
+    let ts = branches (core c.args.t.now) in
+    let l = uses_of at.log in
+    let xs = map (option_map yield) at.firsts.items in
+    let p = plan at.rest in
+    let is : p ≡ arm c.in-Arm.number (map abs c.in-Arm.named.items) = ap plan c.in-Arm.is ∙ plan_Arm c.in-Arm.number c.in-Arm.named in
+    let smaller : size p ≡ 1 = ap size is in
+    let fits = rw is at inv.plan in (
+      omega (arith, smaller, inv.below, c.decreases),
+      (
+        within.0,
+        (
+          within.1.0,
+          (
+            within.1.1.0,
+            (
+              within.1.1.1.0,
+              (
+                within.1.1.1.1.0,
+                (
+                  within.1.1.1.1.1,
+                  (
+                    record { ready = c.requires.known.ready; fits = rw inv.env c.requires.known.fits; memo = inv.memo },
+                    (c.requires.order, fits),
+                  ),
+                ),
+              ),
+            ),
+          ),
+        ),
+      ),
+    )
+
+pub go-returns-in_err-last-in-Arm : goal.go-returns-in_err-last-in-Arm
+go-returns-in_err-last-in-Arm g t c =
+    let b = g.B.Base.algebra in
+    let cap = g.B.Base.CAP in
+    let on = (g.K.Known.calls c.args.setting.now.ctx.now) in
+    let s = c.args.setting.now in
+    let at = c.loop-rest in
+    let inv = at.invariant in
+    let env = map abs c.args.env.now.items in
+    let ts = branches (core c.args.t.now) in
+    let l = uses_of at.log in
+    let xs = map (option_map yield) at.firsts.items in
+    let p = plan at.rest in
+    let n = c.in-Arm.number in
+    let vs = map abs c.in-Arm.named.items in
+    let is : p ≡ arm n vs = ap plan c.in-Arm.is ∙ plan_Arm n c.in-Arm.named in
+    let runs = rw inv.env at c.in_err-last-in-Arm.ensures in
+    failed b cap s g.K.Specified.spec g.K.Counted.rank on g.K.Counted.before g.K.Counted.ticked _ _ (yield {X = g.row.B.Denot} {W = g.row.B-Word.Denot} {N = g.row.B-Note.Denot} {C = g.row.B-Ctx.Denot}) c.in_err-last-in-Arm.field-0.0 _ _ _ (uses_of c.arm.new.log) _ (of.given_arm b cap on s c.args.group c.args.tail env ts n vs l) _ _ _ _ _
+    (err_is c.from_residual-in_err-last-in-Arm.result c.in_err-last-in-Arm.field-0.0 c.from_residual-in_err-last-in-Arm.ensures) runs.value
+    (λ j e. last_fails b cap on s c.args.group c.args.tail env ts xs _ p l j inv.whole (ap (λ p. given_plan b cap on s c.args.group c.args.tail env ts p l) is ∙ e)) runs.memo (grown_then inv.grown runs.grown)
+
+pub go-returns-in-Arm : goal.go-returns-in-Arm
+go-returns-in-Arm g t c =
+    let b = g.B.Base.algebra in
+    let cap = g.B.Base.CAP in
+    let on = (g.K.Known.calls c.args.setting.now.ctx.now) in
+    let s = c.args.setting.now in
+    let at = c.loop-rest in
+    let inv = at.invariant in
+    let env = map abs c.args.env.now.items in
+    let ts = branches (core c.args.t.now) in
+    let l = uses_of at.log in
+    let xs = map (option_map yield) at.firsts.items in
+    let p = plan at.rest in
+    let n = c.in-Arm.number in
+    let vs = map abs c.in-Arm.named.items in
+    let is : p ≡ arm n vs = ap plan c.in-Arm.is ∙ plan_Arm n c.in-Arm.named in
+    let m = uses_of c.arm.new.log in
+    let runs = c.in_ok-last-in-Arm.ensures in
+    let value = rw inv.env at runs.value in
+    let gave = ap (λ p. given_plan b cap on s c.args.group c.args.tail env ts p l) is ∙ value in
+    record {
+      value = last_gave b cap on s c.args.group c.args.tail env ts xs _ p l (option_map yield c.in_ok-last-in-Arm.last) m inv.whole gave ∙ ap (λ o. gives o m) (sym c.in_ok-joined_all-in-Arm.ensures.value);
+      fits = c.in_ok-joined_all-in-Arm.ensures.fits;
+      env = runs.env ∙ inv.env;
+      memo = runs.memo;
+      grown = grown_then inv.grown runs.grown;
+    }
+
+pub go-go-requires : goal.go-go-requires
+go-go-requires g t c κs within =
+    let b = g.B.Base.algebra in
+    let cap = g.B.Base.CAP in
+    let on = (g.K.Known.calls c.args.setting.now.ctx.now) in
+    let s = c.args.setting.now in
+    let at = c.loop-rest in
+    let inv = at.invariant in
+    let env = map abs c.args.env.now.items in
+    let ts = branches (core c.args.t.now) in
+    let l = uses_of at.log in
+    let xs = map (option_map yield) at.firsts.items in
+    let p = plan c.in-Both.first.value in
+    let q = plan c.in-Both.second.value in
+    let taken : plan c.into_inner-plan.result ≡ p = ap plan c.into_inner-plan.ensures in
+    let is : plan at.rest ≡ both p q = ap plan c.in-Both.is ∙ plan_Both c.in-Both.first c.in-Both.second in
+    let smaller : size (plan at.rest) ≡ 1 + (size p + size q) = ap size is in
+    let taken_size = ap size taken in
+    let both_fit = rw is at inv.plan in (
+      omega (arith, smaller, taken_size, inv.below, c.decreases),
+      (
+        within.0,
+        (
+          within.1.0,
+          (
+            within.1.1.0,
+            (
+              within.1.1.1.0,
+              (
+                within.1.1.1.1.0,
+                (
+                  within.1.1.1.1.1,
+                  (
+                    record { ready = c.requires.known.ready; fits = rw inv.env c.requires.known.fits; memo = inv.memo },
+                    (c.requires.order, rw taken both_fit.0),
+                  ),
+                ),
+              ),
+            ),
+          ),
+        ),
+      ),
+    )
+
+pub go-returns-in_err-given-in-Both : goal.go-returns-in_err-given-in-Both
+go-returns-in_err-given-in-Both g t c =
+    let b = g.B.Base.algebra in
+    let cap = g.B.Base.CAP in
+    let on = (g.K.Known.calls c.args.setting.now.ctx.now) in
+    let s = c.args.setting.now in
+    let at = c.loop-rest in
+    let inv = at.invariant in
+    let env = map abs c.args.env.now.items in
+    let ts = branches (core c.args.t.now) in
+    let l = uses_of at.log in
+    let xs = map (option_map yield) at.firsts.items in
+    let p = plan c.in-Both.first.value in
+    let q = plan c.in-Both.second.value in
+    let taken : plan c.into_inner-plan.result ≡ p = ap plan c.into_inner-plan.ensures in
+    let is : plan at.rest ≡ both p q = ap plan c.in-Both.is ∙ plan_Both c.in-Both.first c.in-Both.second in
+    let runs = rw (inv.env, taken) at c.in_err-given-in-Both.ensures in
+    failed b cap s g.K.Specified.spec g.K.Counted.rank on g.K.Counted.before g.K.Counted.ticked _ _ (yield {X = g.row.B.Denot} {W = g.row.B-Word.Denot} {N = g.row.B-Note.Denot} {C = g.row.B-Ctx.Denot}) c.in_err-given-in-Both.field-0.0 _ _ _ (uses_of c.go.new.log) _ (given_plan b cap on s c.args.group c.args.tail env ts p l) _ _ _ _ _
+    (err_is c.from_residual-in_err-given-in-Both.result c.in_err-given-in-Both.field-0.0 c.from_residual-in_err-given-in-Both.ensures) runs.value
+    (λ j e. first_fails b cap on s c.args.group c.args.tail env ts xs _ (plan at.rest) l p q j is inv.whole e) runs.memo (grown_then inv.grown runs.grown)
+
+pub go-loop-rest-init : goal.go-loop-rest-init
+go-loop-rest-init g t c =
+    let b = g.B.Base.algebra in
+    let cap = g.B.Base.CAP in
+    let on = (g.K.Known.calls c.args.setting.now.ctx.now) in
+    let s = c.args.setting.now in
+    let empty = c.new-firsts.ensures.items in
+    record {
+      whole = rw empty (behind_none (of.join_yields b cap on s) (given_plan b cap on s c.args.group c.args.tail (map abs c.args.env.now.items) (branches (core c.args.t.now)) (plan c.args.plan) (uses_of c.args.log.now)));
+      below = omega arith;
+      plan = c.requires.plan;
+      firsts = rw empty (All-nil (λ (x : Option (GivenHere g.row.B.Denot g.row.B-Word.Denot g.row.B-Note.Denot g.row.B-Ctx.Denot)). IfSome x (λ v. YieldFits b cap s c.args.group (yield v))));
+      env = refl;
+      memo = c.requires.known.memo;
+      grown = no_more _ _;
+    }
+
+pub go-loop-rest-smaller : goal.go-loop-rest-smaller
+go-loop-rest-smaller g t c =
+    let p = plan c.in-Both.first.value in
+    let q = plan c.in-Both.second.value in
+    let is : plan c.loop-rest.rest ≡ both p q = ap plan c.in-Both.is ∙ plan_Both c.in-Both.first c.in-Both.second in
+    let smaller : size (plan c.loop-rest.rest) ≡ 1 + (size p + size q) = ap size is in
+    let left : plan c.into_inner-rest.result ≡ q = ap plan c.into_inner-rest.ensures in
+    let left_size = ap size left in
+    omega (arith, smaller, left_size)
+
+pub go-returns-in_err-joined_all-in-Arm : goal.go-returns-in_err-joined_all-in-Arm
+go-returns-in_err-joined_all-in-Arm g t c =
+    let runs = c.in_ok-last-in-Arm.ensures in
+    no_memory g.B.Base.algebra g.B.Base.CAP c.args.setting.now g.K.Specified.spec g.K.Counted.rank (g.K.Known.calls c.args.setting.now.ctx.now) g.K.Counted.before g.K.Counted.ticked _ _ c.from_residual-in_err-joined_all-in-Arm.result _ _ _ _ _ _ _ _
+    (err_is c.from_residual-in_err-joined_all-in-Arm.result error.NoMemory c.from_residual-in_err-joined_all-in-Arm.ensures) runs.memo (grown_then c.loop-rest.invariant.grown runs.grown)
+
+pub go-returns-in_err-push-in-Both : goal.go-returns-in_err-push-in-Both
+go-returns-in_err-push-in-Both g t c =
+    let runs = c.in_ok-given-in-Both.ensures in
+    no_memory g.B.Base.algebra g.B.Base.CAP c.args.setting.now g.K.Specified.spec g.K.Counted.rank (g.K.Known.calls c.args.setting.now.ctx.now) g.K.Counted.before g.K.Counted.ticked _ _ c.from_residual-in_err-push-in-Both.result _ _ _ _ _ _ _ _
+    (err_is c.from_residual-in_err-push-in-Both.result error.NoMemory c.from_residual-in_err-push-in-Both.ensures) runs.memo (grown_then c.loop-rest.invariant.grown runs.grown)
+
+pub go-loop-rest-preserved : goal.go-loop-rest-preserved
+go-loop-rest-preserved g t c =
+    let b = g.B.Base.algebra in
+    let cap = g.B.Base.CAP in
+    let on = (g.K.Known.calls c.args.setting.now.ctx.now) in
+    let s = c.args.setting.now in
+    let at = c.loop-rest in
+    let inv = at.invariant in
+    let env = map abs c.args.env.now.items in
+    let ts = branches (core c.args.t.now) in
+    let l = uses_of at.log in
+    let xs = map (option_map yield) at.firsts.items in
+    let p = plan c.in-Both.first.value in
+    let q = plan c.in-Both.second.value in
+    let taken : plan c.into_inner-plan.result ≡ p = ap plan c.into_inner-plan.ensures in
+    let is : plan at.rest ≡ both p q = ap plan c.in-Both.is ∙ plan_Both c.in-Both.first c.in-Both.second in
+    let smaller : size (plan at.rest) ≡ 1 + (size p + size q) = ap size is in
+    let x = c.in_ok-given-in-Both.given in
+    let m = uses_of c.go.new.log in
+    let runs = c.in_ok-given-in-Both.ensures in
+    let value = rw (inv.env, taken) at runs.value in
+    let pushed : c.push.new.self.items ≡ at.firsts.items ++ x ∷ [] = c.in_ok-push-in-Both.ensures.items in
+    let left : plan c.into_inner-rest.result ≡ q = ap plan c.into_inner-rest.ensures in
+    let left_size = ap size left in
+    let both_fit = rw is at inv.plan in
+    let next = first_gave b cap on s c.args.group c.args.tail env ts xs _ (plan at.rest) l p q (option_map yield x) m is inv.whole value in
+    record {
+      whole = rw (pushed, left, map-append) next;
+      below = omega (arith, smaller, left_size, inv.below);
+      plan = rw left both_fit.1;
+      firsts = rw pushed (All-append (λ (x : Option (GivenHere g.row.B.Denot g.row.B-Word.Denot g.row.B-Note.Denot g.row.B-Ctx.Denot)). IfSome x (λ v. YieldFits b cap s c.args.group (yield v))) at.firsts.items (x ∷ []) inv.firsts (All-cons (λ (x : Option (GivenHere g.row.B.Denot g.row.B-Word.Denot g.row.B-Note.Denot g.row.B-Ctx.Denot)). IfSome x (λ v. YieldFits b cap s c.args.group (yield v))) x [] runs.fits (All-nil (λ (x : Option (GivenHere g.row.B.Denot g.row.B-Word.Denot g.row.B-Note.Denot g.row.B-Ctx.Denot)). IfSome x (λ v. YieldFits b cap s c.args.group (yield v))))));
+      env = runs.env ∙ inv.env;
+      memo = runs.memo;
+      grown = grown_then inv.grown runs.grown;
+    }
+
+-- ---- arm
+
+pub arm-returns-in_default-body : goal.arm-returns-in_default-body
+arm-returns-in_default-body g t c =
     let b = g.B.Base.algebra in
     let s = c.args.setting.now in
     let ts = branches (core c.args.t.now) in
-    let n = c.in-Arm.number in
-    let vs = map abs c.in-Arm.named.items in
-    let is : plan c.args.plan ≡ arm n vs = ap plan c.in-Arm.is ∙ plan_Arm n c.in-Arm.named in
+    let n = c.args.number in
+    let vs = map abs c.args.named.items in
     let past : part_at ts n ≡ None = search rules in
     record {
-      value = rw is (arm_missing b g.B.Base.CAP (g.K.Known.calls c.args.setting.now.ctx.now) s c.args.group c.args.tail (map abs c.args.env.now.items) ts n vs (uses_of c.args.log.now) past);
+      value = (arm_missing b g.B.Base.CAP (g.K.Known.calls c.args.setting.now.ctx.now) s c.args.group c.args.tail (map abs c.args.env.now.items) ts n vs (uses_of c.args.log.now) past);
       fits = tt;
       env = refl;
       memo = c.requires.known.memo;
       grown = no_more _ _;
     }
 
-pub go-term-requires : goal.go-term-requires
-go-term-requires g t c κs within =
+pub arm-term-requires : goal.arm-term-requires
+arm-term-requires g t c κs within =
     let b = g.B.Base.algebra in
     let cap = g.B.Base.CAP in
     let s = c.args.setting.now in
     let ts = branches (core c.args.t.now) in
-    let n = c.in-Arm.number in
-    let named = c.in-Arm.named.items in
-    let is : plan c.args.plan ≡ arm n (map abs named) = ap plan c.in-Arm.is ∙ plan_Arm n c.in-Arm.named in
-    let x = core c.in_Some-body-in-Arm.body.now in
-    let here : part_at ts n ≡ Some x = sym c.in_Some-body-in-Arm.ensures in
+    let n = c.args.number in
+    let named = c.args.named.items in
+    let x = core c.in_Some-body.body.now in
+    let here : part_at ts n ≡ Some x = sym c.in_Some-body.ensures in
     let lighter = part_weighs ts n x here in
-    let one : size (plan c.args.plan) ≡ 1 = ap size is in
-    let fits = rw is at c.requires.plan in
-    let env : c.append.new.self.items ≡ c.args.env.now.items ++ named = c.in_ok-append-in-Arm.ensures.items in (
-      omega (arith, lighter, one, c.decreases),
+    let env : c.append.new.self.items ≡ c.args.env.now.items ++ named = c.in_ok-append.ensures.items in (
+      omega (arith, lighter, c.decreases),
       (
         within.0,
         (
@@ -233,7 +489,7 @@ go-term-requires g t c κs within =
                   (
                     record {
                       ready = c.requires.known.ready;
-                      fits = rw env (All-append (λ v. Fits b s.ctx.now cap (abs v)) c.args.env.now.items named c.requires.known.fits (all_viewed (Fits b s.ctx.now cap) abs named fits));
+                      fits = rw env (All-append (λ v. Fits b s.ctx.now cap (abs v)) c.args.env.now.items named c.requires.known.fits (all_viewed (Fits b s.ctx.now cap) abs named c.requires.named));
                       memo = c.requires.known.memo;
                     },
                     part_in_order (length (spec_of s).funs) (group_of s) g.K.Counted.rank c.args.group c.args.tail ts n x c.requires.order here,
@@ -246,46 +502,44 @@ go-term-requires g t c κs within =
       ),
     )
 
-pub go-returns-in_err-given-in-Arm : goal.go-returns-in_err-given-in-Arm
-go-returns-in_err-given-in-Arm g t c =
+pub arm-returns-in_err-given : goal.arm-returns-in_err-given
+arm-returns-in_err-given g t c =
     let b = g.B.Base.algebra in
     let cap = g.B.Base.CAP in
     let on = (g.K.Known.calls c.args.setting.now.ctx.now) in
     let s = c.args.setting.now in
     let env = map abs c.args.env.now.items in
     let ts = branches (core c.args.t.now) in
-    let n = c.in-Arm.number in
-    let named = c.in-Arm.named.items in
+    let n = c.args.number in
+    let named = c.args.named.items in
     let vs = map abs named in
     let l = uses_of c.args.log.now in
-    let is : plan c.args.plan ≡ arm n vs = ap plan c.in-Arm.is ∙ plan_Arm n c.in-Arm.named in
-    let x = core c.in_Some-body-in-Arm.body.now in
-    let here : part_at ts n ≡ Some x = sym c.in_Some-body-in-Arm.ensures in
-    let wider : c.append.new.self.items ≡ c.args.env.now.items ++ named = c.in_ok-append-in-Arm.ensures.items in
-    let runs = rw (wider, map-append) at c.in_err-given-in-Arm.ensures in
-    let so : given_plan b cap on s c.args.group c.args.tail env ts (plan c.args.plan) l ≡ of.given_of b cap on s c.args.group c.args.tail (env ++ vs) x l = rw is (arm_is b cap on s c.args.group c.args.tail env ts n vs x l here) in
-    failed b cap s g.K.Specified.spec g.K.Counted.rank on g.K.Counted.before g.K.Counted.ticked _ _ (yield {X = g.row.B.Denot} {W = g.row.B-Word.Denot} {N = g.row.B-Note.Denot} {C = g.row.B-Ctx.Denot}) c.in_err-given-in-Arm.field-0.0 _ _ _ (uses_of c.term.new.log) _ (of.given_of b cap on s c.args.group c.args.tail (env ++ vs) x l) _ _ _ _ _
-    (err_is c.from_residual-in_err-given-in-Arm.result c.in_err-given-in-Arm.field-0.0 c.from_residual-in_err-given-in-Arm.ensures) runs.value (λ j e. so ∙ e) runs.memo runs.grown
+    let x = core c.in_Some-body.body.now in
+    let here : part_at ts n ≡ Some x = sym c.in_Some-body.ensures in
+    let wider : c.append.new.self.items ≡ c.args.env.now.items ++ named = c.in_ok-append.ensures.items in
+    let runs = rw (wider, map-append) at c.in_err-given.ensures in
+    let so = arm_is b cap on s c.args.group c.args.tail env ts n vs x l here in
+    failed b cap s g.K.Specified.spec g.K.Counted.rank on g.K.Counted.before g.K.Counted.ticked _ _ (yield {X = g.row.B.Denot} {W = g.row.B-Word.Denot} {N = g.row.B-Note.Denot} {C = g.row.B-Ctx.Denot}) c.in_err-given.field-0.0 _ _ _ (uses_of c.term.new.log) _ (of.given_of b cap on s c.args.group c.args.tail (env ++ vs) x l) _ _ _ _ _
+    (err_is c.from_residual-in_err-given.result c.in_err-given.field-0.0 c.from_residual-in_err-given.ensures) runs.value (λ j e. so ∙ e) runs.memo runs.grown
 
-pub go-returns-in_ok-given-in-Arm : goal.go-returns-in_ok-given-in-Arm
-go-returns-in_ok-given-in-Arm g t c =
+pub arm-returns : goal.arm-returns
+arm-returns g t c =
     let b = g.B.Base.algebra in
     let cap = g.B.Base.CAP in
     let on = (g.K.Known.calls c.args.setting.now.ctx.now) in
     let s = c.args.setting.now in
     let env = map abs c.args.env.now.items in
     let ts = branches (core c.args.t.now) in
-    let n = c.in-Arm.number in
-    let named = c.in-Arm.named.items in
+    let n = c.args.number in
+    let named = c.args.named.items in
     let vs = map abs named in
     let l = uses_of c.args.log.now in
-    let is : plan c.args.plan ≡ arm n vs = ap plan c.in-Arm.is ∙ plan_Arm n c.in-Arm.named in
-    let x = core c.in_Some-body-in-Arm.body.now in
-    let here : part_at ts n ≡ Some x = sym c.in_Some-body-in-Arm.ensures in
-    let wider : c.append.new.self.items ≡ c.args.env.now.items ++ named = c.in_ok-append-in-Arm.ensures.items in
-    let runs = c.in_ok-given-in-Arm.ensures in
+    let x = core c.in_Some-body.body.now in
+    let here : part_at ts n ≡ Some x = sym c.in_Some-body.ensures in
+    let wider : c.append.new.self.items ≡ c.args.env.now.items ++ named = c.in_ok-append.ensures.items in
+    let runs = c.in_ok-given.ensures in
     let value = rw (wider, map-append) at runs.value in
-    let so : given_plan b cap on s c.args.group c.args.tail env ts (plan c.args.plan) l ≡ of.given_of b cap on s c.args.group c.args.tail (env ++ vs) x l = rw is (arm_is b cap on s c.args.group c.args.tail env ts n vs x l here) in
+    let so = arm_is b cap on s c.args.group c.args.tail env ts n vs x l here in
     let e = c.args.env.now.items in
     let long : c.len-outer.result ≡ length e = search rules in
     let cut : c.truncate.new.self.items ≡ take (length e) c.term.new.env.items = rw (c.truncate.ensures.items, long) refl in
@@ -400,7 +654,7 @@ call-activation-requires g t c κs within =
     let s = c.args.setting.now in
     let f = c.args.fun in
     let args = c.args.args.items in
-    let ds : c.deref-2.result.now ≡ args = c.deref-2.ensures.value in
+    let same : map abs c.in_ok-again.again.items ≡ map abs args = c.in_ok-again.ensures ∙ ap (λ zs. map abs zs) c.deref-2.ensures.value in
     let empty : uses_of c.new-own.result ≡ [] = search rules in
     let typed = rw c.deref.ensures.value at (c.in_ok-value.ensures.typed c.in_default.is) in (
       omega (arith, c.decreases),
@@ -418,7 +672,7 @@ call-activation-requires g t c κs within =
                   within.1.1.1.1.1,
                   (
                     record { ready = c.requires.known.ready; fits = All-nil (λ v. Fits b s.ctx.now g.B.Base.CAP (abs v)); memo = c.requires.known.memo },
-                    (c.requires.there, (rw ds (are_arguments b g.B.Base.CAP s g.K.Specified.spec g.K.Counted.rank (g.K.Known.calls c.args.setting.now.ctx.now) f (map abs args) c.requires.args typed), empty)),
+                    (c.requires.there, (rw same (are_arguments b g.B.Base.CAP s g.K.Specified.spec g.K.Counted.rank (g.K.Known.calls c.args.setting.now.ctx.now) f (map abs args) c.requires.args typed), empty)),
                   ),
                 ),
               ),
@@ -427,6 +681,13 @@ call-activation-requires g t c κs within =
         ),
       ),
     )
+
+pub call-returns-in_err-again : goal.call-returns-in_err-again
+call-returns-in_err-again g t c =
+    let stops = err_is c.from_residual-in_err-again.result error.NoMemory c.from_residual-in_err-again.ensures in
+    call_failed g.B.Base.algebra g.B.Base.CAP c.args.setting.now g.K.Specified.spec g.K.Counted.rank (g.K.Known.calls c.args.setting.now.ctx.now) g.K.Counted.before g.K.Counted.ticked c.args.fun (map abs c.args.args.items) error.NoMemory c.from_residual-in_err-again.result _ _ _ _ _ stops
+    (no_memory g.B.Base.algebra g.B.Base.CAP c.args.setting.now g.K.Specified.spec g.K.Counted.rank (g.K.Known.calls c.args.setting.now.ctx.now) g.K.Counted.before g.K.Counted.ticked _ _ c.from_residual-in_err-again.result _ _ _ _ _ _ _ _ stops c.requires.known.memo (log_alone _ _ _ c.recalled.ensures.grown))
+    (λ _. refl)
 
 pub call-returns-in_err-value : goal.call-returns-in_err-value
 call-returns-in_err-value g t c =
@@ -449,7 +710,8 @@ call-returns-in_err-value-2 g t c =
     let fs = entries c.activation.new.memo in
     let own = uses_of c.activation.new.own in
     let stops = err_is c.from_residual-in_err-value-2.result c.in_err-value-2.field-0.0 c.from_residual-in_err-value-2.ensures in
-    let told = rw c.deref-2.ensures.value at c.in_err-value-2.ensures in
+    let again : map abs c.in_ok-again.again.items ≡ ps = c.in_ok-again.ensures ∙ ap (λ zs. map abs zs) c.deref-2.ensures.value in
+    let told = rw again at c.in_err-value-2.ensures in
     let new = rw c.deref.ensures.value at (c.in_ok-value.ensures.unknown c.in_default.is) in
     call_failed b cap s g.K.Specified.spec g.K.Counted.rank on g.K.Counted.before g.K.Counted.ticked f ps c.in_err-value-2.field-0.0 c.from_residual-in_err-value-2.result l m es fs c.activation.new.steps stops
     (failed b cap s g.K.Specified.spec g.K.Counted.rank on g.K.Counted.before g.K.Counted.ticked _ _ (abs {X = g.row.B.Denot} {W = g.row.B-Word.Denot} {N = g.row.B-Note.Denot} {C = g.row.B-Ctx.Denot}) c.in_err-value-2.field-0.0
@@ -496,7 +758,8 @@ call-returns g t c =
     let own = uses_of c.activation.new.own in
     let value = option_map abs c.in_ok-value-2.value in
     let v = c.in_ok-recorded.field-0 in
-    let runs = rw c.deref-2.ensures.value at c.in_ok-value-2.ensures in
+    let again : map abs c.in_ok-again.again.items ≡ ps = c.in_ok-again.ensures ∙ ap (λ zs. map abs zs) c.deref-2.ensures.value in
+    let runs = rw again at c.in_ok-value-2.ensures in
     let new = rw c.deref.ensures.value at (c.in_ok-value.ensures.unknown c.in_default.is) in
     let stays : m ≡ l = c.in_ok-value.ensures.new c.in_default.is in
     let same : option_map abs v ≡ value = c.in_ok-recorded.ensures.value in
@@ -639,7 +902,7 @@ activation-turn-requires g t c κs within =
     let inv = c.loop-activity.invariant in
     let a = c.loop-activity.activity in
     let same = ap (λ k. depths (total (map core s.cir.now.funs.items)) (g.K.Counted.rank k)) c.group_of-group.ensures in
-    let fits = goes_fits b g.met.B.Base.laws cap s g.K.Specified.spec g.K.Counted.rank (g.K.Known.calls c.args.setting.now.ctx.now) c.requires.known.ready c.args.fun c.requires.there (map abs c.args.args.now) a (uses_of c.loop-activity.own) inv.goes in (
+    let fits = goes_fits b g.met.B.Base.laws cap s g.K.Specified.spec g.K.Counted.rank (g.K.Known.calls c.args.setting.now.ctx.now) c.requires.known.ready c.args.fun c.requires.there (map abs c.args.args.items) a (uses_of c.loop-activity.own) inv.goes in (
       omega (arith, same, c.decreases),
       (
         within.0,
@@ -677,18 +940,18 @@ activation-returns-in_err-given g t c =
     let told = rw (c.args_of.ensures, c.group_of-group.ensures) at c.in_err-given.ensures.value in
     failed b cap s g.K.Specified.spec g.K.Counted.rank on g.K.Counted.before g.K.Counted.ticked _ _ (yield {X = g.row.B.Denot} {W = g.row.B-Word.Denot} {N = g.row.B-Note.Denot} {C = g.row.B-Ctx.Denot}) c.in_err-given.field-0.0 _ _ _ (uses_of c.turn.new.log) _
     (group_turn b cap on s (group_of s f) (due a) l) _ _ _ _ _ (err_is c.from_residual-in_err-given.result c.in_err-given.field-0.0 c.from_residual-in_err-given.ensures) told
-    (goes_failed b g.met.B.Base.laws cap s g.K.Specified.spec g.K.Counted.rank on c.requires.known.ready f c.requires.there (map abs c.args.args.now) a l c.loop-activity.invariant.goes) c.in_err-given.ensures.memo (grown_then c.loop-activity.invariant.grown c.in_err-given.ensures.grown)
+    (goes_failed b g.met.B.Base.laws cap s g.K.Specified.spec g.K.Counted.rank on c.requires.known.ready f c.requires.there (map abs c.args.args.items) a l c.loop-activity.invariant.goes) c.in_err-given.ensures.memo (grown_then c.loop-activity.invariant.grown c.in_err-given.ensures.grown)
 
 pub activation-advance-requires-clause-taken : goal.activation-advance-requires-clause-taken
 activation-advance-requires-clause-taken g t c =
     let told = rw (c.args_of.ensures, c.group_of-group.ensures) at c.in_ok-given.ensures.value in
-    record { args = map abs c.args.args.now; before = uses_of c.loop-activity.own; after = uses_of c.turn.new.log; goes = c.loop-activity.invariant.goes; gave = told }
+    record { args = map abs c.args.args.items; before = uses_of c.loop-activity.own; after = uses_of c.turn.new.log; goes = c.loop-activity.invariant.goes; gave = told }
 
 pub activation-loop-activity-preserved : goal.activation-loop-activity-preserved
 activation-loop-activity-preserved g t c =
     let told = rw (c.args_of.ensures, c.group_of-group.ensures) at c.in_ok-given.ensures.value in
     let after = rw c.in-Again.is at c.in_ok-advance.ensures.after in
-    record { goes = after (map abs c.args.args.now) (uses_of c.loop-activity.own) (uses_of c.turn.new.log) c.loop-activity.invariant.goes told; memo = c.in_ok-given.ensures.memo; grown = grown_then c.loop-activity.invariant.grown c.in_ok-given.ensures.grown }
+    record { goes = after (map abs c.args.args.items) (uses_of c.loop-activity.own) (uses_of c.turn.new.log) c.loop-activity.invariant.goes told; memo = c.in_ok-given.ensures.memo; grown = grown_then c.loop-activity.invariant.grown c.in_ok-given.ensures.grown }
 
 pub activation-returns-in-Done : goal.activation-returns-in-Done
 activation-returns-in-Done g t c =
@@ -697,7 +960,7 @@ activation-returns-in-Done g t c =
     let on = (g.K.Known.calls c.args.setting.now.ctx.now) in
     let s = c.args.setting.now in
     let f = c.args.fun in
-    let ps = map abs c.args.args.now in
+    let ps = map abs c.args.args.items in
     let m = uses_of c.turn.new.log in
     let told = rw (c.args_of.ensures, c.group_of-group.ensures) at c.in_ok-given.ensures.value in
     let after = rw c.in-Done.is at c.in_ok-advance.ensures.after in
@@ -714,7 +977,7 @@ pub activation-returns-in-Deep : goal.activation-returns-in-Deep
 activation-returns-in-Deep g t c =
     let told = rw (c.args_of.ensures, c.group_of-group.ensures) at c.in_ok-given.ensures.value in
     let after = rw c.in-Deep.is at c.in_ok-advance.ensures.after in
-    record { value = after (map abs c.args.args.now) (uses_of c.loop-activity.own) (uses_of c.turn.new.log) c.loop-activity.invariant.goes told; fits = tt; env = tt; memo = c.in_ok-given.ensures.memo; grown = grown_then c.loop-activity.invariant.grown c.in_ok-given.ensures.grown }
+    record { value = after (map abs c.args.args.items) (uses_of c.loop-activity.own) (uses_of c.turn.new.log) c.loop-activity.invariant.goes told; fits = tt; env = tt; memo = c.in_ok-given.ensures.memo; grown = grown_then c.loop-activity.invariant.grown c.in_ok-given.ensures.grown }
 
 pub activation-returns-in_err-advance : goal.activation-returns-in_err-advance
 activation-returns-in_err-advance g t c =

@@ -1,4 +1,4 @@
-use Rattle.eval_state.specs.Memos.{entries}
+use Rattle.eval_memo.specs.Memos.{entries}
 use Rattle.generic_eval.proofs.Starting.{ready_by, stands_by}
 use Rattle.generic_eval.proofs.evaluation.eval.Goals as goal
 

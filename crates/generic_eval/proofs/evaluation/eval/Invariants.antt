@@ -1,7 +1,7 @@
 use Rattle.std.proofs.Common.{length}
 use Rattle.spec_types.specs.Views.{specification}
 use Rattle.group_ranks.specs.Ranks.{rank_of}
-use Rattle.eval_state.specs.Memos.{entries}
+use Rattle.eval_memo.specs.Memos.{entries}
 use Rattle.generic_eval.proofs.evaluation.eval.Given as goal
 
 abbrev pub ghosts-evaluated-K-Specified : goal.ghosts-evaluated-K-Specified

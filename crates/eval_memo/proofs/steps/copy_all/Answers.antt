@@ -1,0 +1,17 @@
+use Rattle.std.proofs.Common.{◌≡◌, ◌∙◌, ◌+◌, ◌<◌, ◌++◌, ◌∷◌, [], length, map, drop, sym, ap, rules}
+use Rattle.abs_value.specs.View.{abs}
+use Rattle.eval_memo.proofs.Items.{drop_here, pushed}
+use Rattle.eval_memo.proofs.steps.copy_all.Goals as goal
+
+pub loop-x-preserved : goal.loop-x-preserved
+loop-x-preserved g c =
+    let xs = c.args.xs.now in
+    let i = c.loop-x.x-index in
+    let x = c.x-item.result in
+    let z = c.in_ok-copy.field-0 in
+    let done = c.loop-x.out.items in
+    let within : i < length xs = search rules in
+    let here : drop i xs ≡ x ∷ drop (i + 1) xs = drop_here xs i x c.x-item.is within in
+    let out : c.push.new.self.items ≡ done ++ z ∷ [] = search rules in
+    let same : abs z ≡ abs x = search rules in
+    ap (λ o. map abs o ++ map abs (drop (i + 1) xs)) out ∙ pushed abs done z (map abs (drop (i + 1) xs)) ∙ ap (λ v. map abs done ++ v ∷ map abs (drop (i + 1) xs)) same ∙ sym (ap (λ d. map abs done ++ map abs d) here) ∙ c.loop-x.invariant

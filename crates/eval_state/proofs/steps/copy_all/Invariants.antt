@@ -1,7 +1,0 @@
-use Rattle.std.proofs.Common.{◌≡◌, ◌++◌, map, drop}
-use Rattle.abs_value.specs.View.{abs}
-use Rattle.eval_state.proofs.steps.copy_all.Given as goal
-
--- what is copied, and what is left
-abbrev pub invariant-loop-x : goal.invariant-loop-x
-invariant-loop-x g l = map abs l.out.items ++ map abs (drop l.x-index l.xs) ≡ map abs l.xs

@@ -1,0 +1,2 @@
+pub mod CoreForms
+pub mod OperandsFit
