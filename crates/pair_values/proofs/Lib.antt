@@ -1,4 +1,2 @@
-pub mod Maps
-pub mod Merging
 pub mod Values
 pub mod Weights

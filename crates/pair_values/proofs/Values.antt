@@ -1,14 +1,17 @@
 -- One more element of lists of parts or cases.
-use Rattle.std.proofs.Common.{◌≡◌, ℕ, ◌+◌, ◌≤◌, List, [], ◌∷◌, ◌++◌, length, drop, min, Option, Some, None, refl, sym, ap, subst, ◌∙◌, arith, length-drop}
-use Rattle.std.specs.Prelude.{map as map_of}
+use Rattle.std.proofs.Common.{◌≡◌, ℕ, ◌+◌, ◌≤◌, List, [], ◌∷◌, ◌++◌, length, drop, min, Option, Some, None, Result, Ok, Err, refl, sym, ap, subst, ◌∙◌, arith, length-drop}
+use Rattle.std.specs.Prelude.{map as map_of, IfOk, MatchResult}
+use Rattle.std.proofs.lemmas.List.{map_push}
 use Rattle.base_trait.specs.Algebra.{Algebra}
 use Rattle.map_laws.proofs.Joining.{drop_all}
 use Rattle.value_laws.specs.Abs.{Abs, Cases, Parts, flag, word, made, map, no_case, absent, present, no_part, part, case_onto, cases, cases_onto, parts, parts_onto}
 use Rattle.value_laws.specs.Fits.{CaseFits, CasesFit, Fits, PartsFit}
-use Rattle.pair_calls.specs.Calls.{mapped_cases, mapped_parts, mapped_value, zip_cases, zip_parts, zip_value}
+use Rattle.map_laws.specs.Maps.{Map}
+use Rattle.abs_value.proofs.Merging.{cases_onto_more, parts_onto_more}
+use Rattle.pair_calls.specs.Calls.{mapped_cases, mapped_map, mapped_parts, mapped_value, zip_cases, zip_parts, zip_value}
 use Rattle.pair_calls.proofs.Values.{CasesMeet, Meet, PartsMeet}
 use Rattle.pair_values.specs.Cases.{CaseMeets, mapped_case, zip_case}
-use Rattle.pair_values.proofs.Maps.{fits_more}
+use Rattle.pair_maps.proofs.Maps.{fits_more}
 
 -- ---- what fits where fewer cells may be listed
 module _ {W N C : Type 0} (B : Algebra W N C) (c : C) (low high : ℕ) (l : low ≤ high) where
@@ -29,14 +32,10 @@ module _ {W N C : Type 0} (B : Algebra W N C) (c : C) (low high : ℕ) (l : low 
     parts_fit_more (part x xs) h = (value_fits_more x h.0, parts_fit_more xs h.1)
 
 -- ---- one more behind those that are out
-module _ {S W N : Type 0} where
-  parts_pushed : (h : S → Abs W N) (out : List S) (z : S) (rest : Parts W N) → parts_onto (map_of h (out ++ z ∷ [])) rest ≡ parts_onto (map_of h out) (part (h z) rest)
-  parts_pushed h [] z rest = refl
-  parts_pushed h (x ∷ out) z rest = ap (part (h x)) (parts_pushed h out z rest)
-
-  cases_pushed : (h : S → Option (Parts W N)) (out : List S) (z : S) (rest : Cases W N) → cases_onto (map_of h (out ++ z ∷ [])) rest ≡ cases_onto (map_of h out) (case_onto (h z) rest)
-  cases_pushed h [] z rest = refl
-  cases_pushed h (x ∷ out) z rest = ap (case_onto (h x)) (cases_pushed h out z rest)
+module _ {S D E : Type 0} (h : S → D) where
+  pub pushed_view : (out out' : List S) (next : Result S E) (v : D) → MatchResult next (λ z. out' ≡ out ++ z ∷ []) (λ e. ⊥) → IfOk next (λ z. h z ≡ v) → map_of h out' ≡ map_of h out ++ v ∷ []
+  pushed_view out out' (Ok z) v more is = ap (map_of h) more ∙ map_push h out z ∙ ap (λ t. map_of h out ++ t ∷ []) is
+  pushed_view out out' (Err e) v more is = absurd more
 
 -- ---- the first of what is left, and the others
 module _ {W N C : Type 0} (B : Algebra W N C) (c : C) (cap : ℕ) where
@@ -100,37 +99,44 @@ module _ {T U V W M N C D : Type 0} (A : Algebra V M C) (B : Algebra W N D) (c :
       ends (p ∷ ps) [] h = no_second (f p) (cases (map_of f ps))
       ends (p ∷ ps) (q ∷ qs) h = absurd (omega arith)
 
-module _ {S T U V W M N C D : Type 0} (A : Algebra V M C) (B : Algebra W N D) (c : C × D) (cap : ℕ) where
-  module _ (xs : List T) (ys : List U) (i : ℕ) (x : T) (y : U) (p : drop i xs ≡ x ∷ drop (i + 1) xs) (q : drop i ys ≡ y ∷ drop (i + 1) ys) (out out' : List S) (z : S) (more : out' ≡ out ++ z ∷ []) where
-    pub zip_parts_more : (f : T → Abs V M) (g : U → Abs W N) (h : S → Abs (V × W) (M × N)) (whole : Parts (V × W) (M × N)) → h z ≡ zip_value A B c cap (f x) (g y)
-        → parts_onto (map_of h out) (zip_parts A B c cap (parts (map_of f (drop i xs))) (parts (map_of g (drop i ys)))) ≡ whole
-        → parts_onto (map_of h out') (zip_parts A B c cap (parts (map_of f (drop (i + 1) xs))) (parts (map_of g (drop (i + 1) ys)))) ≡ whole
-    zip_parts_more f g h whole here is =
+module _ {T U V W M N C D : Type 0} (A : Algebra V M C) (B : Algebra W N D) (c : C × D) (cap : ℕ) where
+  module _ (xs : List T) (ys : List U) (i : ℕ) (x : T) (y : U) (p : drop i xs ≡ x ∷ drop (i + 1) xs) (q : drop i ys ≡ y ∷ drop (i + 1) ys) where
+    pub zip_parts_more : (f : T → Abs V M) (g : U → Abs W N) (out out' : List (Abs (V × W) (M × N))) (whole : Parts (V × W) (M × N)) → out' ≡ out ++ zip_value A B c cap (f x) (g y) ∷ []
+        → parts_onto out (zip_parts A B c cap (parts (map_of f (drop i xs))) (parts (map_of g (drop i ys)))) ≡ whole
+        → parts_onto out' (zip_parts A B c cap (parts (map_of f (drop (i + 1) xs))) (parts (map_of g (drop (i + 1) ys)))) ≡ whole
+    zip_parts_more f g out out' whole more is =
         let rest = zip_parts A B c cap (parts (map_of f (drop (i + 1) xs))) (parts (map_of g (drop (i + 1) ys))) in
-        ap (λ l. parts_onto (map_of h l) rest) more ∙ parts_pushed h out z rest ∙ ap (λ t. parts_onto (map_of h out) (part t rest)) here
-        ∙ sym (ap (λ l. parts_onto (map_of h out) (zip_parts A B c cap (parts (map_of f l)) (parts (map_of g (drop i ys))))) p
-        ∙ ap (λ l. parts_onto (map_of h out) (zip_parts A B c cap (parts (map_of f (x ∷ drop (i + 1) xs))) (parts (map_of g l)))) q) ∙ is
+        ap (λ l. parts_onto l rest) more ∙ parts_onto_more out (zip_value A B c cap (f x) (g y)) rest
+        ∙ sym (ap (λ l. parts_onto out (zip_parts A B c cap (parts (map_of f l)) (parts (map_of g (drop i ys))))) p
+        ∙ ap (λ l. parts_onto out (zip_parts A B c cap (parts (map_of f (x ∷ drop (i + 1) xs))) (parts (map_of g l)))) q) ∙ is
 
-    pub zip_cases_more : (f : T → Option (Parts V M)) (g : U → Option (Parts W N)) (h : S → Option (Parts (V × W) (M × N))) (whole : Cases (V × W) (M × N)) → h z ≡ zip_case A B c cap (f x) (g y)
-        → cases_onto (map_of h out) (zip_cases A B c cap (cases (map_of f (drop i xs))) (cases (map_of g (drop i ys)))) ≡ whole
-        → cases_onto (map_of h out') (zip_cases A B c cap (cases (map_of f (drop (i + 1) xs))) (cases (map_of g (drop (i + 1) ys)))) ≡ whole
-    zip_cases_more f g h whole here is =
+    pub zip_cases_more : (f : T → Option (Parts V M)) (g : U → Option (Parts W N)) (out out' : List (Option (Parts (V × W) (M × N)))) (whole : Cases (V × W) (M × N)) → out' ≡ out ++ zip_case A B c cap (f x) (g y) ∷ []
+        → cases_onto out (zip_cases A B c cap (cases (map_of f (drop i xs))) (cases (map_of g (drop i ys)))) ≡ whole
+        → cases_onto out' (zip_cases A B c cap (cases (map_of f (drop (i + 1) xs))) (cases (map_of g (drop (i + 1) ys)))) ≡ whole
+    zip_cases_more f g out out' whole more is =
         let cs = cases (map_of f (drop (i + 1) xs)) in
         let ds = cases (map_of g (drop (i + 1) ys)) in
         let rest = zip_cases A B c cap cs ds in
-        ap (λ l. cases_onto (map_of h l) rest) more ∙ cases_pushed h out z rest ∙ ap (λ t. cases_onto (map_of h out) (case_onto t rest)) here
-        ∙ sym (ap (λ l. cases_onto (map_of h out) (zip_cases A B c cap (cases (map_of f l)) (cases (map_of g (drop i ys))))) p
-        ∙ ap (λ l. cases_onto (map_of h out) (zip_cases A B c cap (cases (map_of f (x ∷ drop (i + 1) xs))) (cases (map_of g l)))) q
-        ∙ ap (λ t. cases_onto (map_of h out) t) (case_step A B c cap (f x) (g y) cs ds)) ∙ is
+        ap (λ l. cases_onto l rest) more ∙ cases_onto_more out (zip_case A B c cap (f x) (g y)) rest
+        ∙ sym (ap (λ l. cases_onto out (zip_cases A B c cap (cases (map_of f l)) (cases (map_of g (drop i ys))))) p
+        ∙ ap (λ l. cases_onto out (zip_cases A B c cap (cases (map_of f (x ∷ drop (i + 1) xs))) (cases (map_of g l)))) q
+        ∙ ap (λ t. cases_onto out t) (case_step A B c cap (f x) (g y) cs ds)) ∙ is
 
   -- what is out is all
-  pub zip_parts_done : (f : T → Abs V M) (g : U → Abs W N) (h : S → Abs (V × W) (M × N)) (xs : List T) (ys : List U) (i : ℕ) (out : List S) (whole : Parts (V × W) (M × N)) → min (length xs) (length ys) ≤ i
-      → parts_onto (map_of h out) (zip_parts A B c cap (parts (map_of f (drop i xs))) (parts (map_of g (drop i ys)))) ≡ whole → parts (map_of h out) ≡ whole
-  zip_parts_done f g h xs ys i out whole l is = sym (ap (λ t. parts_onto (map_of h out) t) (zip_parts_end A B c cap f g xs ys i l)) ∙ is
+  pub zip_parts_done : (f : T → Abs V M) (g : U → Abs W N) (xs : List T) (ys : List U) (i : ℕ) (out : List (Abs (V × W) (M × N))) (whole : Parts (V × W) (M × N)) → min (length xs) (length ys) ≤ i
+      → parts_onto out (zip_parts A B c cap (parts (map_of f (drop i xs))) (parts (map_of g (drop i ys)))) ≡ whole → parts out ≡ whole
+  zip_parts_done f g xs ys i out whole l is = sym (ap (λ t. parts_onto out t) (zip_parts_end A B c cap f g xs ys i l)) ∙ is
 
-  pub zip_cases_done : (f : T → Option (Parts V M)) (g : U → Option (Parts W N)) (h : S → Option (Parts (V × W) (M × N))) (xs : List T) (ys : List U) (i : ℕ) (out : List S) (whole : Cases (V × W) (M × N)) → min (length xs) (length ys) ≤ i
-      → cases_onto (map_of h out) (zip_cases A B c cap (cases (map_of f (drop i xs))) (cases (map_of g (drop i ys)))) ≡ whole → cases (map_of h out) ≡ whole
-  zip_cases_done f g h xs ys i out whole l is = sym (ap (λ t. cases_onto (map_of h out) t) (zip_cases_end A B c cap f g xs ys i l)) ∙ is
+  pub zip_cases_done : (f : T → Option (Parts V M)) (g : U → Option (Parts W N)) (xs : List T) (ys : List U) (i : ℕ) (out : List (Option (Parts (V × W) (M × N)))) (whole : Cases (V × W) (M × N)) → min (length xs) (length ys) ≤ i
+      → cases_onto out (zip_cases A B c cap (cases (map_of f (drop i xs))) (cases (map_of g (drop i ys)))) ≡ whole → cases out ≡ whole
+  zip_cases_done f g xs ys i out whole l is = sym (ap (λ t. cases_onto out t) (zip_cases_end A B c cap f g xs ys i l)) ∙ is
+
+module _ {V W M N C D : Type 0} (A : Algebra V M C) (B : Algebra W N D) (c : C × D) (cap : ℕ) where
+  -- the value that the code makes of two constructor values
+  pub zipped_made : (ty tz : ℕ) (a : Abs V M) (b : Abs W N) (r : Abs (V × W) (M × N)) (cs cs' : Cases V M) (ds ds' : Cases W N) (out : Cases (V × W) (M × N))
+      → a ≡ made ty cs → b ≡ made tz ds → r ≡ made ty out → out ≡ zip_cases A B c cap cs' ds' → cs' ≡ cs → ds' ≡ ds → r ≡ zip_value A B c cap a b
+  zipped_made ty tz a b r cs cs' ds ds' out ea eb er is e f =
+      er ∙ ap (λ t. made ty t) (is ∙ ap (λ t. zip_cases A B c cap t ds') e ∙ ap (λ t. zip_cases A B c cap cs t) f) ∙ sym (ap (λ t. zip_value A B c cap t b) ea ∙ ap (λ t. zip_value A B c cap (made ty cs) t) eb)
 
 -- ---- the parts of a list
 module _ {V W M N : Type 0} (word : V → W) (note : M → N) where
@@ -149,28 +155,34 @@ module _ {T V W M N : Type 0} (word : V → W) (note : M → N) where
     mapped_cases_fit_on B c cap f h = case_fits B c cap (mapped_case word note (f x)) (mapped_cases word note (cases (map_of f (drop (i + 1) xs))))
         (subst (CasesFit B c cap) (mapped_step word note (f x) (cases (map_of f (drop (i + 1) xs)))) (subst (λ l. CasesFit B c cap (mapped_cases word note (cases (map_of f l)))) p h))
 
-module _ {S T V W M N : Type 0} (word : V → W) (note : M → N) where
+module _ {T V W M N : Type 0} (word : V → W) (note : M → N) where
   module _ (xs : List T) (i : ℕ) (x : T) (p : drop i xs ≡ x ∷ drop (i + 1) xs) where
-    module _ (out out' : List S) (z : S) (more : out' ≡ out ++ z ∷ []) where
-      pub mapped_parts_more : (f : T → Abs V M) (h : S → Abs W N) (whole : Parts W N) → h z ≡ mapped_value word note (f x)
-          → parts_onto (map_of h out) (mapped_parts word note (parts (map_of f (drop i xs)))) ≡ whole → parts_onto (map_of h out') (mapped_parts word note (parts (map_of f (drop (i + 1) xs)))) ≡ whole
-      mapped_parts_more f h whole here is =
-          let rest = mapped_parts word note (parts (map_of f (drop (i + 1) xs))) in
-          ap (λ l. parts_onto (map_of h l) rest) more ∙ parts_pushed h out z rest ∙ ap (λ t. parts_onto (map_of h out) (part t rest)) here
-          ∙ sym (ap (λ l. parts_onto (map_of h out) (mapped_parts word note (parts (map_of f l)))) p) ∙ is
+    pub mapped_parts_more : (f : T → Abs V M) (out out' : List (Abs W N)) (whole : Parts W N) → out' ≡ out ++ mapped_value word note (f x) ∷ []
+        → parts_onto out (mapped_parts word note (parts (map_of f (drop i xs)))) ≡ whole → parts_onto out' (mapped_parts word note (parts (map_of f (drop (i + 1) xs)))) ≡ whole
+    mapped_parts_more f out out' whole more is =
+        let rest = mapped_parts word note (parts (map_of f (drop (i + 1) xs))) in
+        ap (λ l. parts_onto l rest) more ∙ parts_onto_more out (mapped_value word note (f x)) rest ∙ sym (ap (λ l. parts_onto out (mapped_parts word note (parts (map_of f l)))) p) ∙ is
 
-      pub mapped_cases_more : (f : T → Option (Parts V M)) (h : S → Option (Parts W N)) (whole : Cases W N) → h z ≡ mapped_case word note (f x)
-          → cases_onto (map_of h out) (mapped_cases word note (cases (map_of f (drop i xs)))) ≡ whole → cases_onto (map_of h out') (mapped_cases word note (cases (map_of f (drop (i + 1) xs)))) ≡ whole
-      mapped_cases_more f h whole here is =
-          let cs = cases (map_of f (drop (i + 1) xs)) in
-          let rest = mapped_cases word note cs in
-          ap (λ l. cases_onto (map_of h l) rest) more ∙ cases_pushed h out z rest ∙ ap (λ t. cases_onto (map_of h out) (case_onto t rest)) here
-          ∙ sym (ap (λ l. cases_onto (map_of h out) (mapped_cases word note (cases (map_of f l)))) p ∙ ap (λ t. cases_onto (map_of h out) t) (mapped_step word note (f x) cs)) ∙ is
+    pub mapped_cases_more : (f : T → Option (Parts V M)) (out out' : List (Option (Parts W N))) (whole : Cases W N) → out' ≡ out ++ mapped_case word note (f x) ∷ []
+        → cases_onto out (mapped_cases word note (cases (map_of f (drop i xs)))) ≡ whole → cases_onto out' (mapped_cases word note (cases (map_of f (drop (i + 1) xs)))) ≡ whole
+    mapped_cases_more f out out' whole more is =
+        let cs = cases (map_of f (drop (i + 1) xs)) in
+        let rest = mapped_cases word note cs in
+        ap (λ l. cases_onto l rest) more ∙ cases_onto_more out (mapped_case word note (f x)) rest
+        ∙ sym (ap (λ l. cases_onto out (mapped_cases word note (cases (map_of f l)))) p ∙ ap (λ t. cases_onto out t) (mapped_step word note (f x) cs)) ∙ is
 
-module _ {S T V W M N : Type 0} (word : V → W) (note : M → N) (xs : List T) (i : ℕ) (out : List S) (l : length xs ≤ i) where
+module _ {T V W M N : Type 0} (word : V → W) (note : M → N) (xs : List T) (i : ℕ) (l : length xs ≤ i) where
   -- what is out is all
-  pub mapped_parts_done : (f : T → Abs V M) (h : S → Abs W N) (whole : Parts W N) → parts_onto (map_of h out) (mapped_parts word note (parts (map_of f (drop i xs)))) ≡ whole → parts (map_of h out) ≡ whole
-  mapped_parts_done f h whole is = sym (ap (λ t. parts_onto (map_of h out) (mapped_parts word note (parts (map_of f t)))) (drop_all i xs l)) ∙ is
+  pub mapped_parts_done : (f : T → Abs V M) (out : List (Abs W N)) (whole : Parts W N) → parts_onto out (mapped_parts word note (parts (map_of f (drop i xs)))) ≡ whole → parts out ≡ whole
+  mapped_parts_done f out whole is = sym (ap (λ t. parts_onto out (mapped_parts word note (parts (map_of f t)))) (drop_all i xs l)) ∙ is
 
-  pub mapped_cases_done : (f : T → Option (Parts V M)) (h : S → Option (Parts W N)) (whole : Cases W N) → cases_onto (map_of h out) (mapped_cases word note (cases (map_of f (drop i xs)))) ≡ whole → cases (map_of h out) ≡ whole
-  mapped_cases_done f h whole is = sym (ap (λ t. cases_onto (map_of h out) (mapped_cases word note (cases (map_of f t)))) (drop_all i xs l)) ∙ is
+  pub mapped_cases_done : (f : T → Option (Parts V M)) (out : List (Option (Parts W N))) (whole : Cases W N) → cases_onto out (mapped_cases word note (cases (map_of f (drop i xs)))) ≡ whole → cases out ≡ whole
+  mapped_cases_done f out whole is = sym (ap (λ t. cases_onto out (mapped_cases word note (cases (map_of f t)))) (drop_all i xs l)) ∙ is
+
+module _ {V W M N : Type 0} (word : V → W) (note : M → N) where
+  -- the value that the code makes of a constructor value, and of a map
+  pub mapped_made : (ty : ℕ) (a : Abs V M) (r : Abs W N) (cs cs' : Cases V M) (out : Cases W N) → a ≡ made ty cs → r ≡ made ty out → out ≡ mapped_cases word note cs' → cs' ≡ cs → r ≡ mapped_value word note a
+  mapped_made ty a r cs cs' out ea er is e = er ∙ ap (λ t. made ty t) (is ∙ ap (λ t. mapped_cases word note t) e) ∙ sym (ap (λ t. mapped_value word note t) ea)
+
+  pub mapped_as_map : (n : ℕ) (a : Abs V M) (r : Abs W N) (m : Map V M) → a ≡ map n m → r ≡ map n (mapped_map word note m) → r ≡ mapped_value word note a
+  mapped_as_map n a r m ea er = er ∙ sym (ap (λ t. mapped_value word note t) ea)

@@ -1,17 +1,51 @@
 //! The part of each word and of each note of a value.
 
 ghost use Rattle.std.specs.Prelude.{◌≡◌, IfOk, map};
+ghost use Rattle.map_laws.specs.Maps.{Fits as MapFits};
+ghost use Rattle.value_laws.specs.Abs as plain;
 ghost use Rattle.value_laws.specs.Abs.{cases, parts};
 ghost use Rattle.value_laws.specs.Fits.{CaseFits, CasesFit, Fits, PartsFit};
 ghost use Rattle.abs_value.specs.View.{abs, case_of};
-ghost use Rattle.pair_calls.specs.Calls.{mapped_cases, mapped_parts, mapped_value};
+ghost use Rattle.pair_calls.specs.Calls.{mapped_cases, mapped_map, mapped_parts, mapped_value};
 ghost use Rattle.pair_values.specs.Cases.{mapped_case};
 
-use crate::mapped_maps::mapped_map;
-use crate::part::Part;
+use crate::lists::{pushed_case, pushed_field};
+use abs_map::AMap;
 use abs_value::AV;
 use base_trait::Base;
+use pair_maps::{Part, mapped_map};
 use std::alloc::{AllocError as NoMemory, Global};
+
+/// The part of a word, as a value.
+fn mapped_word<P: Part>(
+    alloc: Global,
+    ctx: &<P::To as Base>::Ctx,
+    w: u32,
+    x: &<P::From as Base>::Word,
+) -> Result<AV<P::To>, NoMemory>
+    ensures { IfOk result (λ r. abs r ≡ plain.word w (P.word_of x.now)) }
+{
+    Ok(AV::Word {
+        w,
+        x: P::word(alloc, ctx, x)?,
+    })
+}
+
+/// The part of each cell of a map, as a value.
+fn mapped_cells_of<P: Part>(
+    alloc: Global,
+    ctx: &<P::To as Base>::Ctx,
+    map: u32,
+    m: &AMap<P::From>,
+) -> Result<AV<P::To>, NoMemory>
+    requires fits { MapFits P.To.algebra ctx.now P.To.CAP (mapped_map P.word_of P.note_of m.now) }
+    ensures { IfOk result (λ r. abs r ≡ plain.map map (mapped_map P.word_of P.note_of m.now)) }
+{
+    Ok(AV::Map {
+        map,
+        m: mapped_map::<P>(alloc, ctx, m)?,
+    })
+}
 
 /// The part of a value.
 #[cycle(mapped)]
@@ -25,18 +59,12 @@ pub(crate) fn mapped_value<P: Part>(
 {
     match x {
         AV::Flag(t) => Ok(AV::Flag(*t)),
-        AV::Word { w, x } => Ok(AV::Word {
-            w: *w,
-            x: P::word(alloc, ctx, x)?,
-        }),
+        AV::Word { w, x } => mapped_word::<P>(alloc, ctx, *w, x),
         AV::Data { ty, cases } => Ok(AV::Data {
             ty: *ty,
             cases: mapped_cases::<P>(alloc, ctx, cases)?,
         }),
-        AV::Map { map, m } => Ok(AV::Map {
-            map: *map,
-            m: mapped_map::<P>(alloc, ctx, m)?,
-        }),
+        AV::Map { map, m } => mapped_cells_of::<P>(alloc, ctx, *map, m),
     }
 }
 
@@ -51,7 +79,7 @@ fn mapped_cases<P: Part>(
 {
     let mut out = Vec::new(alloc);
     for x in xs {
-        out.push(mapped_case::<P>(alloc, ctx, x)?)?;
+        out = pushed_case(out, mapped_case::<P>(alloc, ctx, x))?;
     }
     Ok(out)
 }
@@ -82,7 +110,7 @@ fn mapped_parts<P: Part>(
 {
     let mut out = Vec::new(alloc);
     for x in xs {
-        out.push(mapped_value::<P>(alloc, ctx, x)?)?;
+        out = pushed_field(out, mapped_value::<P>(alloc, ctx, x))?;
     }
     Ok(out)
 }

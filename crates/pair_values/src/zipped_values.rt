@@ -1,7 +1,9 @@
 //! Values side by side.
 
-ghost use Rattle.std.specs.Prelude.{◌≡◌, IfOk, map, max};
+ghost use Rattle.std.specs.Prelude.{◌≡◌, ◌++◌, ◌∷◌, [], IfOk, MatchResult, map, max};
 ghost use Rattle.paired_base.specs.Meaning.{both_allow, paired};
+ghost use Rattle.map_laws.specs.Maps.{Fits as MapFits};
+ghost use Rattle.value_laws.specs.Abs as plain;
 ghost use Rattle.value_laws.specs.Abs.{cases, parts};
 ghost use Rattle.value_laws.specs.Fits.{CaseFits, CasesFit, Fits, PartsFit};
 ghost use Rattle.abs_value.specs.View.{abs, case_of};
@@ -9,9 +11,11 @@ ghost use Rattle.pair_calls.specs.Calls.{nothing, zip_cases, zip_parts, zip_valu
 ghost use Rattle.pair_calls.proofs.Values.{CasesMeet, Meet, PartsMeet};
 ghost use Rattle.pair_values.specs.Cases.{CaseMeets, zip_case};
 
-use crate::zipped_maps::zip_map;
+use crate::lists::{pushed_case, pushed_field};
+use abs_map::AMap;
 use abs_value::AV;
 use base_trait::{Base, Tri};
+use pair_maps::zip_map;
 use paired_base::Paired;
 use std::alloc::{AllocError as NoMemory, Global};
 
@@ -48,7 +52,7 @@ fn both_allow(t: Tri, u: Tri) -> Tri
 }
 
 /// The value that describes nothing.
-fn nothing<B: Base>() -> AV<B>
+fn nothing<A: Base, B: Base>() -> AV<Paired<A, B>>
     ensures { abs result ≡ nothing }
 {
     AV::Flag(Tri {
@@ -57,16 +61,78 @@ fn nothing<B: Base>() -> AV<B>
     })
 }
 
-/// Two words side by side.
-fn zip_words<A: Base, B: Base>(
+/// A flag and a value side by side.
+fn zip_flag<A: Base, B: Base>(t: Tri, y: &AV<B>) -> AV<Paired<A, B>>
+    ensures { (c : A.Ctx × B.Ctx) → abs result ≡ zip_value A.algebra B.algebra c (max A.CAP B.CAP) (plain.flag t) (abs y.now) }
+{
+    match y {
+        AV::Flag(u) => AV::Flag(both_allow(t, *u)),
+        _ => nothing::<A, B>(),
+    }
+}
+
+/// A word and a value side by side.
+fn zip_word<A: Base, B: Base>(
     alloc: Global,
     ctx: &(A::Ctx, B::Ctx),
+    w: u32,
     x: &A::Word,
-    y: &B::Word,
-) -> Result<(A::Word, B::Word), NoMemory>
-    ensures { IfOk result (λ r. r ≡ (x.now, y.now)) }
+    y: &AV<B>,
+) -> Result<AV<Paired<A, B>>, NoMemory>
+    ensures { IfOk result (λ r. abs r ≡ zip_value A.algebra B.algebra ctx.now (max A.CAP B.CAP) (plain.word w x.now) (abs y.now)) }
 {
-    Ok((A::copy(alloc, &ctx.0, x)?, B::copy(alloc, &ctx.1, y)?))
+    match y {
+        AV::Word { w: _w, x: other } => Ok(AV::Word {
+            w,
+            x: (A::copy(alloc, &ctx.0, x)?, B::copy(alloc, &ctx.1, other)?),
+        }),
+        _ => Ok(nothing::<A, B>()),
+    }
+}
+
+/// A map and a value side by side.
+fn zip_map_and<A: Base, B: Base>(
+    alloc: Global,
+    ctx: &(A::Ctx, B::Ctx),
+    map: u32,
+    m: &AMap<A>,
+    y: &AV<B>,
+) -> Result<AV<Paired<A, B>>, NoMemory>
+    requires left { MapFits A.algebra ctx.now.0 A.CAP m.now }
+    requires right { Fits B.algebra ctx.now.1 B.CAP (abs y.now) }
+    requires widths { Meet (plain.map map m.now) (abs y.now) }
+    ensures { IfOk result (λ r. abs r ≡ zip_value A.algebra B.algebra ctx.now (max A.CAP B.CAP) (plain.map map m.now) (abs y.now)) }
+{
+    match y {
+        AV::Map {
+            map: _map,
+            m: other,
+        } => Ok(AV::Map {
+            map,
+            m: zip_map(alloc, ctx, m, other)?,
+        }),
+        _ => Ok(nothing::<A, B>()),
+    }
+}
+
+/// Fields side by side with one more behind them, if there is one.
+fn with_field<A: Base, B: Base>(
+    fields: Vec<AV<Paired<A, B>>>,
+    next: Result<AV<Paired<A, B>>, NoMemory>,
+) -> Result<Vec<AV<Paired<A, B>>>, NoMemory>
+    ensures { IfOk result (λ r. MatchResult next (λ x. r.items ≡ fields.items ++ x ∷ []) (λ _e. ⊥)) }
+{
+    pushed_field(fields, next)
+}
+
+/// Constructors side by side with one more behind them, if there is one.
+fn with_case<A: Base, B: Base>(
+    cases: PairCases<A, B>,
+    next: Result<Option<Vec<AV<Paired<A, B>>>>, NoMemory>,
+) -> Result<PairCases<A, B>, NoMemory>
+    ensures { IfOk result (λ r. MatchResult next (λ x. r.items ≡ cases.items ++ x ∷ []) (λ _e. ⊥)) }
+{
+    pushed_case(cases, next)
 }
 
 #[cycle(zip)]
@@ -81,33 +147,20 @@ fn zip_value<A: Base, B: Base>(
     requires widths { Meet (abs x.now) (abs y.now) }
     ensures { IfOk result (λ r. abs r ≡ zip_value A.algebra B.algebra ctx.now (max A.CAP B.CAP) (abs x.now) (abs y.now)) }
 {
-    match (x, y) {
-        (AV::Flag(t), AV::Flag(u)) => Ok(AV::Flag(both_allow(*t, *u))),
-        (AV::Word { w, x: word }, AV::Word { w: _w, x: other }) => Ok(AV::Word {
-            w: *w,
-            x: zip_words::<A, B>(alloc, ctx, word, other)?,
-        }),
-        (
-            AV::Data { ty, cases },
+    match x {
+        AV::Flag(t) => Ok(zip_flag(*t, y)),
+        AV::Word { w, x: word } => zip_word(alloc, ctx, *w, word, y),
+        AV::Data { ty, cases } => match y {
             AV::Data {
                 ty: _ty,
                 cases: others,
-            },
-        ) => Ok(AV::Data {
-            ty: *ty,
-            cases: zip_cases(alloc, ctx, cases, others)?,
-        }),
-        (
-            AV::Map { map, m },
-            AV::Map {
-                map: _map,
-                m: other,
-            },
-        ) => Ok(AV::Map {
-            map: *map,
-            m: zip_map(alloc, ctx, m, other)?,
-        }),
-        _ => Ok(nothing()),
+            } => Ok(AV::Data {
+                ty: *ty,
+                cases: zip_cases(alloc, ctx, cases, others)?,
+            }),
+            _ => Ok(nothing::<A, B>()),
+        },
+        AV::Map { map, m } => zip_map_and(alloc, ctx, *map, m, y),
     }
 }
 
@@ -125,7 +178,7 @@ fn zip_cases<A: Base, B: Base>(
 {
     let mut out = Vec::new(alloc);
     for i in 0..xs.len().min(ys.len()) {
-        out.push(zip_case(alloc, ctx, &xs[i], &ys[i])?)?;
+        out = with_case(out, zip_case(alloc, ctx, &xs[i], &ys[i]))?;
     }
     Ok(out)
 }
@@ -162,7 +215,7 @@ fn zip_parts<A: Base, B: Base>(
 {
     let mut out = Vec::new(alloc);
     for i in 0..xs.len().min(ys.len()) {
-        out.push(zip_value(alloc, ctx, &xs[i], &ys[i])?)?;
+        out = with_field(out, zip_value(alloc, ctx, &xs[i], &ys[i]))?;
     }
     Ok(out)
 }

@@ -1,16 +1,23 @@
 use Rattle.std.proofs.Common.{ap, sym, subst, ◌∙◌, ◌≡◌, max, map, suc, Some, arith}
+use Rattle.base_trait.specs.declared.tri.Tri.{Tri}
 use Rattle.value_laws.specs.Abs as v
-use Rattle.value_laws.specs.Abs.{cases, made, parts}
+use Rattle.value_laws.specs.Abs.{Abs, cases, made, parts}
 use Rattle.value_laws.specs.Fits.{CaseFits, CasesFit, Fits, PartsFit}
-use Rattle.abs_value.specs.View.{abs, case_of}
+use Rattle.abs_value.specs.View.{abs, abs_step, case_of}
+use Rattle.abs_value.specs.declared.value.AV.{Flag, fold-roll-AV}
+use Rattle.abs_value.specs.declared.value.AV.TheOpen.{AV-F}
+use Rattle.abs_value.specs.declared.value.AV.TheVariants.{rolls-Flag}
 use Rattle.abs_value.proofs.Merging.{drop_here}
-use Rattle.abs_value.proofs.Views.{abs_Data, abs_Map}
+use Rattle.abs_value.proofs.Views.{abs_Data}
 use Rattle.pair_calls.specs.Calls.{zip_cases, zip_parts, zip_value}
 use Rattle.pair_calls.proofs.Values.{CasesMeet, Meet, PartsMeet}
-use Rattle.pair_values.specs.Cases.{CaseMeets}
-use Rattle.pair_values.proofs.Values.{cases_fit_on, cases_meet_on, parts_fit_on, parts_meet_on, zip_cases_more, zip_parts_done, zip_parts_more}
+use Rattle.pair_values.specs.Cases.{CaseMeets, zip_case}
+use Rattle.pair_values.proofs.Values.{cases_fit_on, cases_meet_on, parts_fit_on, parts_meet_on, pushed_view, zip_cases_done, zip_cases_more, zip_parts_done, zip_parts_more, zipped_made}
 use Rattle.pair_values.proofs.Weights.{case_weight, case_weighs, cases_weight, part_weighs, parts_weight, weight}
 use Rattle.pair_values.proofs.zipped_values.+zip.Goals as goal
+
+abs_Flag : (X W N C : Type 0) (t : Tri) → abs {X = X} {W = W} {N = N} {C = C} (Flag t) ≡ v.flag t
+abs_Flag X W N C t = ap abs (sym (rolls-Flag t)) ∙ fold-roll-AV X W N C (Abs W N) (abs_step X W N C) (AV-F.Flag t)
 
 pub zip_parts-loop-i-preserved : goal.zip_parts-loop-i-preserved
 zip_parts-loop-i-preserved g t c =
@@ -26,8 +33,8 @@ zip_parts-loop-i-preserved g t c =
     let ex = drop_here xs i x c.index-xs-i.is (omega arith) in
     let ey = drop_here ys i y c.index-ys-i.is (omega arith) in
     record {
-      whole = zip_parts_more a b ctx cap xs ys i x y ex ey c.loop-i.out.items c.push.new.self.items c.in_ok-zip_value.field-0 c.in_ok-push.ensures.items (λ v. abs v) (λ v. abs v) (λ v. abs v)
-          (zip_parts a b ctx cap (parts (map abs xs)) (parts (map abs ys))) c.in_ok-zip_value.ensures c.loop-i.invariant.whole;
+      whole = zip_parts_more a b ctx cap xs ys i x y ex ey (λ v. abs v) (λ v. abs v) (map abs c.loop-i.out.items) (map abs c.in_ok-out.out.items) (zip_parts a b ctx cap (parts (map abs xs)) (parts (map abs ys)))
+          (pushed_view (λ v. abs v) c.loop-i.out.items c.in_ok-out.out.items c.zip_value.result (zip_value a b ctx cap (abs x) (abs y)) c.in_ok-out.ensures c.zip_value.ensures) c.loop-i.invariant.whole;
       left = (parts_fit_on a ctx.0 g.A.Base.CAP (λ v. abs v) xs i x ex c.loop-i.invariant.left).1;
       right = (parts_fit_on b ctx.1 g.B.Base.CAP (λ v. abs v) ys i y ey c.loop-i.invariant.right).1;
       widths = (parts_meet_on xs ys i x y ex ey (λ v. abs v) (λ v. abs v) c.loop-i.invariant.widths).1;
@@ -47,8 +54,8 @@ zip_cases-loop-i-preserved g t c =
     let ex = drop_here xs i x c.index-xs-i.is (omega arith) in
     let ey = drop_here ys i y c.index-ys-i.is (omega arith) in
     record {
-      whole = zip_cases_more a b ctx cap xs ys i x y ex ey c.loop-i.out.items c.push.new.self.items c.in_ok-zip_case.field-0 c.in_ok-push.ensures.items (λ v. case_of v) (λ v. case_of v) (λ v. case_of v)
-          (zip_cases a b ctx cap (cases (map case_of xs)) (cases (map case_of ys))) c.in_ok-zip_case.ensures c.loop-i.invariant.whole;
+      whole = zip_cases_more a b ctx cap xs ys i x y ex ey (λ v. case_of v) (λ v. case_of v) (map case_of c.loop-i.out.items) (map case_of c.in_ok-out.out.items) (zip_cases a b ctx cap (cases (map case_of xs)) (cases (map case_of ys)))
+          (pushed_view (λ v. case_of v) c.loop-i.out.items c.in_ok-out.out.items c.zip_case.result (zip_case a b ctx cap (case_of x) (case_of y)) c.in_ok-out.ensures c.zip_case.ensures) c.loop-i.invariant.whole;
       left = (cases_fit_on a ctx.0 g.A.Base.CAP (λ v. case_of v) xs i x ex c.loop-i.invariant.left).1;
       right = (cases_fit_on b ctx.1 g.B.Base.CAP (λ v. case_of v) ys i y ey c.loop-i.invariant.right).1;
       widths = (cases_meet_on xs ys i x y ex ey (λ v. case_of v) (λ v. case_of v) c.loop-i.invariant.widths).1;
@@ -61,7 +68,17 @@ zip_parts-returns g t c =
     let cap = max g.A.Base.CAP g.B.Base.CAP in
     let xs = c.args.xs.now in
     let ys = c.args.ys.now in
-    zip_parts_done a b c.args.ctx.now cap (λ v. abs v) (λ v. abs v) (λ v. abs v) xs ys c.loop-i.i c.loop-i.out.items (zip_parts a b c.args.ctx.now cap (parts (map abs xs)) (parts (map abs ys)))
+    zip_parts_done a b c.args.ctx.now cap (λ v. abs v) (λ v. abs v) xs ys c.loop-i.i (map abs c.loop-i.out.items) (zip_parts a b c.args.ctx.now cap (parts (map abs xs)) (parts (map abs ys)))
+    (let end = c.min-i-end.ensures in omega (arith, end)) c.loop-i.invariant.whole
+
+pub zip_cases-returns : goal.zip_cases-returns
+zip_cases-returns g t c =
+    let a = g.A.Base.algebra in
+    let b = g.B.Base.algebra in
+    let cap = max g.A.Base.CAP g.B.Base.CAP in
+    let xs = c.args.xs.now in
+    let ys = c.args.ys.now in
+    zip_cases_done a b c.args.ctx.now cap (λ v. case_of v) (λ v. case_of v) xs ys c.loop-i.i (map case_of c.loop-i.out.items) (zip_cases a b c.args.ctx.now cap (cases (map case_of xs)) (cases (map case_of ys)))
     (let end = c.min-i-end.ensures in omega (arith, end)) c.loop-i.invariant.whole
 
 pub zip_case-zip_parts-requires : goal.zip_case-zip_parts-requires
@@ -101,45 +118,32 @@ zip_value-zip_cases-requires g t c κs within =
     let a = g.A.Base.algebra in
     let b = g.B.Base.algebra in
     let ctx = c.args.ctx.now in
-    let cs = cases (map case_of c.in-Data-Data.cases.items) in
-    let ex = ap abs c.in-Data-Data.is-0 ∙ abs_Data c.in-Data-Data.ty c.in-Data-Data.cases in
-    let ey = ap abs c.in-Data-Data.is-1 ∙ abs_Data c.in-Data-Data._ty c.in-Data-Data.others in
+    let cs = cases (map case_of c.in-Data.cases.items) in
+    let ex = ap abs c.in-Data.is ∙ abs_Data c.in-Data.ty c.in-Data.cases in
+    let ey = ap abs c.in-Data-y.is ∙ abs_Data c.in-Data-y._ty c.in-Data-y.others in
     let left = subst (Fits a ctx.0 g.A.Base.CAP) ex c.requires.left in
     let right = subst (Fits b ctx.1 g.B.Base.CAP) ey c.requires.right in
-    let widths = subst (λ z. Meet (made c.in-Data-Data.ty cs) z) ey (subst (λ z. Meet z (abs c.args.y.now)) ex c.requires.widths) in
+    let widths = subst (λ z. Meet (made c.in-Data.ty cs) z) ey (subst (λ z. Meet z (abs c.args.y.now)) ex c.requires.widths) in
     let whole : weight (abs c.args.x.now) ≡ suc (cases_weight cs) = ap (λ z. weight z) ex in
-    let vs : c.deref.result.now ≡ c.in-Data-Data.cases.items = c.deref.ensures.value in
-    let ws : c.deref-in-Data-Data.result.now ≡ c.in-Data-Data.others.items = c.deref-in-Data-Data.ensures.value in
+    let vs : c.deref.result.now ≡ c.in-Data.cases.items = c.deref.ensures.value in
+    let ws : c.deref-in-Data-y.result.now ≡ c.in-Data-y.others.items = c.deref-in-Data-y.ensures.value in
     let here = ap (λ l. cases_weight (cases (map case_of l))) vs in
-    (omega (arith, whole, here, c.decreases), (within.0, (within.1.0, (within.1.1.0, (within.1.1.1.0, (within.1.1.1.1.0, (within.1.1.1.1.1.0, (within.1.1.1.1.1.1.0, (within.1.1.1.1.1.1.1, (subst (λ l. CasesFit a ctx.0 g.A.Base.CAP (cases (map case_of l))) (sym vs) left, (subst (λ l. CasesFit b ctx.1 g.B.Base.CAP (cases (map case_of l))) (sym ws) right, subst (λ l. CasesMeet (cases (map case_of c.deref.result.now)) (cases (map case_of l))) (sym ws) (subst (λ l. CasesMeet (cases (map case_of l)) (cases (map case_of c.in-Data-Data.others.items))) (sym vs) widths))))))))))))
+    (omega (arith, whole, here, c.decreases), (within.0, (within.1.0, (within.1.1.0, (within.1.1.1.0, (within.1.1.1.1.0, (within.1.1.1.1.1.0, (within.1.1.1.1.1.1.0, (within.1.1.1.1.1.1.1, (subst (λ l. CasesFit a ctx.0 g.A.Base.CAP (cases (map case_of l))) (sym vs) left, (subst (λ l. CasesFit b ctx.1 g.B.Base.CAP (cases (map case_of l))) (sym ws) right, subst (λ l. CasesMeet (cases (map case_of c.deref.result.now)) (cases (map case_of l))) (sym ws) (subst (λ l. CasesMeet (cases (map case_of l)) (cases (map case_of c.in-Data-y.others.items))) (sym vs) widths))))))))))))
 
-pub zip_value-returns-in_ok-zip_cases-in-Data-Data : goal.zip_value-returns-in_ok-zip_cases-in-Data-Data
-zip_value-returns-in_ok-zip_cases-in-Data-Data g t c =
-    let a = g.A.Base.algebra in
-    let b = g.B.Base.algebra in
-    let ctx = c.args.ctx.now in
-    let cap = max g.A.Base.CAP g.B.Base.CAP in
-    let ty = c.in-Data-Data.ty in
-    let cs = cases (map case_of c.in-Data-Data.cases.items) in
-    let ex = ap abs c.in-Data-Data.is-0 ∙ abs_Data ty c.in-Data-Data.cases in
-    let ey = ap abs c.in-Data-Data.is-1 ∙ abs_Data c.in-Data-Data._ty c.in-Data-Data.others in
-    let r = c.in_ok-zip_cases-in-Data-Data.field-0 in
-    abs_Data ty r ∙ ap (λ z. made ty z) (c.in_ok-zip_cases-in-Data-Data.ensures
-    ∙ ap (λ l. zip_cases a b ctx cap (cases (map case_of l)) (cases (map case_of c.deref-in-Data-Data.result.now))) c.deref.ensures.value
-    ∙ ap (λ l. zip_cases a b ctx cap cs (cases (map case_of l))) c.deref-in-Data-Data.ensures.value)
-    ∙ sym (ap (λ z. zip_value a b ctx cap z (abs c.args.y.now)) ex ∙ ap (λ z. zip_value a b ctx cap (made ty cs) z) ey)
+pub zip_value-returns-in_ok-zip_cases-in-Data-y : goal.zip_value-returns-in_ok-zip_cases-in-Data-y
+zip_value-returns-in_ok-zip_cases-in-Data-y g t c =
+    let r = c.in_ok-zip_cases-in-Data-y.field-0 in
+    let ty = c.in-Data.ty in
+    let tz = c.in-Data-y._ty in
+    zipped_made g.A.Base.algebra g.B.Base.algebra c.args.ctx.now (max g.A.Base.CAP g.B.Base.CAP) ty tz (abs c.args.x.now) (abs c.args.y.now) _ (cases (map case_of c.in-Data.cases.items)) (cases (map case_of c.deref.result.now))
+    (cases (map case_of c.in-Data-y.others.items)) (cases (map case_of c.deref-in-Data-y.result.now)) (cases (map case_of r.items)) (ap abs c.in-Data.is ∙ abs_Data ty c.in-Data.cases)
+    (ap abs c.in-Data-y.is ∙ abs_Data tz c.in-Data-y.others) (abs_Data ty r) c.in_ok-zip_cases-in-Data-y.ensures (ap (λ l. cases (map case_of l)) c.deref.ensures.value)
+    (ap (λ l. cases (map case_of l)) c.deref-in-Data-y.ensures.value)
 
-pub zip_value-returns-in_ok-zip_map-in-Map-Map : goal.zip_value-returns-in_ok-zip_map-in-Map-Map
-zip_value-returns-in_ok-zip_map-in-Map-Map g t c =
-    let a = g.A.Base.algebra in
-    let b = g.B.Base.algebra in
-    let ctx = c.args.ctx.now in
-    let cap = max g.A.Base.CAP g.B.Base.CAP in
-    let n = c.in-Map-Map.map in
-    let ex = ap abs c.in-Map-Map.is-0 ∙ abs_Map _ _ n c.in-Map-Map.m in
-    let ey = ap abs c.in-Map-Map.is-1 ∙ abs_Map _ _ c.in-Map-Map._map c.in-Map-Map.other in
-    abs_Map _ _ n c.in_ok-zip_map-in-Map-Map.field-0 ∙ ap (λ z. v.map n z) c.in_ok-zip_map-in-Map-Map.ensures.value
-    ∙ sym (ap (λ z. zip_value a b ctx cap z (abs c.args.y.now)) ex ∙ ap (λ z. zip_value a b ctx cap (v.map n c.in-Map-Map.m) z) ey)
+pub zip_value-returns-in-Flag : goal.zip_value-returns-in-Flag
+zip_value-returns-in-Flag g t c =
+    let y = abs c.args.y.now in
+    c.zip_flag.ensures c.args.ctx.now ∙ sym (ap (λ z. zip_value g.A.Base.algebra g.B.Base.algebra c.args.ctx.now (max g.A.Base.CAP g.B.Base.CAP) z y) (ap abs c.in-Flag.is ∙ abs_Flag _ _ _ _ c.in-Flag.t))
 
 pub zip_cases-zip_case-requires : goal.zip_cases-zip_case-requires
 zip_cases-zip_case-requires g t c κs within =

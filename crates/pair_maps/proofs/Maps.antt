@@ -1,6 +1,6 @@
 -- Maps put together from their parts.
-use Rattle.std.proofs.Common.{◌≡◌, ℕ, ◌+◌, ◌<◌, ◌≤◌, Bool, true, false, List, [], ◌∷◌, ◌++◌, map, length, take, drop, zero, suc, refl, sym, ap, subst, ◌∙◌, arith, cond, Option, Some}
-use Rattle.std.specs.Prelude.{◌^◌, slice_get}
+use Rattle.std.proofs.Common.{◌≡◌, ℕ, ◌+◌, ◌<◌, ◌≤◌, Bool, true, false, List, [], ◌∷◌, ◌++◌, map, length, take, drop, zero, suc, refl, sym, ap, subst, ◌∙◌, arith, cond, Some, Result, Ok, Err}
+use Rattle.std.specs.Prelude.{◌^◌, slice_get, IfOk, MatchResult}
 use Rattle.base_trait.specs.Algebra.{Algebra}
 use Rattle.base_trait.specs.Lists.{Each, IsAscending}
 use Rattle.paired_base.specs.Meaning.{paired}
@@ -8,7 +8,7 @@ use Rattle.map_laws.specs.declared.cell.Cell.{Cell}
 use Rattle.map_laws.specs.Calls.{folded, rest_with}
 use Rattle.map_laws.specs.Cells.{CellFits}
 use Rattle.map_laws.specs.Keys.{either_key}
-use Rattle.map_laws.specs.Maps.{EachCell, Fits, Map, cell, cells_at, keys}
+use Rattle.map_laws.specs.Maps.{EachCell, Fits, Map, cell, keys}
 use Rattle.map_laws.proofs.Joining.{drop_all, fit_at, take_all}
 use Rattle.map_laws.proofs.KeyLists.{either_ascends}
 use Rattle.map_laws.proofs.Places.{each_cell, each_made, keys_of_cells}
@@ -20,6 +20,24 @@ use Rattle.pair_calls.proofs.ZippedMaps.{zipped_keys_each}
 each_zero : (ks : List ℕ) → Each (λ k. 0 ≤ k) ks
 each_zero [] = tt
 each_zero (k ∷ ks) = (omega arith, each_zero ks)
+
+-- ---- one more behind those that are out
+module _ {S : Type 0} where
+  take_next : (xs : List S) (i : ℕ) (x : S) → slice_get xs i ≡ Some x → take (suc i) xs ≡ take i xs ++ x ∷ []
+  take_next [] i x h = absurd cc
+  take_next (y ∷ xs) zero x h = let same : y ≡ x = cc in ap (λ z. z ∷ []) same
+  take_next (y ∷ xs) (suc i) x h = ap (λ l. y ∷ l) (take_next xs i x h)
+
+module _ {S E : Type 0} where
+  -- the next, where it is known
+  pub pushed_is : (out out' : List S) (next : Result S E) (v : S) → MatchResult next (λ z. out' ≡ out ++ z ∷ []) (λ e. ⊥) → IfOk next (λ z. z ≡ v) → out' ≡ out ++ v ∷ []
+  pushed_is out out' (Ok z) v more is = more ∙ ap (λ t. out ++ t ∷ []) is
+  pushed_is out out' (Err e) v more is = absurd more
+
+  -- the next of a list
+  pub pushed_next : (out out' xs : List S) (i : ℕ) (next : Result S E) → MatchResult next (λ z. out' ≡ out ++ z ∷ []) (λ e. ⊥) → IfOk next (λ z. slice_get xs i ≡ Some z) → out ≡ take i xs → out' ≡ take (i + 1) xs
+  pushed_next out out' xs i (Ok z) more is h = let next : suc i ≡ i + 1 = omega arith in more ∙ ap (λ l. l ++ z ∷ []) h ∙ sym (take_next xs i z is) ∙ ap (λ n. take n xs) next
+  pushed_next out out' xs i (Err e) more is h = absurd more
 
 -- ---- room
 module _ {W N C : Type 0} (B : Algebra W N C) (c : C) where
@@ -62,28 +80,20 @@ module _ {V W M N C D : Type 0} (A : Algebra V M C) (B : Algebra W N D) (c : C �
       at_both : (p : Cell V M) (q : Cell W N) → CellFits A c.0 x.width p → CellFits B c.1 x.width q → CellFits (paired A B) c x.width (zip_cells p q)
       at_both p q h k = (h, k)
 
-module _ {V W M N : Type 0} (x : Map V M) (y : Map W N) where
-  pub zipped_is : (w : ℕ) (rest : Cell (V × W) (M × N)) (es : List (ℕ × Cell (V × W) (M × N))) (ks : List ℕ) → w ≡ x.width → rest ≡ zip_cells x.rest y.rest → ks ≡ either_key (keys x) (keys y)
-      → es ≡ cells_at ks (λ k. zip_cells (cell x k) (cell y k)) → ◌≡◌ {A = Map (V × W) (M × N)} (record { width = w; rest = rest; cells = es }) (zipped x y)
-  zipped_is w rest es ks a b k h = made_is w rest es (zipped x y) a b (h ∙ ap (λ l. cells_at l (λ k. zip_cells (cell x k) (cell y k))) k)
-
 -- ---- the part of each cell
 module _ {V W M N : Type 0} (f : V → W) (g : M → N) where
-  mapped_next : (es : List (ℕ × Cell V M)) (i k at : ℕ) (x : Cell V M) → slice_get es i ≡ Some (at, x) → slice_get (map (λ e. e.0) es) i ≡ Some k
-      → mapped_cells f g (take (suc i) es) ≡ mapped_cells f g (take i es) ++ (k, mapped_cell f g x) ∷ []
-  mapped_next [] i k at x h p = absurd cc
-  mapped_next (e ∷ es) zero k at x h p = let key : e.0 ≡ k = cc in let same : e ≡ (at, x) = cc in ap (λ n. (n, mapped_cell f g e.1) ∷ []) key ∙ ap (λ d. (k, mapped_cell f g d.1) ∷ []) same
-  mapped_next (e ∷ es) (suc i) k at x h p = ap (λ l. (e.0, mapped_cell f g e.1) ∷ l) (mapped_next es i k at x h p)
+  pub mapped_at : (es : List (ℕ × Cell V M)) (i k at : ℕ) (x : Cell V M) → slice_get es i ≡ Some (at, x) → slice_get (map (λ e. e.0) es) i ≡ Some k → slice_get (mapped_cells f g es) i ≡ Some (k, mapped_cell f g x)
+  mapped_at [] i k at x h p = absurd cc
+  mapped_at (e ∷ es) zero k at x h p = let key : e.0 ≡ k = cc in let same : e ≡ (at, x) = cc in ap (λ n. Some (n, mapped_cell f g e.1)) key ∙ ap (λ d. Some (k, mapped_cell f g d.1)) same
+  mapped_at (e ∷ es) (suc i) k at x h p = mapped_at es i k at x h p
 
-  pub mapped_more : (es : List (ℕ × Cell V M)) (i k at : ℕ) (x : Cell V M) (y : Cell W N) (out out' : List (ℕ × Cell W N)) → slice_get es i ≡ Some (at, x) → slice_get (map (λ e. e.0) es) i ≡ Some k
-      → y ≡ mapped_cell f g x → out' ≡ out ++ (k, y) ∷ [] → out ≡ mapped_cells f g (take i es) → out' ≡ mapped_cells f g (take (i + 1) es)
-  mapped_more es i k at x y out out' h p e more o =
-      let next : suc i ≡ i + 1 = omega arith in
-      more ∙ ap (λ z. out ++ (k, z) ∷ []) e ∙ ap (λ l. l ++ (k, mapped_cell f g x) ∷ []) o ∙ sym (mapped_next es i k at x h p) ∙ ap (λ n. mapped_cells f g (take n es)) next
+  length_mapped : (es : List (ℕ × Cell V M)) → length (mapped_cells f g es) ≡ length es
+  length_mapped [] = refl
+  length_mapped (e ∷ es) = ap (λ n. suc n) (length_mapped es)
 
-  pub mapped_done : (es : List (ℕ × Cell V M)) (i : ℕ) (out : List (ℕ × Cell W N)) → length es ≤ i → out ≡ mapped_cells f g (take i es) → out ≡ mapped_cells f g es
-  mapped_done es i out l h = h ∙ ap (λ t. mapped_cells f g t) (take_all i es l)
+  pub mapped_done : (es : List (ℕ × Cell V M)) (i : ℕ) (out : List (ℕ × Cell W N)) → length es ≤ i → out ≡ take i (mapped_cells f g es) → out ≡ mapped_cells f g es
+  mapped_done es i out l h = h ∙ take_all i (mapped_cells f g es) (subst (λ n. n ≤ i) (sym (length_mapped es)) l)
 
-  pub mapped_is : (m : Map V M) (w : ℕ) (rest : Cell W N) (es : List (ℕ × Cell W N)) → w ≡ m.width → rest ≡ mapped_cell f g m.rest → es ≡ mapped_cells f g m.cells
+  pub mapped_is : (m : Map V M) (w : ℕ) (rest : Cell W N) (first : Cell V M) (es : List (ℕ × Cell W N)) → w ≡ m.width → m.rest ≡ first → rest ≡ mapped_cell f g first → es ≡ mapped_cells f g m.cells
       → ◌≡◌ {A = Map W N} (record { width = w; rest = rest; cells = es }) (mapped_map f g m)
-  mapped_is m w rest es a b d = made_is w rest es (mapped_map f g m) a b d
+  mapped_is m w rest first es a b e d = made_is w rest es (mapped_map f g m) a (e ∙ ap (mapped_cell f g) (sym b)) d

@@ -8,9 +8,11 @@ use std::alloc::{AllocError as NoMemory, Global};
 use std::marker::PhantomData;
 
 /// A part of a pair of bases: each word and each note of `From` has one of `To`.
-pub(crate) trait Part {
+pub trait Part {
+    /// The base that is taken apart.
     type From: Base;
 
+    /// The base of the parts.
     type To: Base;
 
     ghost word_of: { Self.From.Word → Self.To.Word };
@@ -34,12 +36,12 @@ pub(crate) trait Part {
 }
 
 /// The first part.
-pub(crate) struct First<A: Base, B: Base> {
+pub struct First<A: Base, B: Base> {
     parts: PhantomData<(A, B)>,
 }
 
 /// The second part.
-pub(crate) struct Second<A: Base, B: Base> {
+pub struct Second<A: Base, B: Base> {
     parts: PhantomData<(A, B)>,
 }
 

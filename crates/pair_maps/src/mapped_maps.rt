@@ -1,10 +1,11 @@
 //! The part of each cell of a map.
 
-ghost use Rattle.std.specs.Prelude.{◌≡◌, IfOk};
+ghost use Rattle.std.specs.Prelude.{◌≡◌, ◌<◌, IfOk, Some, length, slice_get};
 ghost use Rattle.map_laws.specs.Maps.{Fits};
 ghost use Rattle.pair_calls.specs.Calls.{mapped_cell, mapped_cells, mapped_map};
 
 use crate::cells::CellOf;
+use crate::lists::pushed;
 use crate::part::Part;
 use abs_map::AMap;
 use base_trait::Base;
@@ -26,6 +27,21 @@ fn mapped_cell<P: Part>(
     })
 }
 
+/// The part of the listed cell at a place, with its key.
+fn mapped_entry<P: Part>(
+    alloc: Global,
+    ctx: &<P::To as Base>::Ctx,
+    m: &AMap<P::From>,
+    place: u64,
+) -> Result<(u64, CellOf<P::To>), NoMemory>
+    requires listed { place < length m.now.cells }
+    ensures { IfOk result (λ r. slice_get (mapped_cells P.word_of P.note_of m.now.cells) place ≡ Some r) }
+{
+    let (word, note) = m.cell_at(place);
+    let cell = mapped_cell::<P>(alloc, ctx, word, note)?;
+    Ok((m.key_at(place), cell))
+}
+
 /// The parts of the listed cells.
 fn mapped_cells<P: Part>(
     alloc: Global,
@@ -36,15 +52,13 @@ fn mapped_cells<P: Part>(
 {
     let mut cells = Vec::new(alloc);
     for place in 0..m.listed() {
-        let (word, note) = m.cell_at(place);
-        let cell = mapped_cell::<P>(alloc, ctx, word, note)?;
-        cells.push((m.key_at(place), cell))?;
+        cells = pushed(cells, mapped_entry::<P>(alloc, ctx, m, place))?;
     }
     Ok(cells)
 }
 
 /// The part of each cell of a map, at the same keys.
-pub(crate) fn mapped_map<P: Part>(
+pub fn mapped_map<P: Part>(
     alloc: Global,
     ctx: &<P::To as Base>::Ctx,
     m: &AMap<P::From>,

@@ -1,9 +1,9 @@
-use Rattle.std.proofs.Common.{◌≡◌, ap, sym, ◌∙◌}
+use Rattle.std.proofs.Common.{◌≡◌}
 use Rattle.map_laws.specs.Calls.{folded}
 use Rattle.abs_map.proofs.Whole.{if_ok}
-use Rattle.pair_calls.specs.Calls.{mapped_cell, mapped_map}
-use Rattle.pair_values.proofs.Maps.{folded_is, mapped_is}
-use Rattle.pair_values.proofs.mapped_maps.mapped_map.Goals as goal
+use Rattle.pair_calls.specs.Calls.{mapped_map}
+use Rattle.pair_maps.proofs.Maps.{folded_is, mapped_is}
+use Rattle.pair_maps.proofs.mapped_maps.mapped_map.Goals as goal
 
 pub returns : goal.returns
 returns g c =
@@ -13,5 +13,5 @@ returns g c =
     let word = g.P.Part.word_of in
     let note = g.P.Part.note_of in
     let m = c.args.m.now in
-    let same = mapped_is word note m c.width.result c.in_ok-rest.rest c.in_ok-cells.cells.items c.width.ensures (c.in_ok-rest.ensures ∙ ap (mapped_cell word note) (sym c.rest.ensures)) c.in_ok-cells.ensures in
+    let same = mapped_is word note m c.width.result c.in_ok-rest.rest _ c.in_ok-cells.cells.items c.width.ensures c.rest.ensures c.in_ok-rest.ensures c.in_ok-cells.ensures in
     if_ok (λ r. r ≡ folded to ctx cap _) (λ r. r ≡ mapped_map word note m) c.of_cells.result (λ r h. folded_is to ctx cap _ (mapped_map word note m) r same c.requires.fits h) c.of_cells.ensures.value

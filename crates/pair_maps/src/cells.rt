@@ -4,6 +4,7 @@ ghost use Rattle.std.specs.Prelude.{◌≡◌, IfOk};
 ghost use Rattle.map_laws.specs.Maps.{Fits, cell, cells_at};
 ghost use Rattle.pair_calls.specs.Calls.{zip_cells};
 
+use crate::lists::pushed;
 use abs_map::{AMap, KeySet};
 use base_trait::Base;
 use map_laws::Cell;
@@ -19,7 +20,7 @@ pub(crate) type PairOf<A, B> = Cell<
 >;
 
 /// Two cells side by side.
-pub(crate) fn zip_cells<A: Base, B: Base>(x: CellOf<A>, y: CellOf<B>) -> PairOf<A, B>
+fn zip_cells<A: Base, B: Base>(x: CellOf<A>, y: CellOf<B>) -> PairOf<A, B>
     ensures { result ≡ zip_cells x y }
 {
     Cell {
@@ -29,11 +30,7 @@ pub(crate) fn zip_cells<A: Base, B: Base>(x: CellOf<A>, y: CellOf<B>) -> PairOf<
 }
 
 /// A copy of the rest of a map.
-pub(crate) fn rest_of<B: Base>(
-    alloc: Global,
-    ctx: &B::Ctx,
-    m: &AMap<B>,
-) -> Result<CellOf<B>, NoMemory>
+fn rest_of<B: Base>(alloc: Global, ctx: &B::Ctx, m: &AMap<B>) -> Result<CellOf<B>, NoMemory>
     ensures { IfOk result (λ r. r ≡ m.now.rest) }
 {
     let (word, note) = m.rest();
@@ -41,6 +38,21 @@ pub(crate) fn rest_of<B: Base>(
         word: B::copy(alloc, ctx, word)?,
         note: B::copy_note(alloc, note)?,
     })
+}
+
+/// The rests of both maps, side by side.
+pub(crate) fn zipped_rest<A: Base, B: Base>(
+    alloc: Global,
+    left: &A::Ctx,
+    right: &B::Ctx,
+    x: &AMap<A>,
+    y: &AMap<B>,
+) -> Result<PairOf<A, B>, NoMemory>
+    ensures { IfOk result (λ r. r ≡ zip_cells x.now.rest y.now.rest) }
+{
+    let x = rest_of(alloc, left, x)?;
+    let y = rest_of(alloc, right, y)?;
+    Ok(zip_cells::<A, B>(x, y))
 }
 
 /// A copy of the cell of a map at a key.
@@ -57,6 +69,23 @@ fn cell_of<B: Base>(
     Ok(Cell { word, note })
 }
 
+/// The cells of both at a key, side by side.
+fn zipped_cell<A: Base, B: Base>(
+    alloc: Global,
+    ctx: &(A::Ctx, B::Ctx),
+    x: &AMap<A>,
+    y: &AMap<B>,
+    key: u64,
+) -> Result<(u64, PairOf<A, B>), NoMemory>
+    requires left { Fits A.algebra ctx.now.0 A.CAP x.now }
+    requires right { Fits B.algebra ctx.now.1 B.CAP y.now }
+    ensures { IfOk result (λ r. r ≡ (key, zip_cells (cell x.now key) (cell y.now key))) }
+{
+    let left = cell_of(alloc, &ctx.0, x, key)?;
+    let right = cell_of(alloc, &ctx.1, y, key)?;
+    Ok((key, zip_cells::<A, B>(left, right)))
+}
+
 /// The cells of both at these keys, side by side.
 pub(crate) fn zipped_cells<A: Base, B: Base>(
     alloc: Global,
@@ -71,9 +100,7 @@ pub(crate) fn zipped_cells<A: Base, B: Base>(
 {
     let mut cells = Vec::with_capacity(alloc, keys.len())?;
     for key in keys {
-        let left = cell_of(alloc, &ctx.0, x, *key)?;
-        let right = cell_of(alloc, &ctx.1, y, *key)?;
-        cells.push((*key, zip_cells::<A, B>(left, right)))?;
+        cells = pushed(cells, zipped_cell(alloc, ctx, x, y, *key))?;
     }
     Ok(cells)
 }

@@ -1,7 +1,7 @@
 use Rattle.std.proofs.Common.{◌≡◌, ◌+◌, ◌-◌, ◌≤◌, ◌++◌, drop, length}
 use Rattle.map_laws.specs.Keys.{either_key}
 use Rattle.map_laws.specs.Maps.{keys}
-use Rattle.pair_values.proofs.keys.either_key.Given as goal
+use Rattle.pair_maps.proofs.keys.either_key.Given as goal
 
 abbrev pub invariant-loop-i : goal.invariant-loop-i
 invariant-loop-i g l = record {

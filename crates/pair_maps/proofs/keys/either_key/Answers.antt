@@ -3,9 +3,9 @@ use Rattle.std.specs.Int.{from_bool}
 use Rattle.map_laws.specs.Keys.{either_key}
 use Rattle.map_laws.specs.Maps.{keys}
 use Rattle.map_laws.proofs.Fitting.{length_keys}
-use Rattle.pair_values.proofs.Merging.{merge_end, merge_more}
-use Rattle.pair_values.proofs.keys.either_key.Goals as goal
-use Rattle.pair_values.proofs.keys.either_key.Goals.{then-loop-i-test+else-j-listed, else-loop-i-test}
+use Rattle.pair_maps.proofs.Merging.{merge_end, merge_more}
+use Rattle.pair_maps.proofs.keys.either_key.Goals as goal
+use Rattle.pair_maps.proofs.keys.either_key.Goals.{then-loop-i-test+else-j-listed, else-loop-i-test}
 
 at_most_one : (b : Bool) → from_bool b ≤ 1
 at_most_one true = omega arith

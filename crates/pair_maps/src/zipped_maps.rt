@@ -5,7 +5,7 @@ ghost use Rattle.map_laws.specs.Maps.{Fits};
 ghost use Rattle.paired_base.specs.Meaning.{paired};
 ghost use Rattle.pair_calls.specs.Calls.{zip_map};
 
-use crate::cells::{rest_of, zip_cells, zipped_cells};
+use crate::cells::{zipped_cells, zipped_rest};
 use crate::keys::either_key;
 use abs_map::AMap;
 use base_trait::Base;
@@ -29,8 +29,6 @@ pub fn zip_map<A: Base, B: Base>(
 {
     let keys = either_key(alloc, x, y)?;
     let cells = zipped_cells(alloc, ctx, x, y, &keys)?;
-    let left = rest_of(alloc, &ctx.0, x)?;
-    let right = rest_of(alloc, &ctx.1, y)?;
-    let rest = zip_cells::<A, B>(left, right);
+    let rest = zipped_rest(alloc, &ctx.0, &ctx.1, x, y)?;
     AMap::of_cells(alloc, ctx, x.width(), rest, cells)
 }

@@ -1,0 +1,28 @@
+//! Lists that grow by one.
+
+ghost use Rattle.std.specs.Prelude.{◌≡◌, ◌++◌, ◌∷◌, [], IfOk, MatchResult};
+
+use abs_value::AV;
+use base_trait::Base;
+use pair_maps::pushed;
+use std::alloc::AllocError as NoMemory;
+
+/// Fields with one more behind them, if there is one.
+pub(crate) fn pushed_field<B: Base>(
+    fields: Vec<AV<B>>,
+    next: Result<AV<B>, NoMemory>,
+) -> Result<Vec<AV<B>>, NoMemory>
+    ensures { IfOk result (λ r. MatchResult next (λ x. r.items ≡ fields.items ++ x ∷ []) (λ _e. ⊥)) }
+{
+    pushed(fields, next)
+}
+
+/// The fields of constructors with those of one more behind them, if there are such.
+pub(crate) fn pushed_case<B: Base>(
+    cases: Vec<Option<Vec<AV<B>>>>,
+    next: Result<Option<Vec<AV<B>>>, NoMemory>,
+) -> Result<Vec<Option<Vec<AV<B>>>>, NoMemory>
+    ensures { IfOk result (λ r. MatchResult next (λ x. r.items ≡ cases.items ++ x ∷ []) (λ _e. ⊥)) }
+{
+    pushed(cases, next)
+}
