@@ -26,23 +26,48 @@ fn over(
     machine: Machine,
     image: &Image,
     entry: &Entry,
+    limit: u32,
 ) -> Result<String, NoMemory>
     requires accepted { IsAccepted (specification spec.now) }
     requires machine { (specification spec.now).machine ≡ Some machine }
     requires read { IsRead (specification spec.now) (entry_of entry.now) }
 {
     match base {
-        "kset" => analysed::<KSet<16>>(alloc, (), spec, machine, image, entry),
-        "kset1" => analysed::<KSet<1>>(alloc, (), spec, machine, image, entry),
-        "interval" => analysed::<Interval>(alloc, (), spec, machine, image, entry),
+        "kset" => analysed::<KSet<16>>(alloc, (), spec, machine, image, entry, limit),
+        "kset1" => analysed::<KSet<1>>(alloc, (), spec, machine, image, entry, limit),
+        "interval" => analysed::<Interval>(alloc, (), spec, machine, image, entry, limit),
         "kset+interval" => {
-            analysed::<Paired<KSet<16>, Interval>>(alloc, ((), ()), spec, machine, image, entry)
+            analysed::<Paired<KSet<16>, Interval>>(
+                alloc,
+                ((), ()),
+                spec,
+                machine,
+                image,
+                entry,
+                limit,
+            )
         }
         "kset+defuse" => {
-            analysed::<Paired<KSet<16>, DefUse>>(alloc, ((), ()), spec, machine, image, entry)
+            analysed::<Paired<KSet<16>, DefUse>>(
+                alloc,
+                ((), ()),
+                spec,
+                machine,
+                image,
+                entry,
+                limit,
+            )
         }
-        "defuse" => analysed::<DefUse>(alloc, (), spec, machine, image, entry),
+        "defuse" => analysed::<DefUse>(alloc, (), spec, machine, image, entry, limit),
         _ => String::from_str(alloc, "  no base\n"),
+    }
+}
+
+/// The name of a machine, and the limit on targets behind it, or else 64.
+fn limited(name: &str) -> (&str, u32) {
+    match name.split_once(" ") {
+        Some((name, limit)) => (name, limit.parse().unwrap_or(64)),
+        None => (name, 64),
     }
 }
 
@@ -57,6 +82,7 @@ pub(crate) fn answer(alloc: Global, line: &str) -> Result<String, NoMemory> {
     let Some((base, name)) = names.split_once(" ") else {
         return String::from_str(alloc, "  no case\n");
     };
+    let (name, limit) = limited(name);
     let Some(spec) = machine(alloc, name) else {
         return String::from_str(alloc, "  no machine\n");
     };
@@ -67,7 +93,7 @@ pub(crate) fn answer(alloc: Global, line: &str) -> Result<String, NoMemory> {
         return String::from_str(alloc, "  no image\n");
     };
     match entry(alloc, &spec, lines)? {
-        Some(entry) => over(alloc, base, &spec, numbers, &image, &entry),
+        Some(entry) => over(alloc, base, &spec, numbers, &image, &entry, limit),
         None => String::from_str(alloc, "  no entry\n"),
     }
 }

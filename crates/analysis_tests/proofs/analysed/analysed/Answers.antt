@@ -11,7 +11,7 @@ pub begun-requires : goal.begun-requires
 begun-requires g c = record {
   joins = c.requires.joins;
   made = c.in_ok-domain.ensures.made;
-  posed = c.read_problems_are_well_posed.ensures (specification c.args.spec.now) c.args.machine c.args.image.now c.requires.read.0 (entry_of c.args.entry.now) 64
+  posed = c.read_problems_are_well_posed.ensures (specification c.args.spec.now) c.args.machine c.args.image.now c.requires.read.0 (entry_of c.args.entry.now) c.args.limit
       c.requires.accepted c.requires.machine c.is_kept.ensures c.requires.read.1;
   code_is = c.in_ok-cir.ensures;
   decoder_is = c.in_ok-decoder.ensures;
