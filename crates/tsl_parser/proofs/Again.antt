@@ -6,13 +6,13 @@ use Rattle.tsl_lexer.specs.declared.token.Kind.TheVariants as k
 use Rattle.tsl_lexer.specs.declared.token.Mark.{Mark}
 use Rattle.tsl_lexer.specs.declared.token.Mark.TheVariants as m
 use Rattle.tsl_lexer.specs.declared.token.Keyword.{Keyword}
-use Rattle.tsl_parser.specs.declared.tree.Span.{Span}
-use Rattle.tsl_parser.specs.Parsing.{Parser, ◌>>=◌, and_then, pure, expect, expect_word, number, literal, eat, lower, upper, is_mark, is_word, first_kind}
-use Rattle.tsl_parser.specs.Lists.{separated_from, until_from}
-use Rattle.tsl_parser.specs.Grammar.{Leveled, tokens_of, token, IsLiteral, Separated, Several}
-use Rattle.tsl_parser.specs.Grammar as g
-use Rattle.tsl_parser.specs.declared.reader.Literal.{Literal}
-use Rattle.tsl_parser.specs.Tokens.{max_level}
+use Rattle.tsl_syntax.specs.declared.tree.Span.{Span}
+use Rattle.tsl_syntax.specs.Parsing.{Parser, ◌>>=◌, and_then, pure, expect, expect_word, number, literal, eat, lower, upper, is_mark, is_word, first_kind}
+use Rattle.tsl_syntax.specs.Lists.{separated_from, until_from}
+use Rattle.tsl_syntax.specs.Grammar.{Leveled, tokens_of, token, IsLiteral, Separated, Several}
+use Rattle.tsl_syntax.specs.Grammar as g
+use Rattle.tsl_syntax.specs.declared.rules.Literal.{Literal}
+use Rattle.tsl_syntax.specs.Tokens.{max_level}
 use Rattle.tsl_parser.proofs.Cut.{at, cut, Fits, tokens-append-rest, and_then-cut, cut-append, cut_under, by_fits}
 
 -- p reads these tokens as a, from a level to a level, where what follows allows it

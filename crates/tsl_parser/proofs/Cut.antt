@@ -3,12 +3,12 @@ use Rattle.std.proofs.Common.{◌≡◌, ℕ, ◌≤◌, true, false, List, [], 
 use Rattle.std.proofs.lemmas.Bool.Decides.{nat_tests}
 use Rattle.std.specs.Prelude.{Err, if◌then◌else◌}
 use Rattle.tsl_lexer.specs.declared.token.Token.{Token}
-use Rattle.tsl_parser.specs.declared.reader.Fault.TheVariants.{TooDeep}
-use Rattle.tsl_parser.specs.State.{At}
-use Rattle.tsl_parser.specs.Parsing.{Outcome, Parser, and_then}
-use Rattle.tsl_parser.specs.Grammar.{Leveled, tokens_of}
-use Rattle.tsl_parser.specs.Exact.{Shallow}
-use Rattle.tsl_parser.specs.Tokens.{max_level}
+use Rattle.tsl_syntax.specs.declared.rules.Fault.TheVariants.{TooDeep}
+use Rattle.tsl_syntax.specs.State.{At}
+use Rattle.tsl_syntax.specs.Parsing.{Outcome, Parser, and_then}
+use Rattle.tsl_syntax.specs.Grammar.{Leveled, tokens_of}
+use Rattle.tsl_syntax.specs.Exact.{Shallow}
+use Rattle.tsl_syntax.specs.Tokens.{max_level}
 
 abbrev pub at : ℕ → List Token → At
 at level rest = record { level = level; rest = rest }

@@ -7,14 +7,14 @@ use Rattle.tsl_lexer.specs.declared.token.Kind.TheVariants as k
 use Rattle.tsl_lexer.specs.declared.token.Keyword.{Keyword}
 use Rattle.tsl_lexer.specs.declared.token.Keyword.TheVariants as w
 use Rattle.tsl_lexer.specs.declared.token.Mark.TheVariants as m
-use Rattle.tsl_parser.specs.declared.reader.Literal.{Literal}
-use Rattle.tsl_parser.specs.Tree.{Term as Expr, Pattern, Arm as ArmTree}
-use Rattle.tsl_parser.specs.Parsing.{Parser, begins_atom, begins_unary, begins_term, begins_pattern, is_mark, word_begins_atom, first_kind}
-use Rattle.tsl_parser.specs.TermRules.{body, level}
-use Rattle.tsl_parser.specs.Grammar.{Leveled, tokens_of, IsLiteral, Pat, Pats, Term, Level, Unary, Post, Atom, Terms, Arm, Arms}
-use Rattle.tsl_parser.specs.Grammar as g
-use Rattle.tsl_parser.specs.Operators.{loosest}
-use Rattle.tsl_parser.specs.Tokens.{max_level, is_prefix, is_operation, is_cast}
+use Rattle.tsl_syntax.specs.declared.rules.Literal.{Literal}
+use Rattle.tsl_syntax.specs.Tree.{Term as Expr, Pattern, Arm as ArmTree}
+use Rattle.tsl_syntax.specs.Parsing.{Parser, begins_atom, begins_unary, begins_term, begins_pattern, is_mark, word_begins_atom, first_kind}
+use Rattle.tsl_syntax.specs.TermRules.{body, level}
+use Rattle.tsl_syntax.specs.Grammar.{Leveled, tokens_of, IsLiteral, Pat, Pats, Term, Level, Unary, Post, Atom, Terms, Arm, Arms}
+use Rattle.tsl_syntax.specs.Grammar as g
+use Rattle.tsl_syntax.specs.Operators.{loosest}
+use Rattle.tsl_syntax.specs.Tokens.{max_level, is_prefix, is_operation, is_cast}
 use Rattle.tsl_parser.proofs.Cut.{at, Fits}
 
 pub fits-append_left : (us vs : List Leveled) → Fits (us ++ vs) → Fits us

@@ -2,16 +2,16 @@
 use Rattle.std.proofs.Common.{◌≡◌, ℕ, zero, suc, ◌≤◌, ◌<◌, ◌+◌, true, false, List, [], ◌∷◌, ◌++◌, length, refl, ap, sym, ◌∙◌, subst, append_assoc, append-nil, length-append, nat_le, arith}
 use Rattle.std.specs.Prelude.{Result, Ok, Err, if◌then◌else◌}
 use Rattle.tsl_lexer.specs.declared.token.Token.{Token}
-use Rattle.tsl_parser.specs.Tree.{Item as ItemTree}
-use Rattle.tsl_parser.specs.Tree.{Tree}
-use Rattle.tsl_parser.specs.declared.reader.Fault.{Fault}
-use Rattle.tsl_parser.specs.declared.reader.Fault.TheVariants.{Syntax, TooDeep}
-use Rattle.tsl_parser.specs.State.{At}
-use Rattle.tsl_parser.specs.Parsing.{Outcome, Parser, and_then}
-use Rattle.tsl_parser.specs.ItemRules.{item, items, items_from}
-use Rattle.tsl_parser.specs.Grammar.{Leveled, tokens_of, Items}
-use Rattle.tsl_parser.specs.Exact.{Shallow, HasTree, GoesWrong, IsSyntaxAt, IsDeepAt}
-use Rattle.tsl_parser.specs.Tokens.{max_level, place}
+use Rattle.tsl_syntax.specs.Tree.{Item as ItemTree}
+use Rattle.tsl_syntax.specs.Tree.{Tree}
+use Rattle.tsl_syntax.specs.declared.rules.Fault.{Fault}
+use Rattle.tsl_syntax.specs.declared.rules.Fault.TheVariants.{Syntax, TooDeep}
+use Rattle.tsl_syntax.specs.State.{At}
+use Rattle.tsl_syntax.specs.Parsing.{Outcome, Parser, and_then}
+use Rattle.tsl_syntax.specs.ItemRules.{item, items, items_from}
+use Rattle.tsl_syntax.specs.Grammar.{Leveled, tokens_of, Items}
+use Rattle.tsl_syntax.specs.Exact.{Shallow, HasTree, GoesWrong, IsSyntaxAt, IsDeepAt}
+use Rattle.tsl_syntax.specs.Tokens.{max_level, place}
 use Rattle.std.proofs.lemmas.Bool.Decides.{nat_tests}
 use Rattle.tsl_parser.proofs.Cut.{at, cut, Fits, tokens-append, by_fits}
 use Rattle.tsl_parser.proofs.Found.{Done, Stuck, Deep}

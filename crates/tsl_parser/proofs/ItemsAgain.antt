@@ -6,27 +6,27 @@ use Rattle.tsl_lexer.specs.declared.token.Kind.TheVariants as k
 use Rattle.tsl_lexer.specs.declared.token.Mark.{Mark}
 use Rattle.tsl_lexer.specs.declared.token.Mark.TheVariants as m
 use Rattle.tsl_lexer.specs.declared.token.Keyword.TheVariants as w
-use Rattle.tsl_parser.specs.declared.tree.Span.{Span}
-use Rattle.tsl_parser.specs.declared.tree.FieldDecl.{FieldDecl}
-use Rattle.tsl_parser.specs.declared.tree.MapDecl.{MapDecl}
-use Rattle.tsl_parser.specs.declared.tree.PartDecl.{PartDecl}
-use Rattle.tsl_parser.specs.declared.tree.PartDecl.TheVariants as part_variants
-use Rattle.tsl_parser.specs.declared.tree.GuardDecl.{GuardDecl}
-use Rattle.tsl_parser.specs.declared.tree.GuardOp.{GuardOp}
-use Rattle.tsl_parser.specs.declared.tree.GuardArg.TheVariants as other_variants
-use Rattle.tsl_parser.specs.declared.tree.ArgDecl.{ArgDecl}
-use Rattle.tsl_parser.specs.declared.tree.ArgDecl.TheVariants as arg_variants
-use Rattle.tsl_parser.specs.declared.reader.Literal.{Literal}
-use Rattle.tsl_parser.specs.Tree.{Term as Expr, Constructor, Datatype as DataTree, Function as FunTree, Row as RowTree, DecodeSection, Item as ItemTree}
-use Rattle.tsl_parser.specs.Tree as e
-use Rattle.tsl_parser.specs.Parsing.{Parser, ◌>>=◌, first_kind, is_mark, is_word}
-use Rattle.tsl_parser.specs.Lists.{separated, until, many}
-use Rattle.tsl_parser.specs.ItemRules.{field, constructor, case_fields, datatype, map_type, params, function, part, part_fixed, part_named, guard_op, other, guard, guards, arg, arg_word, args, arg_list, row, decode, item, items_from}
-use Rattle.tsl_parser.specs.Grammar.{Leveled, tokens_of, token, IsLiteral, Separated, Several, Field, Fields, Case, Datatype, MapType, Params, Function, Part, Compares, Guard, Guards, Arg, Args, Row, Decode, Item, Items, name, num, mark}
-use Rattle.tsl_parser.specs.Grammar as g
-use Rattle.tsl_parser.specs.Nodes.{case_of, part_of}
-use Rattle.tsl_parser.specs.Operators.{loosest}
-use Rattle.tsl_parser.specs.Tokens.{max_level}
+use Rattle.tsl_syntax.specs.declared.tree.Span.{Span}
+use Rattle.tsl_syntax.specs.declared.tree.FieldDecl.{FieldDecl}
+use Rattle.tsl_syntax.specs.declared.tree.MapDecl.{MapDecl}
+use Rattle.tsl_syntax.specs.declared.tree.PartDecl.{PartDecl}
+use Rattle.tsl_syntax.specs.declared.tree.PartDecl.TheVariants as part_variants
+use Rattle.tsl_syntax.specs.declared.tree.GuardDecl.{GuardDecl}
+use Rattle.tsl_syntax.specs.declared.tree.GuardOp.{GuardOp}
+use Rattle.tsl_syntax.specs.declared.tree.GuardArg.TheVariants as other_variants
+use Rattle.tsl_syntax.specs.declared.tree.ArgDecl.{ArgDecl}
+use Rattle.tsl_syntax.specs.declared.tree.ArgDecl.TheVariants as arg_variants
+use Rattle.tsl_syntax.specs.declared.rules.Literal.{Literal}
+use Rattle.tsl_syntax.specs.Tree.{Term as Expr, Constructor, Datatype as DataTree, Function as FunTree, Row as RowTree, DecodeSection, Item as ItemTree}
+use Rattle.tsl_syntax.specs.Tree as e
+use Rattle.tsl_syntax.specs.Parsing.{Parser, ◌>>=◌, first_kind, is_mark, is_word}
+use Rattle.tsl_syntax.specs.Lists.{separated, until, many}
+use Rattle.tsl_syntax.specs.ItemRules.{field, constructor, case_fields, datatype, map_type, params, function, part, part_fixed, part_named, guard_op, other, guard, guards, arg, arg_word, args, arg_list, row, decode, item, items_from}
+use Rattle.tsl_syntax.specs.Grammar.{Leveled, tokens_of, token, IsLiteral, Separated, Several, Field, Fields, Case, Datatype, MapType, Params, Function, Part, Compares, Guard, Guards, Arg, Args, Row, Decode, Item, Items, name, num, mark}
+use Rattle.tsl_syntax.specs.Grammar as g
+use Rattle.tsl_syntax.specs.Nodes.{case_of, part_of}
+use Rattle.tsl_syntax.specs.Operators.{loosest}
+use Rattle.tsl_syntax.specs.Tokens.{max_level}
 use Rattle.tsl_parser.proofs.Again.{Again, anything, again_then, again_next, again_pure, again_last, again_weaker, again_expect, again_word, again_number, again_lower, again_upper, again_eat, again_no, again_literal, not_mark, closes, tokens_fewer, low, separated_again, several_again}
 use Rattle.tsl_parser.proofs.PatternsAgain.{no_paren}
 use Rattle.tsl_parser.proofs.TermsAgain.{loose_end, term_again}

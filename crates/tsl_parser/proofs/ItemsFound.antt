@@ -7,24 +7,24 @@ use Rattle.tsl_lexer.specs.declared.token.Kind.TheVariants as k
 use Rattle.tsl_lexer.specs.declared.token.Mark.{Mark}
 use Rattle.tsl_lexer.specs.declared.token.Mark.TheVariants as m
 use Rattle.tsl_lexer.specs.declared.token.Keyword.TheVariants as w
-use Rattle.tsl_parser.specs.declared.tree.Span.{Span}
-use Rattle.tsl_parser.specs.declared.tree.Name.{Name}
-use Rattle.tsl_parser.specs.declared.tree.PartDecl.{PartDecl}
-use Rattle.tsl_parser.specs.declared.tree.GuardDecl.{GuardDecl}
-use Rattle.tsl_parser.specs.declared.tree.GuardOp.{GuardOp}
-use Rattle.tsl_parser.specs.declared.tree.GuardOp.TheVariants as op_variants
-use Rattle.tsl_parser.specs.declared.tree.GuardArg.{GuardArg}
-use Rattle.tsl_parser.specs.declared.tree.GuardArg.TheVariants as other_variants
-use Rattle.tsl_parser.specs.declared.tree.ArgDecl.{ArgDecl}
-use Rattle.tsl_parser.specs.declared.reader.Fault.TheVariants.{Syntax}
-use Rattle.tsl_parser.specs.Tree.{Item as ItemTree}
-use Rattle.tsl_parser.specs.Parsing.{◌>>◌, pure, first_kind, is_mark, is_word, expect_word}
-use Rattle.tsl_parser.specs.Lists.{separated, until, many}
-use Rattle.tsl_parser.specs.ItemRules.{field, constructor, case_fields, datatype, map_type, params, function, part, part_fixed, part_named, guard_op, other, guard, guards, arg, arg_word, args, arg_list, row, decode, item, items, items_from}
-use Rattle.tsl_parser.specs.Grammar.{Leveled, tokens_of, token, IsLiteral, Separated, Several, Field, Fields, Case, Datatype, MapType, Params, Function, Part, Compares, Guard, Guards, Arg, Args, Row, Decode, Item, Items, Term}
-use Rattle.tsl_parser.specs.Grammar as g
-use Rattle.tsl_parser.specs.Nodes.{guard_of, row_of}
-use Rattle.tsl_parser.specs.Tokens.{max_level}
+use Rattle.tsl_syntax.specs.declared.tree.Span.{Span}
+use Rattle.tsl_syntax.specs.declared.tree.Name.{Name}
+use Rattle.tsl_syntax.specs.declared.tree.PartDecl.{PartDecl}
+use Rattle.tsl_syntax.specs.declared.tree.GuardDecl.{GuardDecl}
+use Rattle.tsl_syntax.specs.declared.tree.GuardOp.{GuardOp}
+use Rattle.tsl_syntax.specs.declared.tree.GuardOp.TheVariants as op_variants
+use Rattle.tsl_syntax.specs.declared.tree.GuardArg.{GuardArg}
+use Rattle.tsl_syntax.specs.declared.tree.GuardArg.TheVariants as other_variants
+use Rattle.tsl_syntax.specs.declared.tree.ArgDecl.{ArgDecl}
+use Rattle.tsl_syntax.specs.declared.rules.Fault.TheVariants.{Syntax}
+use Rattle.tsl_syntax.specs.Tree.{Item as ItemTree}
+use Rattle.tsl_syntax.specs.Parsing.{◌>>◌, pure, first_kind, is_mark, is_word, expect_word}
+use Rattle.tsl_syntax.specs.Lists.{separated, until, many}
+use Rattle.tsl_syntax.specs.ItemRules.{field, constructor, case_fields, datatype, map_type, params, function, part, part_fixed, part_named, guard_op, other, guard, guards, arg, arg_word, args, arg_list, row, decode, item, items, items_from}
+use Rattle.tsl_syntax.specs.Grammar.{Leveled, tokens_of, token, IsLiteral, Separated, Several, Field, Fields, Case, Datatype, MapType, Params, Function, Part, Compares, Guard, Guards, Arg, Args, Row, Decode, Item, Items, Term}
+use Rattle.tsl_syntax.specs.Grammar as g
+use Rattle.tsl_syntax.specs.Nodes.{guard_of, row_of}
+use Rattle.tsl_syntax.specs.Tokens.{max_level}
 use Rattle.tsl_parser.proofs.Cut.{at}
 use Rattle.tsl_parser.proofs.Found.{Low, low_any, Read, read_then_flat, read_then_flat_sized, read_pure, read_refuse, read_map}
 use Rattle.tsl_parser.proofs.TokensFound.{nowhere, mark_then, word_then, number_then, lower_then, upper_then, literal_found, FlatAt}

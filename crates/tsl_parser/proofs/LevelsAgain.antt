@@ -4,9 +4,9 @@ use Rattle.std.specs.Prelude.{Ok, Err, Bool, Option, Some}
 use Rattle.std.proofs.lemmas.Bool.Decides.{nat_tests}
 use Rattle.tsl_lexer.specs.declared.token.Token.{Token}
 use Rattle.tsl_lexer.specs.declared.token.Kind.{Kind}
-use Rattle.tsl_parser.specs.declared.reader.Fault.TheVariants.{TooDeep}
-use Rattle.tsl_parser.specs.Parsing.{rise, enter}
-use Rattle.tsl_parser.specs.Tokens.{max_level}
+use Rattle.tsl_syntax.specs.declared.rules.Fault.TheVariants.{TooDeep}
+use Rattle.tsl_syntax.specs.Parsing.{rise, enter}
+use Rattle.tsl_syntax.specs.Tokens.{max_level}
 use Rattle.tsl_parser.proofs.Cut.{at}
 
 pub low_or_top : (n : ℕ) → n ≤ max_level → (n < max_level) ⊎ (n ≡ max_level)

@@ -1,6 +1,4 @@
 pub mod Again
-pub mod Arms
-pub mod Chain
 pub mod Cut
 pub mod Derivations
 pub mod Exact
@@ -18,6 +16,4 @@ pub mod TermsAgain
 pub mod TermsFound
 pub mod TokensFound
 pub mod Total
-pub mod Turns
-pub mod Unary
 pub mod Unique

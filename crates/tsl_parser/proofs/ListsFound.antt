@@ -4,10 +4,10 @@ use Rattle.std.specs.Prelude.{Ok, Some, if◌then◌else◌}
 use Rattle.tsl_lexer.specs.declared.token.Token.{Token}
 use Rattle.tsl_lexer.specs.declared.token.Kind.{Kind}
 use Rattle.tsl_lexer.specs.declared.token.Mark.{Mark}
-use Rattle.tsl_parser.specs.declared.tree.Span.{Span}
-use Rattle.tsl_parser.specs.Parsing.{Parser, ◌>>=◌, and_then, pure, eat, is_mark, first_kind}
-use Rattle.tsl_parser.specs.Lists.{separated, separated_from, until, until_from, many}
-use Rattle.tsl_parser.specs.Grammar.{Leveled, tokens_of}
+use Rattle.tsl_syntax.specs.declared.tree.Span.{Span}
+use Rattle.tsl_syntax.specs.Parsing.{Parser, ◌>>=◌, and_then, pure, eat, is_mark, first_kind}
+use Rattle.tsl_syntax.specs.Lists.{separated, separated_from, until, until_from, many}
+use Rattle.tsl_syntax.specs.Grammar.{Leveled, tokens_of}
 use Rattle.tsl_parser.proofs.Cut.{at}
 use Rattle.tsl_parser.proofs.Found.{Low, low_any, Read, Left, read_then_flat, read_pure, read_refuse, read_shift, read_map}
 use Rattle.tsl_parser.proofs.TokensFound.{of_mark, is_mark_true, FlatAt}

@@ -7,13 +7,13 @@ use Rattle.tsl_lexer.specs.declared.token.Kind.TheVariants as k
 use Rattle.tsl_lexer.specs.declared.token.Mark.{Mark}
 use Rattle.tsl_lexer.specs.declared.token.Mark.TheVariants as m
 use Rattle.tsl_lexer.specs.declared.token.Keyword.{Keyword}
-use Rattle.tsl_parser.specs.declared.reader.Fault.{Fault}
-use Rattle.tsl_parser.specs.declared.reader.Fault.TheVariants.{Syntax, TooDeep}
-use Rattle.tsl_parser.specs.State.{At}
-use Rattle.tsl_parser.specs.Parsing.{Outcome, Parser, ◌>>=◌, ◌>>◌, and_then, pure, stop, skip, by_next, first_kind, after_first, eat, expect, expect_word, number, number_by, literal, lower, lower_by, upper, upper_by, enter, enter_if, rise, leave, is_mark, is_word}
-use Rattle.tsl_parser.specs.Lists.{separated, separated_from, until, until_from, many}
-use Rattle.tsl_parser.specs.Nodes.{literal_of}
-use Rattle.tsl_parser.specs.Tokens.{max_level}
+use Rattle.tsl_syntax.specs.declared.rules.Fault.{Fault}
+use Rattle.tsl_syntax.specs.declared.rules.Fault.TheVariants.{Syntax, TooDeep}
+use Rattle.tsl_syntax.specs.State.{At}
+use Rattle.tsl_syntax.specs.Parsing.{Outcome, Parser, ◌>>=◌, ◌>>◌, and_then, pure, stop, skip, by_next, first_kind, after_first, eat, expect, expect_word, number, number_by, literal, lower, lower_by, upper, upper_by, enter, enter_if, rise, leave, is_mark, is_word}
+use Rattle.tsl_syntax.specs.Lists.{separated, separated_from, until, until_from, many}
+use Rattle.tsl_syntax.specs.Nodes.{literal_of}
+use Rattle.tsl_syntax.specs.Tokens.{max_level}
 use Rattle.tsl_parser.proofs.Cut.{at}
 use Rattle.tsl_parser.proofs.Found.{Takes}
 use Rattle.tsl_parser.proofs.TokensFound.{of_number, takes_number}

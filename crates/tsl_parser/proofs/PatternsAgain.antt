@@ -5,17 +5,17 @@ use Rattle.std.proofs.lemmas.Bool.Decides.{nat_tests}
 use Rattle.tsl_lexer.specs.declared.token.Token.{Token}
 use Rattle.tsl_lexer.specs.declared.token.Mark.TheVariants as m
 use Rattle.tsl_lexer.specs.declared.token.Keyword.TheVariants as w
-use Rattle.tsl_parser.specs.declared.tree.Span.{Span}
-use Rattle.tsl_parser.specs.declared.reader.Literal.{Literal}
-use Rattle.tsl_parser.specs.Tree.{Pattern}
-use Rattle.tsl_parser.specs.Tree as e
-use Rattle.tsl_parser.specs.Parsing.{Parser, ◌>>◌, and_then, pure, first_kind, is_mark, leave, begins_pattern}
-use Rattle.tsl_parser.specs.Lists.{separated, separated_from}
-use Rattle.tsl_parser.specs.PatternRules.{pattern, pattern_body, pattern_any, pattern_variable, pattern_word, pattern_flag, pattern_make, pattern_parts}
-use Rattle.tsl_parser.specs.Grammar.{Leveled, tokens_of, IsLiteral, Pat, Pats, name, mark, upper}
-use Rattle.tsl_parser.specs.Grammar as g
-use Rattle.tsl_parser.specs.Nodes.{pattern_make_of}
-use Rattle.tsl_parser.specs.Tokens.{max_level}
+use Rattle.tsl_syntax.specs.declared.tree.Span.{Span}
+use Rattle.tsl_syntax.specs.declared.rules.Literal.{Literal}
+use Rattle.tsl_syntax.specs.Tree.{Pattern}
+use Rattle.tsl_syntax.specs.Tree as e
+use Rattle.tsl_syntax.specs.Parsing.{Parser, ◌>>◌, and_then, pure, first_kind, is_mark, leave, begins_pattern}
+use Rattle.tsl_syntax.specs.Lists.{separated, separated_from}
+use Rattle.tsl_syntax.specs.PatternRules.{pattern, pattern_body, pattern_any, pattern_variable, pattern_word, pattern_flag, pattern_make, pattern_parts}
+use Rattle.tsl_syntax.specs.Grammar.{Leveled, tokens_of, IsLiteral, Pat, Pats, name, mark, upper}
+use Rattle.tsl_syntax.specs.Grammar as g
+use Rattle.tsl_syntax.specs.Nodes.{pattern_make_of}
+use Rattle.tsl_syntax.specs.Tokens.{max_level}
 use Rattle.tsl_parser.proofs.Cut.{at, and_then-cut}
 use Rattle.tsl_parser.proofs.Derivations.{Begins, begins_some, starts_pattern, pat_begins}
 use Rattle.tsl_parser.proofs.LevelsAgain.{low_or_top, enter_low, enter_high}

@@ -6,16 +6,16 @@ use Rattle.tsl_lexer.specs.declared.token.Kind.{Kind}
 use Rattle.tsl_lexer.specs.declared.token.Kind.TheVariants as k
 use Rattle.tsl_lexer.specs.declared.token.Mark.TheVariants as m
 use Rattle.tsl_lexer.specs.declared.token.Keyword.TheVariants as w
-use Rattle.tsl_parser.specs.declared.tree.Span.{Span}
-use Rattle.tsl_parser.specs.declared.reader.Fault.TheVariants.{Syntax, TooDeep, NoMemory}
-use Rattle.tsl_parser.specs.Tree.{Pattern}
-use Rattle.tsl_parser.specs.Tree as e
-use Rattle.tsl_parser.specs.Parsing.{Outcome, ◌>>=◌, ◌>>◌, and_then, pure, stop, enter, enter_if, leave, begins_pattern}
-use Rattle.tsl_parser.specs.Lists.{separated}
-use Rattle.tsl_parser.specs.PatternRules.{pattern, pattern_body, pattern_any, pattern_variable, pattern_word, pattern_flag, pattern_make, pattern_parts}
-use Rattle.tsl_parser.specs.Grammar.{Leveled, tokens_of, token, Pat, Pats, name}
-use Rattle.tsl_parser.specs.Grammar as g
-use Rattle.tsl_parser.specs.Tokens.{max_level}
+use Rattle.tsl_syntax.specs.declared.tree.Span.{Span}
+use Rattle.tsl_syntax.specs.declared.rules.Fault.TheVariants.{Syntax, TooDeep, NoMemory}
+use Rattle.tsl_syntax.specs.Tree.{Pattern}
+use Rattle.tsl_syntax.specs.Tree as e
+use Rattle.tsl_syntax.specs.Parsing.{Outcome, ◌>>=◌, ◌>>◌, and_then, pure, stop, enter, enter_if, leave, begins_pattern}
+use Rattle.tsl_syntax.specs.Lists.{separated}
+use Rattle.tsl_syntax.specs.PatternRules.{pattern, pattern_body, pattern_any, pattern_variable, pattern_word, pattern_flag, pattern_make, pattern_parts}
+use Rattle.tsl_syntax.specs.Grammar.{Leveled, tokens_of, token, Pat, Pats, name}
+use Rattle.tsl_syntax.specs.Grammar as g
+use Rattle.tsl_syntax.specs.Tokens.{max_level}
 use Rattle.tsl_parser.proofs.Cut.{at}
 use Rattle.tsl_parser.proofs.Derivations.{starts_pattern}
 use Rattle.tsl_parser.proofs.LevelsAgain.{low_or_top, rise_low, rise_high}

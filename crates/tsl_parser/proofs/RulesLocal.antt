@@ -7,27 +7,27 @@ use Rattle.tsl_lexer.specs.declared.token.Kind.TheVariants as k
 use Rattle.tsl_lexer.specs.declared.token.Mark.TheVariants as m
 use Rattle.tsl_lexer.specs.declared.token.Keyword.{Keyword}
 use Rattle.tsl_lexer.specs.declared.token.Keyword.TheVariants as w
-use Rattle.tsl_parser.specs.declared.tree.Name.{Name}
-use Rattle.tsl_parser.specs.declared.tree.Span.{Span}
-use Rattle.tsl_parser.specs.declared.tree.MapDecl.{MapDecl}
-use Rattle.tsl_parser.specs.declared.tree.PartDecl.{PartDecl}
-use Rattle.tsl_parser.specs.declared.tree.PartDecl.TheVariants as part_variants
-use Rattle.tsl_parser.specs.declared.tree.GuardDecl.{GuardDecl}
-use Rattle.tsl_parser.specs.declared.tree.GuardOp.TheVariants as op_variants
-use Rattle.tsl_parser.specs.declared.tree.GuardArg.TheVariants as other_variants
-use Rattle.tsl_parser.specs.declared.tree.ArgDecl.TheVariants as arg_variants
-use Rattle.tsl_parser.specs.declared.reader.Literal.{Literal}
-use Rattle.tsl_parser.specs.declared.reader.Fault.TheVariants.{Syntax, TooDeep}
-use Rattle.tsl_parser.specs.Tree.{Term as Expr, Pattern, Arm as ArmTree, Constructor, Datatype as DataTree, Function as FunTree, Row as RowTree, DecodeSection, Item as ItemTree}
-use Rattle.tsl_parser.specs.Tree as e
-use Rattle.tsl_parser.specs.Parsing.{Parser, ◌>>=◌, ◌>>◌, pure, stop, skip, eat, expect, expect_word, number, lower, upper, enter, rise, leave, begins_term, begins_pattern, is_mark, is_word}
-use Rattle.tsl_parser.specs.Lists.{separated, until, many}
-use Rattle.tsl_parser.specs.PatternRules.{pattern, pattern_body, pattern_body_by, pattern_any, pattern_variable, pattern_word, pattern_flag, pattern_make, pattern_parts}
-use Rattle.tsl_parser.specs.TermRules.{term, body, body_by, let_in, if_else, level, chain_from, unary_from, post, index, indexes_from, atom, atom_by, atom_by_word, word, flag, named, call, arguments, made, parts, operation, cast, arm, match_on, paren, max_turns}
-use Rattle.tsl_parser.specs.ItemRules.{field, constructor, case_fields, datatype, map_type, params, function, part, part_by, part_fixed, part_named, guard_op, guard_op_by, other, other_by, guard, guards, arg, arg_by, arg_word, args, arg_list, row, decode, item, item_by, items, items_from, items_by}
-use Rattle.tsl_parser.specs.Nodes.{let_of, if_of, binary_of, prefix_of, get_of, put_of, operation_of, cast_of, arm_of, match_of, paren_of, field_of, case_of, datatype_of, map_of, fun_of, part_of, guard_of, row_of, decode_of}
-use Rattle.tsl_parser.specs.Operators.{binds, groups, operator, prefix_operator, loosest}
-use Rattle.tsl_parser.specs.Tokens.{max_level, is_prefix, is_operation, is_cast}
+use Rattle.tsl_syntax.specs.declared.tree.Name.{Name}
+use Rattle.tsl_syntax.specs.declared.tree.Span.{Span}
+use Rattle.tsl_syntax.specs.declared.tree.MapDecl.{MapDecl}
+use Rattle.tsl_syntax.specs.declared.tree.PartDecl.{PartDecl}
+use Rattle.tsl_syntax.specs.declared.tree.PartDecl.TheVariants as part_variants
+use Rattle.tsl_syntax.specs.declared.tree.GuardDecl.{GuardDecl}
+use Rattle.tsl_syntax.specs.declared.tree.GuardOp.TheVariants as op_variants
+use Rattle.tsl_syntax.specs.declared.tree.GuardArg.TheVariants as other_variants
+use Rattle.tsl_syntax.specs.declared.tree.ArgDecl.TheVariants as arg_variants
+use Rattle.tsl_syntax.specs.declared.rules.Literal.{Literal}
+use Rattle.tsl_syntax.specs.declared.rules.Fault.TheVariants.{Syntax, TooDeep}
+use Rattle.tsl_syntax.specs.Tree.{Term as Expr, Pattern, Arm as ArmTree, Constructor, Datatype as DataTree, Function as FunTree, Row as RowTree, DecodeSection, Item as ItemTree}
+use Rattle.tsl_syntax.specs.Tree as e
+use Rattle.tsl_syntax.specs.Parsing.{Parser, ◌>>=◌, ◌>>◌, pure, stop, skip, eat, expect, expect_word, number, lower, upper, enter, rise, leave, begins_term, begins_pattern, is_mark, is_word}
+use Rattle.tsl_syntax.specs.Lists.{separated, until, many}
+use Rattle.tsl_syntax.specs.PatternRules.{pattern, pattern_body, pattern_body_by, pattern_any, pattern_variable, pattern_word, pattern_flag, pattern_make, pattern_parts}
+use Rattle.tsl_syntax.specs.TermRules.{term, body, body_by, let_in, if_else, level, chain_from, unary_from, post, index, indexes_from, atom, atom_by, atom_by_word, word, flag, named, call, arguments, made, parts, operation, cast, arm, match_on, paren, max_turns}
+use Rattle.tsl_syntax.specs.ItemRules.{field, constructor, case_fields, datatype, map_type, params, function, part, part_by, part_fixed, part_named, guard_op, guard_op_by, other, other_by, guard, guards, arg, arg_by, arg_word, args, arg_list, row, decode, item, item_by, items, items_from, items_by}
+use Rattle.tsl_syntax.specs.Nodes.{let_of, if_of, binary_of, prefix_of, get_of, put_of, operation_of, cast_of, arm_of, match_of, paren_of, field_of, case_of, datatype_of, map_of, fun_of, part_of, guard_of, row_of, decode_of}
+use Rattle.tsl_syntax.specs.Operators.{binds, groups, operator, prefix_operator, loosest}
+use Rattle.tsl_syntax.specs.Tokens.{max_level, is_prefix, is_operation, is_cast}
 use Rattle.tsl_parser.proofs.Cut.{at}
 use Rattle.tsl_parser.proofs.TokensFound.{of_mark, of_word, of_number, of_lower, of_upper, takes_mark, takes_word, takes_number, takes_lower, takes_upper}
 use Rattle.tsl_parser.proofs.Local.{Local, Moves, Needs, local_then, local_pure, local_stop, local_leave, local_skip, local_by_next, local_choose, local_rise, local_enter, local_expect, local_word, local_number, local_lower, local_upper, local_literal, local_eat, local_separated, local_until, local_many, local_turns, takes_moves, moves_then, moves_after, moves_by_next, moves_stop, moves_literal, moves_choose, same_then, no_more}

@@ -3,15 +3,15 @@ use Rattle.std.proofs.Common.{◌≡◌, ℕ, suc, ◌≤◌, ◌<◌, true, fal
 use Rattle.std.specs.Prelude.{Result, Ok, Err, if◌then◌else◌}
 use Rattle.std.proofs.lemmas.Bool.Decides.{nat_tests}
 use Rattle.tsl_lexer.specs.declared.token.Token.{Token}
-use Rattle.tsl_parser.specs.Tree.{Item as ItemTree}
-use Rattle.tsl_parser.specs.declared.reader.Fault.{Fault}
-use Rattle.tsl_parser.specs.declared.reader.Fault.TheVariants.{Syntax, TooDeep, NoMemory}
-use Rattle.tsl_parser.specs.State.{At}
-use Rattle.tsl_parser.specs.Parsing.{Outcome}
-use Rattle.tsl_parser.specs.ItemRules.{items}
-use Rattle.tsl_parser.specs.Grammar.{Leveled, tokens_of, Items}
-use Rattle.tsl_parser.specs.Exact.{Shallow, HasTree, Starts, IsViable, GoesWrong, IsSyntaxAt}
-use Rattle.tsl_parser.specs.Tokens.{max_level, place}
+use Rattle.tsl_syntax.specs.Tree.{Item as ItemTree}
+use Rattle.tsl_syntax.specs.declared.rules.Fault.{Fault}
+use Rattle.tsl_syntax.specs.declared.rules.Fault.TheVariants.{Syntax, TooDeep, NoMemory}
+use Rattle.tsl_syntax.specs.State.{At}
+use Rattle.tsl_syntax.specs.Parsing.{Outcome}
+use Rattle.tsl_syntax.specs.ItemRules.{items}
+use Rattle.tsl_syntax.specs.Grammar.{Leveled, tokens_of, Items}
+use Rattle.tsl_syntax.specs.Exact.{Shallow, HasTree, Starts, IsViable, GoesWrong, IsSyntaxAt}
+use Rattle.tsl_syntax.specs.Tokens.{max_level, place}
 use Rattle.tsl_parser.proofs.Cut.{at, cut, tokens-append, tokens-append-rest, cut-append}
 use Rattle.tsl_parser.proofs.Local.{Beyond, no_more}
 use Rattle.tsl_parser.proofs.RulesLocal.{local_items}

@@ -8,20 +8,20 @@ use Rattle.tsl_lexer.specs.declared.token.Kind.TheVariants as k
 use Rattle.tsl_lexer.specs.declared.token.Mark.TheVariants as m
 use Rattle.tsl_lexer.specs.declared.token.Keyword.{Keyword}
 use Rattle.tsl_lexer.specs.declared.token.Keyword.TheVariants as w
-use Rattle.tsl_parser.specs.declared.tree.Span.{Span}
-use Rattle.tsl_parser.specs.declared.reader.Literal.{Literal}
-use Rattle.tsl_parser.specs.Tree.{Term as Expr, Pattern, Arm as ArmTree}
-use Rattle.tsl_parser.specs.Tree as e
-use Rattle.tsl_parser.specs.State.{At}
-use Rattle.tsl_parser.specs.Parsing.{Outcome, Parser, ◌>>◌, and_then, pure, first_kind, is_mark, is_word, leave, begins_term}
-use Rattle.tsl_parser.specs.Lists.{separated, separated_from, many, until_from}
-use Rattle.tsl_parser.specs.PatternRules.{pattern}
-use Rattle.tsl_parser.specs.TermRules.{term, body, let_in, if_else, level, chain_from, unary_from, post, index, indexes_from, atom, atom_by_word, word, flag, named, call, arguments, made, parts, operation, cast, arm, match_on, paren, max_turns}
-use Rattle.tsl_parser.specs.Grammar.{Leveled, tokens_of, token, IsLiteral, Pat, Term, Level, Unary, Post, Atom, Arguments, Terms, Arm, Arms, name, num, mark, keyword, upper}
-use Rattle.tsl_parser.specs.Grammar as g
-use Rattle.tsl_parser.specs.Nodes.{let_of, if_of, binary_of, prefix_of, get_of, put_of, call_of, make_of, operation_of, cast_of, arm_of, match_of, paren_of}
-use Rattle.tsl_parser.specs.Operators.{binds, groups, operator, prefix_operator, loosest}
-use Rattle.tsl_parser.specs.Tokens.{max_level, is_prefix, is_operation, is_cast}
+use Rattle.tsl_syntax.specs.declared.tree.Span.{Span}
+use Rattle.tsl_syntax.specs.declared.rules.Literal.{Literal}
+use Rattle.tsl_syntax.specs.Tree.{Term as Expr, Pattern, Arm as ArmTree}
+use Rattle.tsl_syntax.specs.Tree as e
+use Rattle.tsl_syntax.specs.State.{At}
+use Rattle.tsl_syntax.specs.Parsing.{Outcome, Parser, ◌>>◌, and_then, pure, first_kind, is_mark, is_word, leave, begins_term}
+use Rattle.tsl_syntax.specs.Lists.{separated, separated_from, many, until_from}
+use Rattle.tsl_syntax.specs.PatternRules.{pattern}
+use Rattle.tsl_syntax.specs.TermRules.{term, body, let_in, if_else, level, chain_from, unary_from, post, index, indexes_from, atom, atom_by_word, word, flag, named, call, arguments, made, parts, operation, cast, arm, match_on, paren, max_turns}
+use Rattle.tsl_syntax.specs.Grammar.{Leveled, tokens_of, token, IsLiteral, Pat, Term, Level, Unary, Post, Atom, Arguments, Terms, Arm, Arms, name, num, mark, keyword, upper}
+use Rattle.tsl_syntax.specs.Grammar as g
+use Rattle.tsl_syntax.specs.Nodes.{let_of, if_of, binary_of, prefix_of, get_of, put_of, call_of, make_of, operation_of, cast_of, arm_of, match_of, paren_of}
+use Rattle.tsl_syntax.specs.Operators.{binds, groups, operator, prefix_operator, loosest}
+use Rattle.tsl_syntax.specs.Tokens.{max_level, is_prefix, is_operation, is_cast}
 use Rattle.tsl_parser.proofs.Cut.{at, cut, Fits, tokens-append-rest, and_then-cut, cut-append, cut_under, by_fits}
 use Rattle.tsl_parser.proofs.Derivations.{Begins, begins_some, starts_pattern, starts_term, term_begins, terms_begin, arm_begins, post_begins, level_begins, level_rises, level_fits, post_rises, post_fits, body_level, first_no_prefix, term_no_close, pattern_no_close}
 use Rattle.tsl_parser.proofs.LevelsAgain.{low_or_top, rise_low, rise_high, enter_low, enter_high}

@@ -8,20 +8,20 @@ use Rattle.tsl_lexer.specs.declared.token.Kind.TheVariants as k
 use Rattle.tsl_lexer.specs.declared.token.Mark.TheVariants as m
 use Rattle.tsl_lexer.specs.declared.token.Keyword.{Keyword}
 use Rattle.tsl_lexer.specs.declared.token.Keyword.TheVariants as w
-use Rattle.tsl_parser.specs.declared.tree.Span.{Span}
-use Rattle.tsl_parser.specs.declared.tree.Name.{Name}
-use Rattle.tsl_parser.specs.declared.reader.Fault.TheVariants.{Syntax, TooDeep, NoMemory}
-use Rattle.tsl_parser.specs.Tree.{Term as Expr, Pattern, Arm as ArmTree}
-use Rattle.tsl_parser.specs.Tree as e
-use Rattle.tsl_parser.specs.Parsing.{Outcome, Parser, ◌>>=◌, ◌>>◌, and_then, pure, stop, skip, first_kind, is_mark, begins_term, enter, enter_if, rise, leave}
-use Rattle.tsl_parser.specs.Lists.{separated, many}
-use Rattle.tsl_parser.specs.PatternRules.{pattern}
-use Rattle.tsl_parser.specs.TermRules.{term, body, let_in, if_else, level, chain_from, unary_from, post, index, indexes_from, atom, word, flag, named, call, arguments, made, parts, operation, cast, arm, match_on, paren, max_turns}
-use Rattle.tsl_parser.specs.Grammar.{Leveled, tokens_of, token, Pat, Term, Level, Unary, Post, Atom, Arguments, Terms, Arm, Arms}
-use Rattle.tsl_parser.specs.Grammar as g
-use Rattle.tsl_parser.specs.Nodes.{binary_of, prefix_of, get_of, put_of}
-use Rattle.tsl_parser.specs.Operators.{binds, groups, operator, prefix_operator, loosest}
-use Rattle.tsl_parser.specs.Tokens.{max_level, is_prefix, is_operation, is_cast}
+use Rattle.tsl_syntax.specs.declared.tree.Span.{Span}
+use Rattle.tsl_syntax.specs.declared.tree.Name.{Name}
+use Rattle.tsl_syntax.specs.declared.rules.Fault.TheVariants.{Syntax, TooDeep, NoMemory}
+use Rattle.tsl_syntax.specs.Tree.{Term as Expr, Pattern, Arm as ArmTree}
+use Rattle.tsl_syntax.specs.Tree as e
+use Rattle.tsl_syntax.specs.Parsing.{Outcome, Parser, ◌>>=◌, ◌>>◌, and_then, pure, stop, skip, first_kind, is_mark, begins_term, enter, enter_if, rise, leave}
+use Rattle.tsl_syntax.specs.Lists.{separated, many}
+use Rattle.tsl_syntax.specs.PatternRules.{pattern}
+use Rattle.tsl_syntax.specs.TermRules.{term, body, let_in, if_else, level, chain_from, unary_from, post, index, indexes_from, atom, word, flag, named, call, arguments, made, parts, operation, cast, arm, match_on, paren, max_turns}
+use Rattle.tsl_syntax.specs.Grammar.{Leveled, tokens_of, token, Pat, Term, Level, Unary, Post, Atom, Arguments, Terms, Arm, Arms}
+use Rattle.tsl_syntax.specs.Grammar as g
+use Rattle.tsl_syntax.specs.Nodes.{binary_of, prefix_of, get_of, put_of}
+use Rattle.tsl_syntax.specs.Operators.{binds, groups, operator, prefix_operator, loosest}
+use Rattle.tsl_syntax.specs.Tokens.{max_level, is_prefix, is_operation, is_cast}
 use Rattle.tsl_parser.proofs.Cut.{at}
 use Rattle.tsl_parser.proofs.Derivations.{level_rises, post_rises, starts_term}
 use Rattle.tsl_parser.proofs.LevelsAgain.{low_or_top, rise_low, rise_high}

@@ -9,13 +9,13 @@ use Rattle.tsl_lexer.specs.declared.token.Kind.{Kind}
 use Rattle.tsl_lexer.specs.declared.token.Kind.TheVariants as k
 use Rattle.tsl_lexer.specs.declared.token.Mark.{Mark}
 use Rattle.tsl_lexer.specs.declared.token.Keyword.{Keyword}
-use Rattle.tsl_parser.specs.declared.tree.Span.{Span}
-use Rattle.tsl_parser.specs.declared.tree.Name.{Name}
-use Rattle.tsl_parser.specs.declared.tree.Num.{Num}
-use Rattle.tsl_parser.specs.declared.reader.Fault.TheVariants.{Syntax}
-use Rattle.tsl_parser.specs.Parsing.{Parser, and_then, skip, expect, expect_word, number, literal, lower, upper, is_mark, is_word}
-use Rattle.tsl_parser.specs.Grammar.{Leveled, token, IsLiteral}
-use Rattle.tsl_parser.specs.Grammar as g
+use Rattle.tsl_syntax.specs.declared.tree.Span.{Span}
+use Rattle.tsl_syntax.specs.declared.tree.Name.{Name}
+use Rattle.tsl_syntax.specs.declared.tree.Num.{Num}
+use Rattle.tsl_syntax.specs.declared.rules.Fault.TheVariants.{Syntax}
+use Rattle.tsl_syntax.specs.Parsing.{Parser, and_then, skip, expect, expect_word, number, literal, lower, upper, is_mark, is_word}
+use Rattle.tsl_syntax.specs.Grammar.{Leveled, token, IsLiteral}
+use Rattle.tsl_syntax.specs.Grammar as g
 use Rattle.tsl_lexer.specs.declared.token.Mark.TheVariants as m
 use Rattle.tsl_parser.proofs.Cut.{at}
 use Rattle.tsl_parser.proofs.Found.{Low, Read, Takes, read_token_then, read_pure}

@@ -2,13 +2,13 @@
 use Rattle.std.proofs.Common.{◌≡◌, ℕ, ◌⊎◌, inl, inr, List, refl, subst}
 use Rattle.std.specs.Prelude.{Ok, Err}
 use Rattle.tsl_lexer.specs.declared.token.Token.{Token}
-use Rattle.tsl_parser.specs.Tree.{Tree, Item}
-use Rattle.tsl_parser.specs.Parsing.{Outcome}
-use Rattle.tsl_parser.specs.ItemRules.{items}
-use Rattle.tsl_parser.specs.Grammar.{Items}
-use Rattle.tsl_parser.specs.declared.reader.Fault.TheVariants.{Syntax, TooDeep, NoMemory}
-use Rattle.tsl_parser.specs.Exact.{HasTree, IsDeepAt, IsSyntaxAt}
-use Rattle.tsl_parser.specs.Tokens.{place}
+use Rattle.tsl_syntax.specs.Tree.{Tree, Item}
+use Rattle.tsl_syntax.specs.Parsing.{Outcome}
+use Rattle.tsl_syntax.specs.ItemRules.{items}
+use Rattle.tsl_syntax.specs.Grammar.{Items}
+use Rattle.tsl_syntax.specs.declared.rules.Fault.TheVariants.{Syntax, TooDeep, NoMemory}
+use Rattle.tsl_syntax.specs.Exact.{HasTree, IsDeepAt, IsSyntaxAt}
+use Rattle.tsl_syntax.specs.Tokens.{place}
 use Rattle.tsl_parser.proofs.Cut.{at}
 use Rattle.tsl_parser.proofs.Exact.{deep_answer, syntax_answer, tree_answer}
 use Rattle.tsl_parser.proofs.Found.{Read}

@@ -2,11 +2,11 @@
 use Rattle.std.proofs.Common.{◌≡◌, ℕ, List, [], refl, sym, ◌∙◌, ap}
 use Rattle.std.specs.Prelude.{Ok, Err}
 use Rattle.tsl_lexer.specs.declared.token.Token.{Token}
-use Rattle.tsl_parser.specs.Tree.{Tree, Item}
-use Rattle.tsl_parser.specs.Parsing.{Outcome}
-use Rattle.tsl_parser.specs.ItemRules.{items}
-use Rattle.tsl_parser.specs.declared.reader.Fault.TheVariants.{TooDeep}
-use Rattle.tsl_parser.specs.Exact.{HasTree, IsDeepAt, IsSyntaxAt}
+use Rattle.tsl_syntax.specs.Tree.{Tree, Item}
+use Rattle.tsl_syntax.specs.Parsing.{Outcome}
+use Rattle.tsl_syntax.specs.ItemRules.{items}
+use Rattle.tsl_syntax.specs.declared.rules.Fault.TheVariants.{TooDeep}
+use Rattle.tsl_syntax.specs.Exact.{HasTree, IsDeepAt, IsSyntaxAt}
 use Rattle.tsl_parser.proofs.Cut.{at}
 use Rattle.tsl_parser.proofs.Exact.{deep_only, deep_place, only_err, only_ok, tree_only}
 use Rattle.tsl_parser.proofs.Syntax.{syntax_only}

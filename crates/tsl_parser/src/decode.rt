@@ -1,19 +1,23 @@
 //! Decode sections: rows of bit patterns, guards and arguments.
 
 ghost use Rattle.std.specs.Prelude.{◌≡◌, map};
-ghost use Rattle.tsl_parser.specs.Parsing.{Gives, GivesBy};
-ghost use Rattle.tsl_parser.specs.Lists as lists;
-ghost use Rattle.tsl_parser.specs.Nodes as nodes;
-ghost use Rattle.tsl_parser.specs.ItemRules as spec;
-ghost use Rattle.tsl_parser.specs.View.{row as row_view, section_ as section_view};
+ghost use Rattle.tsl_syntax.specs.Parsing.{Gives, GivesBy};
+ghost use Rattle.tsl_syntax.specs.Lists as lists;
+ghost use Rattle.tsl_syntax.specs.Nodes as nodes;
+ghost use Rattle.tsl_syntax.specs.ItemRules as spec;
+ghost use Rattle.tsl_syntax.specs.View.{row as row_view, section_ as section_view};
 ghost use Rattle.tsl_lexer.specs.declared.token.Mark.TheVariants as marks;
 
-use crate::reader::{Fault, Reader, hull};
-use crate::tree::{ArgDecl, DecodeDecl, GuardArg, GuardDecl, GuardOp, PartDecl, RowDecl, Span};
 use std::alloc::Global;
 use tsl_lexer::{Keyword, Kind, Mark};
+use tsl_reader::or_drop;
+use tsl_reader::reader::{Reader, hull};
+use tsl_syntax::rules::Fault;
+use tsl_syntax::tree::{
+    ArgDecl, DecodeDecl, GuardArg, GuardDecl, GuardOp, PartDecl, RowDecl, Span,
+};
 
-#[tactic(auto, unfolding(crate::specs::ItemRules::part_fixed))]
+#[tactic(auto, unfolding(tsl_syntax::specs::ItemRules::part_fixed))]
 fn part_fixed(tokens: &mut Reader<'_>) -> Result<PartDecl, Fault>
     ensures { Gives (spec.part_fixed tokens.old) result tokens.new }
 {
@@ -25,18 +29,18 @@ fn part_fixed(tokens: &mut Reader<'_>) -> Result<PartDecl, Fault>
     })
 }
 
-#[tactic(auto, unfolding(crate::specs::ItemRules::part_named))]
+#[tactic(auto, unfolding(tsl_syntax::specs::ItemRules::part_named))]
 fn part_named(alloc: Global, tokens: &mut Reader<'_>) -> Result<PartDecl, Fault>
     ensures { Gives (spec.part_named tokens.old) result tokens.new }
 {
     let name = tokens.lower(alloc)?;
-    tokens.expect(Mark::Colon)?;
-    let w = tokens.number()?;
+    or_drop!(tokens.expect(Mark::Colon), name);
+    let w = or_drop!(tokens.number(), name);
     let span = hull(name.span, w.span);
     Ok(PartDecl::Named { name, w, span })
 }
 
-#[tactic(auto, unfolding(crate::specs::ItemRules::part))]
+#[tactic(auto, unfolding(tsl_syntax::specs::ItemRules::part))]
 fn part(alloc: Global, tokens: &mut Reader<'_>) -> Result<PartDecl, Fault>
     ensures { Gives (spec.part tokens.old) result tokens.new }
 {
@@ -47,7 +51,7 @@ fn part(alloc: Global, tokens: &mut Reader<'_>) -> Result<PartDecl, Fault>
     }
 }
 
-#[tactic(auto, using(crate::proofs::Turns::turn, crate::proofs::Turns::over), unfolding(crate::specs::Lists::many, crate::specs::Lists::until_from, crate::specs::Parsing::sees))]
+#[tactic(auto, using(tsl_reader::proofs::Turns::turn, tsl_reader::proofs::Turns::over), unfolding(tsl_syntax::specs::Lists::many, tsl_syntax::specs::Lists::until_from, tsl_syntax::specs::Parsing::sees))]
 fn parts(alloc: Global, tokens: &mut Reader<'_>) -> Result<Vec<PartDecl>, Fault>
     ensures { GivesBy (λ v. v.items) (lists.many spec.part marks.RBracket tokens.old) result tokens.new }
 {
@@ -62,7 +66,7 @@ fn parts(alloc: Global, tokens: &mut Reader<'_>) -> Result<Vec<PartDecl>, Fault>
     Err(Fault::Syntax)
 }
 
-#[tactic(auto, unfolding(crate::specs::ItemRules::guard_op))]
+#[tactic(auto, unfolding(tsl_syntax::specs::ItemRules::guard_op))]
 fn guard_op(tokens: &mut Reader<'_>) -> Result<GuardOp, Fault>
     ensures { Gives (spec.guard_op tokens.old) result tokens.new }
 {
@@ -76,7 +80,7 @@ fn guard_op(tokens: &mut Reader<'_>) -> Result<GuardOp, Fault>
     Ok(op)
 }
 
-#[tactic(auto, unfolding(crate::specs::ItemRules::other))]
+#[tactic(auto, unfolding(tsl_syntax::specs::ItemRules::other))]
 fn other(alloc: Global, tokens: &mut Reader<'_>) -> Result<GuardArg, Fault>
     ensures { Gives (spec.other tokens.old) result tokens.new }
 {
@@ -96,13 +100,13 @@ fn other_span(other: &GuardArg) -> Span
     }
 }
 
-#[tactic(auto, unfolding(crate::specs::ItemRules::guard))]
+#[tactic(auto, unfolding(tsl_syntax::specs::ItemRules::guard))]
 fn guard(alloc: Global, tokens: &mut Reader<'_>) -> Result<GuardDecl, Fault>
     ensures { Gives (spec.guard tokens.old) result tokens.new }
 {
     let field = tokens.lower(alloc)?;
-    let op = guard_op(tokens)?;
-    let other = other(alloc, tokens)?;
+    let op = or_drop!(guard_op(tokens), field);
+    let other = or_drop!(other(alloc, tokens), field);
     let span = hull(field.span, other_span(&other));
     Ok(GuardDecl {
         field,
@@ -112,7 +116,7 @@ fn guard(alloc: Global, tokens: &mut Reader<'_>) -> Result<GuardDecl, Fault>
     })
 }
 
-#[tactic(auto, using(crate::proofs::Turns::turn, crate::proofs::Turns::over), unfolding(crate::specs::Lists::separated, crate::specs::Lists::separated_from))]
+#[tactic(auto, using(tsl_reader::proofs::Turns::turn, tsl_reader::proofs::Turns::over), unfolding(tsl_syntax::specs::Lists::separated, tsl_syntax::specs::Lists::separated_from))]
 fn guard_list(alloc: Global, tokens: &mut Reader<'_>) -> Result<Vec<GuardDecl>, Fault>
     ensures { GivesBy (λ v. v.items) (lists.separated spec.guard marks.Comma tokens.old) result tokens.new }
 {
@@ -126,7 +130,7 @@ fn guard_list(alloc: Global, tokens: &mut Reader<'_>) -> Result<Vec<GuardDecl>, 
     Err(Fault::Syntax)
 }
 
-#[tactic(auto, unfolding(crate::specs::ItemRules::guards))]
+#[tactic(auto, unfolding(tsl_syntax::specs::ItemRules::guards))]
 fn guards(alloc: Global, tokens: &mut Reader<'_>) -> Result<Vec<GuardDecl>, Fault>
     ensures { GivesBy (λ v. v.items) (spec.guards tokens.old) result tokens.new }
 {
@@ -137,7 +141,7 @@ fn guards(alloc: Global, tokens: &mut Reader<'_>) -> Result<Vec<GuardDecl>, Faul
     guard_list(alloc, tokens)
 }
 
-#[tactic(auto, unfolding(crate::specs::ItemRules::arg_word))]
+#[tactic(auto, unfolding(tsl_syntax::specs::ItemRules::arg_word))]
 fn arg_word(tokens: &mut Reader<'_>) -> Result<ArgDecl, Fault>
     ensures { Gives (spec.arg_word tokens.old) result tokens.new }
 {
@@ -149,7 +153,7 @@ fn arg_word(tokens: &mut Reader<'_>) -> Result<ArgDecl, Fault>
     })
 }
 
-#[tactic(auto, unfolding(crate::specs::ItemRules::arg))]
+#[tactic(auto, unfolding(tsl_syntax::specs::ItemRules::arg))]
 fn arg(alloc: Global, tokens: &mut Reader<'_>) -> Result<ArgDecl, Fault>
     ensures { Gives (spec.arg tokens.old) result tokens.new }
 {
@@ -160,7 +164,7 @@ fn arg(alloc: Global, tokens: &mut Reader<'_>) -> Result<ArgDecl, Fault>
     }
 }
 
-#[tactic(auto, using(crate::proofs::Turns::turn, crate::proofs::Turns::over), unfolding(crate::specs::Lists::separated, crate::specs::Lists::separated_from))]
+#[tactic(auto, using(tsl_reader::proofs::Turns::turn, tsl_reader::proofs::Turns::over), unfolding(tsl_syntax::specs::Lists::separated, tsl_syntax::specs::Lists::separated_from))]
 fn arg_items(alloc: Global, tokens: &mut Reader<'_>) -> Result<Vec<ArgDecl>, Fault>
     ensures { GivesBy (λ v. v.items) (lists.separated spec.arg marks.Comma tokens.old) result tokens.new }
 {
@@ -174,7 +178,7 @@ fn arg_items(alloc: Global, tokens: &mut Reader<'_>) -> Result<Vec<ArgDecl>, Fau
     Err(Fault::Syntax)
 }
 
-#[tactic(auto, unfolding(crate::specs::ItemRules::args, crate::specs::ItemRules::arg_list))]
+#[tactic(auto, unfolding(tsl_syntax::specs::ItemRules::args, tsl_syntax::specs::ItemRules::arg_list))]
 fn args(alloc: Global, tokens: &mut Reader<'_>) -> Result<Vec<ArgDecl>, Fault>
     ensures { GivesBy (λ v. v.items) (spec.args tokens.old) result tokens.new }
 {
@@ -182,22 +186,22 @@ fn args(alloc: Global, tokens: &mut Reader<'_>) -> Result<Vec<ArgDecl>, Fault>
         return Ok(Vec::new(alloc));
     }
     let found = arg_items(alloc, tokens)?;
-    tokens.expect(Mark::RParen)?;
+    or_drop!(tokens.expect(Mark::RParen), found);
     Ok(found)
 }
 
-#[tactic(auto, unfolding(crate::specs::ItemRules::row))]
+#[tactic(auto, unfolding(tsl_syntax::specs::ItemRules::row))]
 fn row(alloc: Global, tokens: &mut Reader<'_>) -> Result<RowDecl, Fault>
     ensures { GivesBy row_view (spec.row tokens.old) result tokens.new }
 {
     let start = tokens.expect(Mark::LBracket)?;
     let parts = parts(alloc, tokens)?;
-    tokens.expect(Mark::RBracket)?;
-    let guards = guards(alloc, tokens)?;
-    tokens.expect(Mark::FatArrow)?;
-    let case = tokens.upper(alloc)?;
-    let args = args(alloc, tokens)?;
-    let end = tokens.expect(Mark::Semi)?;
+    or_drop!(tokens.expect(Mark::RBracket), parts);
+    let guards = or_drop!(guards(alloc, tokens), parts);
+    or_drop!(tokens.expect(Mark::FatArrow), parts, guards);
+    let case = or_drop!(tokens.upper(alloc), parts, guards);
+    let args = or_drop!(args(alloc, tokens), parts, guards, case);
+    let end = or_drop!(tokens.expect(Mark::Semi), parts, guards, case, args);
     Ok(RowDecl {
         parts,
         guards,
@@ -207,7 +211,7 @@ fn row(alloc: Global, tokens: &mut Reader<'_>) -> Result<RowDecl, Fault>
     })
 }
 
-#[tactic(auto, using(crate::proofs::Turns::turn, crate::proofs::Turns::over, crate::proofs::Turns::map_more), unfolding(crate::specs::Lists::until, crate::specs::Lists::until_from, crate::specs::Parsing::sees))]
+#[tactic(auto, using(tsl_reader::proofs::Turns::turn, tsl_reader::proofs::Turns::over, tsl_reader::proofs::Turns::map_more), unfolding(tsl_syntax::specs::Lists::until, tsl_syntax::specs::Lists::until_from, tsl_syntax::specs::Parsing::sees))]
 fn rows(alloc: Global, tokens: &mut Reader<'_>) -> Result<Vec<RowDecl>, Fault>
     ensures { GivesBy (λ v. map row_view v.items) (lists.until spec.row marks.RBrace tokens.old) result tokens.new }
 {
@@ -222,14 +226,14 @@ fn rows(alloc: Global, tokens: &mut Reader<'_>) -> Result<Vec<RowDecl>, Fault>
 }
 
 /// A decode section.
-#[tactic(auto, unfolding(crate::specs::ItemRules::decode))]
+#[tactic(auto, unfolding(tsl_syntax::specs::ItemRules::decode))]
 pub fn decode(alloc: Global, tokens: &mut Reader<'_>) -> Result<DecodeDecl, Fault>
     ensures { GivesBy section_view (spec.decode tokens.old) result tokens.new }
 {
     let start = tokens.expect_word(Keyword::KwDecode)?;
     tokens.expect(Mark::LBrace)?;
     let rows = rows(alloc, tokens)?;
-    let end = tokens.expect(Mark::RBrace)?;
+    let end = or_drop!(tokens.expect(Mark::RBrace), rows);
     Ok(DecodeDecl {
         rows,
         span: hull(start, end),

@@ -1,31 +1,33 @@
 //! Declarations of types, maps and functions, and whole specifications.
 
 ghost use Rattle.std.specs.Prelude.{◌≡◌, map};
-ghost use Rattle.tsl_parser.specs.Parsing.{Gives, GivesBy};
-ghost use Rattle.tsl_parser.specs.Lists as lists;
-ghost use Rattle.tsl_parser.specs.ItemRules as spec;
-ghost use Rattle.tsl_parser.specs.View.{constructor as constructor_view, datatype as datatype_view, function as function_view, item as item_view};
+ghost use Rattle.tsl_syntax.specs.Parsing.{Gives, GivesBy};
+ghost use Rattle.tsl_syntax.specs.Lists as lists;
+ghost use Rattle.tsl_syntax.specs.ItemRules as spec;
+ghost use Rattle.tsl_syntax.specs.View.{constructor as constructor_view, datatype as datatype_view, function as function_view, item as item_view};
 ghost use Rattle.tsl_lexer.specs.declared.token.Mark.TheVariants as marks;
 
 use crate::decode::decode;
-use crate::expr::term;
-use crate::reader::{Fault, MAX_LEVEL, Reader, hull};
-use crate::tree::{CaseDecl, DataDecl, FieldDecl, FunDecl, Item, MapDecl, Name};
 use std::alloc::Global;
 use tsl_lexer::{Keyword, Kind, Mark};
+use tsl_reader::or_drop;
+use tsl_reader::reader::{MAX_LEVEL, Reader, hull};
+use tsl_syntax::rules::Fault;
+use tsl_syntax::tree::{CaseDecl, DataDecl, FieldDecl, FunDecl, Item, MapDecl, Name};
+use tsl_terms::term;
 
-#[tactic(auto, unfolding(crate::specs::ItemRules::field))]
+#[tactic(auto, unfolding(tsl_syntax::specs::ItemRules::field))]
 fn field(alloc: Global, tokens: &mut Reader<'_>) -> Result<FieldDecl, Fault>
     ensures { Gives (spec.field tokens.old) result tokens.new }
 {
     let name = tokens.lower(alloc)?;
-    tokens.expect(Mark::Colon)?;
-    let ty = tokens.upper(alloc)?;
+    or_drop!(tokens.expect(Mark::Colon), name);
+    let ty = or_drop!(tokens.upper(alloc), name);
     let span = hull(name.span, ty.span);
     Ok(FieldDecl { name, ty, span })
 }
 
-#[tactic(auto, using(crate::proofs::Turns::turn, crate::proofs::Turns::over), unfolding(crate::specs::Lists::separated, crate::specs::Lists::separated_from))]
+#[tactic(auto, using(tsl_reader::proofs::Turns::turn, tsl_reader::proofs::Turns::over), unfolding(tsl_syntax::specs::Lists::separated, tsl_syntax::specs::Lists::separated_from))]
 fn fields(alloc: Global, tokens: &mut Reader<'_>) -> Result<Vec<FieldDecl>, Fault>
     ensures { GivesBy (λ v. v.items) (lists.separated spec.field marks.Comma tokens.old) result tokens.new }
 {
@@ -39,17 +41,17 @@ fn fields(alloc: Global, tokens: &mut Reader<'_>) -> Result<Vec<FieldDecl>, Faul
     Err(Fault::Syntax)
 }
 
-#[tactic(auto, unfolding(crate::specs::ItemRules::case_fields))]
+#[tactic(auto, unfolding(tsl_syntax::specs::ItemRules::case_fields))]
 fn case_fields(alloc: Global, tokens: &mut Reader<'_>, name: Name) -> Result<CaseDecl, Fault>
     ensures { GivesBy constructor_view (spec.case_fields name tokens.old) result tokens.new }
 {
-    let fields = fields(alloc, tokens)?;
-    let end = tokens.expect(Mark::RParen)?;
+    let fields = or_drop!(fields(alloc, tokens), name);
+    let end = or_drop!(tokens.expect(Mark::RParen), name, fields);
     let span = hull(name.span, end);
     Ok(CaseDecl { name, fields, span })
 }
 
-#[tactic(auto, unfolding(crate::specs::ItemRules::constructor))]
+#[tactic(auto, unfolding(tsl_syntax::specs::ItemRules::constructor))]
 fn constructor(alloc: Global, tokens: &mut Reader<'_>) -> Result<CaseDecl, Fault>
     ensures { GivesBy constructor_view (spec.constructor tokens.old) result tokens.new }
 {
@@ -65,7 +67,7 @@ fn constructor(alloc: Global, tokens: &mut Reader<'_>) -> Result<CaseDecl, Fault
     })
 }
 
-#[tactic(auto, using(crate::proofs::Turns::turn, crate::proofs::Turns::over, crate::proofs::Turns::map_more), unfolding(crate::specs::Lists::separated, crate::specs::Lists::separated_from))]
+#[tactic(auto, using(tsl_reader::proofs::Turns::turn, tsl_reader::proofs::Turns::over, tsl_reader::proofs::Turns::map_more), unfolding(tsl_syntax::specs::Lists::separated, tsl_syntax::specs::Lists::separated_from))]
 fn constructors(alloc: Global, tokens: &mut Reader<'_>) -> Result<Vec<CaseDecl>, Fault>
     ensures { GivesBy (λ v. map constructor_view v.items) (lists.separated spec.constructor marks.Bar tokens.old) result tokens.new }
 {
@@ -79,15 +81,15 @@ fn constructors(alloc: Global, tokens: &mut Reader<'_>) -> Result<Vec<CaseDecl>,
     Err(Fault::Syntax)
 }
 
-#[tactic(auto, unfolding(crate::specs::ItemRules::datatype))]
+#[tactic(auto, unfolding(tsl_syntax::specs::ItemRules::datatype))]
 fn datatype(alloc: Global, tokens: &mut Reader<'_>) -> Result<DataDecl, Fault>
     ensures { GivesBy datatype_view (spec.datatype tokens.old) result tokens.new }
 {
     let start = tokens.expect_word(Keyword::KwType)?;
     let name = tokens.upper(alloc)?;
-    tokens.expect(Mark::Equals)?;
-    let cases = constructors(alloc, tokens)?;
-    let end = tokens.expect(Mark::Semi)?;
+    or_drop!(tokens.expect(Mark::Equals), name);
+    let cases = or_drop!(constructors(alloc, tokens), name);
+    let end = or_drop!(tokens.expect(Mark::Semi), name, cases);
     Ok(DataDecl {
         name,
         cases,
@@ -95,20 +97,20 @@ fn datatype(alloc: Global, tokens: &mut Reader<'_>) -> Result<DataDecl, Fault>
     })
 }
 
-#[tactic(auto, unfolding(crate::specs::ItemRules::map_type))]
+#[tactic(auto, unfolding(tsl_syntax::specs::ItemRules::map_type))]
 fn map_type(alloc: Global, tokens: &mut Reader<'_>) -> Result<MapDecl, Fault>
     ensures { Gives (spec.map_type tokens.old) result tokens.new }
 {
     let start = tokens.expect_word(Keyword::KwMap)?;
     let name = tokens.upper(alloc)?;
-    tokens.expect(Mark::LBracket)?;
-    let key = tokens.upper(alloc)?;
-    tokens.expect(Mark::Arrow)?;
-    let value = tokens.upper(alloc)?;
-    tokens.expect(Mark::RBracket)?;
-    tokens.expect_word(Keyword::KwDefault)?;
-    let default = tokens.number()?;
-    let end = tokens.expect(Mark::Semi)?;
+    or_drop!(tokens.expect(Mark::LBracket), name);
+    let key = or_drop!(tokens.upper(alloc), name);
+    or_drop!(tokens.expect(Mark::Arrow), name, key);
+    let value = or_drop!(tokens.upper(alloc), name, key);
+    or_drop!(tokens.expect(Mark::RBracket), name, key, value);
+    or_drop!(tokens.expect_word(Keyword::KwDefault), name, key, value);
+    let default = or_drop!(tokens.number(), name, key, value);
+    let end = or_drop!(tokens.expect(Mark::Semi), name, key, value);
     Ok(MapDecl {
         name,
         key,
@@ -118,7 +120,7 @@ fn map_type(alloc: Global, tokens: &mut Reader<'_>) -> Result<MapDecl, Fault>
     })
 }
 
-#[tactic(auto, unfolding(crate::specs::ItemRules::params, crate::specs::Parsing::sees))]
+#[tactic(auto, unfolding(tsl_syntax::specs::ItemRules::params, tsl_syntax::specs::Parsing::sees))]
 fn params(alloc: Global, tokens: &mut Reader<'_>) -> Result<Vec<FieldDecl>, Fault>
     ensures { GivesBy (λ v. v.items) (spec.params tokens.old) result tokens.new }
 {
@@ -128,20 +130,20 @@ fn params(alloc: Global, tokens: &mut Reader<'_>) -> Result<Vec<FieldDecl>, Faul
     fields(alloc, tokens)
 }
 
-#[tactic(auto, unfolding(crate::specs::ItemRules::function))]
+#[tactic(auto, unfolding(tsl_syntax::specs::ItemRules::function))]
 fn function(alloc: Global, tokens: &mut Reader<'_>) -> Result<FunDecl, Fault>
     ensures { GivesBy function_view (spec.function tokens.old) result tokens.new }
 {
     let start = tokens.expect_word(Keyword::KwFun)?;
     let name = tokens.lower(alloc)?;
-    tokens.expect(Mark::LParen)?;
-    let params = params(alloc, tokens)?;
-    tokens.expect(Mark::RParen)?;
-    tokens.expect(Mark::Arrow)?;
-    let result_type = tokens.upper(alloc)?;
-    tokens.expect(Mark::Equals)?;
-    let body = term(alloc, tokens, MAX_LEVEL)?;
-    let end = tokens.expect(Mark::Semi)?;
+    or_drop!(tokens.expect(Mark::LParen), name);
+    let params = or_drop!(params(alloc, tokens), name);
+    or_drop!(tokens.expect(Mark::RParen), name, params);
+    or_drop!(tokens.expect(Mark::Arrow), name, params);
+    let result_type = or_drop!(tokens.upper(alloc), name, params);
+    or_drop!(tokens.expect(Mark::Equals), name, params, result_type);
+    let body = or_drop!(term(alloc, tokens, MAX_LEVEL), name, params, result_type);
+    let end = or_drop!(tokens.expect(Mark::Semi), name, params, result_type, body);
     Ok(FunDecl {
         name,
         params,
@@ -151,7 +153,7 @@ fn function(alloc: Global, tokens: &mut Reader<'_>) -> Result<FunDecl, Fault>
     })
 }
 
-#[tactic(auto, unfolding(crate::specs::ItemRules::item))]
+#[tactic(auto, unfolding(tsl_syntax::specs::ItemRules::item))]
 fn item(alloc: Global, tokens: &mut Reader<'_>) -> Result<Item, Fault>
     ensures { GivesBy item_view (spec.item tokens.old) result tokens.new }
 {
@@ -165,7 +167,7 @@ fn item(alloc: Global, tokens: &mut Reader<'_>) -> Result<Item, Fault>
 }
 
 /// All declarations, to the last token.
-#[tactic(auto, using(crate::proofs::Turns::turn, crate::proofs::Turns::over, crate::proofs::Turns::map_more), unfolding(crate::specs::ItemRules::items, crate::specs::ItemRules::items_from))]
+#[tactic(auto, using(tsl_reader::proofs::Turns::turn, tsl_reader::proofs::Turns::over, tsl_reader::proofs::Turns::map_more), unfolding(tsl_syntax::specs::ItemRules::items, tsl_syntax::specs::ItemRules::items_from))]
 pub fn declarations(alloc: Global, tokens: &mut Reader<'_>) -> Result<Vec<Item>, Fault>
     ensures { GivesBy (λ v. map item_view v.items) (spec.items tokens.old) result tokens.new }
 {
@@ -174,7 +176,8 @@ pub fn declarations(alloc: Global, tokens: &mut Reader<'_>) -> Result<Vec<Item>,
         if tokens.next().is_none() {
             return Ok(found);
         }
-        found.push(item(alloc, tokens)?)?;
+        let next = or_drop!(item(alloc, tokens), found);
+        found.push(next)?;
     }
     Ok(found)
 }

@@ -1,6 +1,6 @@
 //! What holds of each list of tokens. These functions do nothing: their contracts are laws.
 
-ghost use Rattle.tsl_parser.specs.Laws.{NoTwo, OneDeep, OneOfThree, OneSyntax, OneTree};
+ghost use Rattle.tsl_syntax.specs.Laws.{NoTwo, OneDeep, OneOfThree, OneSyntax, OneTree};
 
 /// A list of tokens has one tree at most.
 pub fn one_tree()

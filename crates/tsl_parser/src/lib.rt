@@ -1,55 +1,21 @@
 //! From the tokens of a specification to its tree, exact in both directions.
 #![tactic(auto)]
 
-ghost use Rattle.std.specs.Prelude.{◌≡◌, ℕ, IfOk};
-ghost use Rattle.std.specs.String.{string_bytes};
-ghost use Rattle.tsl_parser.specs.Exact.{Answers, HasTree, IsDeepAt, IsOnly, IsRefusal, IsSyntaxAt};
-ghost use Rattle.tsl_parser.specs.FaultLines.{fault_line};
-ghost use Rattle.tsl_parser.specs.Tree as plain;
+ghost use Rattle.std.specs.Prelude.{ℕ};
+ghost use Rattle.tsl_syntax.specs.Exact.{Answers, HasTree, IsDeepAt, IsOnly, IsRefusal, IsSyntaxAt};
+ghost use Rattle.tsl_syntax.specs.Tree as plain;
 
 mod decode;
-mod expr;
 mod items;
 pub mod laws;
-mod make;
-mod pattern;
-mod reader;
-pub mod tree;
 
 use crate::items::declarations;
-use crate::reader::{Fault, Reader};
-use crate::tree::Tree;
-use std::alloc::{AllocError, Global};
-use thiserror::Error;
+use std::alloc::Global;
 use tsl_lexer::Token;
-
-/// Why tokens have no tree. `at` is a byte offset into the source.
-#[derive(Clone, Copy, Debug, PartialEq, Eq, Error)]
-pub enum ParseError {
-    /// P1: no specification goes on with the token that begins here, or the tokens end too early.
-    #[error("no specification goes on at byte {at}")]
-    Syntax { at: u32 },
-    /// P2: the token that begins here stands in more than 256 levels.
-    #[error("the token at byte {at} stands in more than 256 levels")]
-    TooDeep { at: u32 },
-    /// Memory ran out.
-    #[error("out of memory")]
-    NoMemory,
-}
-
-impl ParseError {
-    /// The line that says which fault this is, with a line end: `spec AT CODE`. Want of memory has the
-    /// empty one.
-    pub fn fault_line(self, alloc: Global) -> Result<String, AllocError>
-        ensures { IfOk result (λ text. string_bytes text ≡ fault_line self) }
-    {
-        match self {
-            ParseError::Syntax { at } => format!(in alloc; "spec {at} P1\n"),
-            ParseError::TooDeep { at } => format!(in alloc; "spec {at} P2\n"),
-            ParseError::NoMemory => Ok(String::new(alloc)),
-        }
-    }
-}
+use tsl_reader::reader::Reader;
+use tsl_syntax::rules::Fault;
+use tsl_syntax::tree::Tree;
+pub use tsl_syntax::{ParseError, tree};
 
 /// The tree of the tokens of a source of `end` bytes.
 pub fn parse(alloc: Global, tokens: &[Token], end: u32) -> Result<Tree, ParseError>

@@ -1,9 +1,9 @@
 use Rattle.std.proofs.Common.{map, ◌≡◌, ◌≢◌, ap, sym, ◌∙◌, Ok, Err}
-use Rattle.tsl_parser.specs.declared.reader.Fault.TheVariants.{Syntax, TooDeep, NoMemory}
-use Rattle.tsl_parser.specs.declared.ParseError.TheVariants as error
-use Rattle.tsl_parser.specs.State.{At}
-use Rattle.tsl_parser.specs.ItemRules.{items}
-use Rattle.tsl_parser.specs.View.{item as item_view}
+use Rattle.tsl_syntax.specs.declared.rules.Fault.TheVariants.{Syntax, TooDeep, NoMemory}
+use Rattle.tsl_syntax.specs.declared.ParseError.TheVariants as error
+use Rattle.tsl_syntax.specs.State.{At}
+use Rattle.tsl_syntax.specs.ItemRules.{items}
+use Rattle.tsl_syntax.specs.View.{item as item_view}
 use Rattle.tsl_parser.proofs.Cut.{at}
 use Rattle.tsl_parser.proofs.Exact.{tree_answer, only_ok, only_err, syntax_answer, deep_answer, deep_not, deep_place}
 use Rattle.tsl_parser.proofs.Syntax.{syntax_only}

@@ -1,7 +1,7 @@
 use Rattle.std.proofs.Common.{◌≡◌, ◌-◌}
 use Rattle.tsl_lexer.specs.declared.token.Mark.TheVariants as m
-use Rattle.tsl_parser.specs.ItemRules.{part}
-use Rattle.tsl_parser.specs.Lists.{many, until_from}
+use Rattle.tsl_syntax.specs.ItemRules.{part}
+use Rattle.tsl_syntax.specs.Lists.{many, until_from}
 use Rattle.tsl_parser.proofs.decode.parts.Given as goal
 
 abbrev pub invariant-loop-turn : goal.invariant-loop-turn

@@ -1,8 +1,8 @@
 use Rattle.std.proofs.Common.{◌≡◌, ◌-◌, map}
 use Rattle.tsl_lexer.specs.declared.token.Mark.TheVariants as m
-use Rattle.tsl_parser.specs.View.{constructor as constructor_view}
-use Rattle.tsl_parser.specs.ItemRules.{constructor}
-use Rattle.tsl_parser.specs.Lists.{separated, separated_from}
+use Rattle.tsl_syntax.specs.View.{constructor as constructor_view}
+use Rattle.tsl_syntax.specs.ItemRules.{constructor}
+use Rattle.tsl_syntax.specs.Lists.{separated, separated_from}
 use Rattle.tsl_parser.proofs.items.constructors.Given as goal
 
 abbrev pub invariant-loop-turn : goal.invariant-loop-turn

@@ -1,6 +1,6 @@
 use Rattle.std.proofs.Common.{◌≡◌, ◌-◌, map}
-use Rattle.tsl_parser.specs.View.{item as item_view}
-use Rattle.tsl_parser.specs.ItemRules.{items, items_from}
+use Rattle.tsl_syntax.specs.View.{item as item_view}
+use Rattle.tsl_syntax.specs.ItemRules.{items, items_from}
 use Rattle.tsl_parser.proofs.items.declarations.Given as goal
 
 abbrev pub invariant-loop-turn : goal.invariant-loop-turn

@@ -1,0 +1,15 @@
+pub mod Exact
+pub mod FaultLines
+pub mod Grammar
+pub mod ItemRules
+pub mod Laws
+pub mod Lists
+pub mod Nodes
+pub mod Operators
+pub mod Parsing
+pub mod PatternRules
+pub mod State
+pub mod TermRules
+pub mod Tokens
+pub mod Tree
+pub mod View

@@ -1,0 +1,40 @@
+//! The trees of specifications, and all that is defined of them: the grammar, its rules, and which tree or fault tokens have.
+#![tactic(auto)]
+
+ghost use Rattle.std.specs.Prelude.{◌≡◌, IfOk};
+ghost use Rattle.std.specs.String.{string_bytes};
+ghost use Rattle.tsl_syntax.specs.FaultLines.{fault_line};
+
+pub mod rules;
+pub mod tree;
+
+use std::alloc::{AllocError, Global};
+use thiserror::Error;
+
+/// Why tokens have no tree. `at` is a byte offset into the source.
+#[derive(Clone, Copy, Debug, PartialEq, Eq, Error)]
+pub enum ParseError {
+    /// P1: no specification goes on with the token that begins here, or the tokens end too early.
+    #[error("no specification goes on at byte {at}")]
+    Syntax { at: u32 },
+    /// P2: the token that begins here stands in more than 256 levels.
+    #[error("the token at byte {at} stands in more than 256 levels")]
+    TooDeep { at: u32 },
+    /// Memory ran out.
+    #[error("out of memory")]
+    NoMemory,
+}
+
+impl ParseError {
+    /// The line that says which fault this is, with a line end: `spec AT CODE`. Want of memory has the
+    /// empty one.
+    pub fn fault_line(self, alloc: Global) -> Result<String, AllocError>
+        ensures { IfOk result (λ text. string_bytes text ≡ fault_line self) }
+    {
+        match self {
+            ParseError::Syntax { at } => format!(in alloc; "spec {at} P1\n"),
+            ParseError::TooDeep { at } => format!(in alloc; "spec {at} P2\n"),
+            ParseError::NoMemory => Ok(String::new(alloc)),
+        }
+    }
+}
