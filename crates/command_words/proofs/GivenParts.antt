@@ -1,7 +1,7 @@
 -- What is given, by what `clap` says of the words.
-use Rattle.std.proofs.Common.{◌≡◌, ◌≢◌, ◌∙◌, refl, ℕ, Bool, List, [], ◌∷◌, true, false, ap, sym, subst, inl, inr, length, arith, ne_eqb, suc}
-use Rattle.std.specs.Prelude.{◌⊎◌, Option, Some, None, fold, if◌then◌else◌}
-use Rattle.clap.specs.Words.{App, FailsBy, HasKind, HasMatchesOf, IsAmong, Kinds, fault_of, found_of, is_simple, is_simple_and_free, kind_of, matches_of, rows_of}
+use Rattle.std.proofs.Common.{◌≡◌, refl, ℕ, Bool, List, [], ◌∷◌, true, false, ap, sym, subst, inl, inr, length, arith, ne_eqb, suc}
+use Rattle.std.specs.Prelude.{Some, None, if◌then◌else◌}
+use Rattle.clap.specs.Words.{App, HasKind, HasMatchesOf, IsAmong, Kinds, fault_of, found_of, is_simple, is_simple_and_free, kind_of, matches_of, rows_of}
 use Rattle.clap.specs.Walk.{is_empty}
 use Rattle.clap.specs.declared.error.Error.{Error}
 use Rattle.clap.specs.declared.error.kind.ErrorKind.{ErrorKind}

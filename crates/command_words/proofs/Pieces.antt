@@ -1,8 +1,8 @@
 -- Pieces of the word CODE.
-use Rattle.std.proofs.Common.{◌≡◌, ℕ, ◌<◌, ◌≤◌, ◌+◌, ◌==◌, Bor, sym, le-leb, Bool, true, false, List, [], ◌∷◌, length, refl, arith, ◌||◌}
-use Rattle.std.specs.Prelude.{Option, Some, None, map, if◌then◌else◌, not, suc}
+use Rattle.std.proofs.Common.{◌≡◌, ℕ, ◌<◌, ◌≤◌, ◌+◌, Bor, le-leb, Bool, true, false, List, [], ◌∷◌, length, refl, arith, ◌||◌}
+use Rattle.std.specs.Prelude.{Some, None, if◌then◌else◌, not, suc}
 use Rattle.std.specs.List.{after_first, before_first, list_any, position_or_len, slice_split}
-use Rattle.command_words.specs.Code.{CodePart, code_parts, is_at, is_comma, part_at, part_in, parts_from}
+use Rattle.command_words.specs.Code.{code_parts, is_at, is_comma, part_at, part_in, parts_from}
 use Rattle.command_words.specs.Numbers.{address_in}
 use Rattle.command_words.specs.Views.{borrowed}
 use Rattle.std.proofs.lemmas.Bool.{lt-leb}

@@ -1,5 +1,5 @@
 -- The word CODE: `NAME`, and then any number of `,NAME@HEX`.
-use Rattle.std.specs.Prelude.{ℕ, ◌==◌, ◌<◌, Bool, ◌&&◌, ◌||◌, not, List, [], ◌∷◌, Option, Some, None, if◌then◌else◌, length, map, nat_le, nat_lt, option_and_then, option_map}
+use Rattle.std.specs.Prelude.{ℕ, ◌==◌, Bool, ◌&&◌, not, List, [], ◌∷◌, Option, Some, None, if◌then◌else◌, length, map, nat_le, nat_lt}
 use Rattle.std.specs.List.{after_first, before_first, list_any, slice_split}
 use Rattle.command_words.specs.declared.orders.Order.{Order}
 use Rattle.command_words.specs.Giving.{◌>>=◌}

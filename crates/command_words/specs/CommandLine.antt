@@ -1,5 +1,5 @@
 -- The command line as `clap` sees it: one simple command, whose definition says which words it takes and what they give.
-use Rattle.std.specs.Prelude.{ℕ, true, List, [], ◌∷◌, Option, Some, None, codes, fold, if◌then◌else◌, unwrap_or}
+use Rattle.std.specs.Prelude.{ℕ, true, List, [], Option, Some, None, codes, fold, if◌then◌else◌, unwrap_or}
 use Rattle.clap.specs.Words.{App, Row, Rule, all_of, fault_of, first_of, matches_of, new_app, new_rule, with_rule}
 use Rattle.clap.specs.Simple.{on_top}
 use Rattle.clap.specs.Walk.{is_empty}

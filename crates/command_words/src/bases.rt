@@ -4,7 +4,7 @@ ghost use Rattle.std.specs.Prelude.{◌≡◌};
 ghost use Rattle.command_words.specs.Bases.{base_named, base_text, is_stamped};
 
 /// The name of a base, or of a pair of bases.
-#[derive(Clone, Copy, Debug, PartialEq, Eq)]
+#[derive(Clone, Copy)]
 pub enum BaseName {
     Const,
     KSet,

@@ -48,11 +48,19 @@ pub fn read_given<'a>(alloc: Global, words: &'a [String]) -> Result<Given<'a>, W
 {
     let command = command_line(alloc)?;
     match command.try_get_matches_from(words) {
-        Ok(matches) => Ok(given_by(alloc, &matches)?),
-        Err(error) => match error.kind() {
-            ErrorKind::OutOfMemory => Err(WordsError::NoMemory),
-            _ => Err(WordsError::BadWords),
-        },
+        Ok(matches) => {
+            let given = given_by(alloc, &matches);
+            drop(matches);
+            Ok(given?)
+        }
+        Err(error) => {
+            let kind = error.kind();
+            drop(error);
+            match kind {
+                ErrorKind::OutOfMemory => Err(WordsError::NoMemory),
+                _ => Err(WordsError::BadWords),
+            }
+        }
     }
 }
 
@@ -64,9 +72,8 @@ fn command_line<'a>(alloc: Global) -> Result<Command<'a>, AllocError>
     for option in OptionName::ALL {
         command = with_option(alloc, command, option)?;
     }
-    let words = Arg::new(alloc, "words").action(ArgAction::Append);
     let command = command.arg(Arg::new(alloc, "command"))?;
-    command.arg(words)
+    command.arg(Arg::new(alloc, "words").action(ArgAction::Append))
 }
 
 /// A command without arguments, of which all words come after the program's name.

@@ -1,9 +1,12 @@
 //! The request of each command, from its positional words and its options.
 
+ghost use Rattle.std.specs.Prelude.{option_map};
 ghost use Rattle.command_words.specs.Giving.{Gives};
+ghost use Rattle.command_words.specs.Requests as asked;
+ghost use Rattle.command_words.specs.declared.commands.CommandName.TheVariants as named;
 ghost use Rattle.command_words.specs.Views as seen;
 ghost use Rattle.command_words.specs.Views.{borrowed, given_of};
-ghost use Rattle.command_words.specs.Words.{analyse_of, analysis_of, call_of, check_from, check_of, claims_of, code_of, convert_of, emulate_of, list_of, request_of, slice_from, slice_of, stress_of};
+ghost use Rattle.command_words.specs.Words.{analyse_of, analysis_of, check_from, check_of, code_of, request_of, slice_from};
 
 use crate::code_word::{Code, code_parts};
 use crate::commands::CommandName;
@@ -41,15 +44,15 @@ pub fn request<'a>(
     ensures { Gives (request_of command (given_of given.now)) seen.request_of result }
 {
     match command {
-        CommandName::Call => Ok(Request::Call(call(alloc, given)?)),
-        CommandName::Emulate => Ok(Request::Emulate(emulate(alloc, given)?)),
+        CommandName::Call => call(alloc, given),
+        CommandName::Emulate => emulate(alloc, given),
         CommandName::Analyse => Ok(Request::Analyse(analyse(alloc, given)?)),
         CommandName::Check => Ok(Request::Check(check(alloc, given)?)),
-        CommandName::Convert => Ok(Request::Convert(convert(alloc, given)?)),
-        CommandName::List => Ok(Request::List(list(alloc, given)?)),
-        CommandName::Slice => Ok(Request::Slice(slice(alloc, given)?)),
-        CommandName::Claims => Ok(Request::Claims(claims(alloc, given)?)),
-        CommandName::Stress => Ok(Request::Stress(stress(given)?)),
+        CommandName::Convert => convert(alloc, given),
+        CommandName::List => list(alloc, given),
+        CommandName::Slice => slice(alloc, given),
+        CommandName::Claims => claims(alloc, given),
+        CommandName::Stress => stress(given),
     }
 }
 
@@ -66,40 +69,40 @@ fn code<'a>(alloc: Global, given: &Given<'a>, word: &'a str) -> Result<Code<'a>,
 
 /// `call SPEC FUN NUMBER ..`
 #[tactic(auto, unfolding(crate::specs::Words::call_of))]
-fn call<'a>(alloc: Global, given: &Given<'a>) -> Result<CallRequest<'a>, WordsError>
-    ensures { Gives (call_of (given_of given.now) (given_of given.now).words) seen.call_of result }
+fn call<'a>(alloc: Global, given: &Given<'a>) -> Result<Request<'a>, WordsError>
+    ensures { Gives (request_of named.Call (given_of given.now)) seen.request_of result }
 {
     let [spec, fun, numbers @ ..] = given.words.as_slice() else {
         return Err(WordsError::BadWords);
     };
     let calls = calls(given)?;
     let numbers = Vec::from_slice(alloc, numbers)?;
-    Ok(CallRequest {
+    Ok(Request::Call(CallRequest {
         spec: SpecName::of(spec),
         fun,
         numbers,
         calls,
-    })
+    }))
 }
 
 /// `emulate SPEC CODE ENTRY`
 #[tactic(auto, unfolding(crate::specs::Words::emulate_of))]
-fn emulate<'a>(alloc: Global, given: &Given<'a>) -> Result<EmulateRequest<'a>, WordsError>
-    ensures { Gives (emulate_of (given_of given.now) (given_of given.now).words) seen.emulate_of result }
+fn emulate<'a>(alloc: Global, given: &Given<'a>) -> Result<Request<'a>, WordsError>
+    ensures { Gives (request_of named.Emulate (given_of given.now)) seen.request_of result }
 {
     let [spec, word, entry] = given.words.as_slice() else {
         return Err(WordsError::BadWords);
     };
-    let code = code(alloc, given, word)?;
     let steps = steps(given)?;
     let calls = calls(given)?;
-    Ok(EmulateRequest {
+    let code = code(alloc, given, word)?;
+    Ok(Request::Emulate(EmulateRequest {
         spec: SpecName::of(spec),
         code,
         entry,
         steps,
         calls,
-    })
+    }))
 }
 
 /// The analysis of the words SPEC, CODE and ENTRY.
@@ -114,9 +117,9 @@ fn analysis<'a>(
     ensures { Gives (analysis_of (given_of given.now) spec.entry.now word.entry.now entry.entry.now)
         seen.analyse_of result }
 {
-    let code = code(alloc, given, word)?;
     let base = base(given)?;
     let limit = limit(given)?;
+    let code = code(alloc, given, word)?;
     Ok(AnalyseRequest {
         spec: SpecName::of(spec),
         code,
@@ -167,35 +170,35 @@ fn check<'a>(alloc: Global, given: &Given<'a>) -> Result<CheckRequest<'a>, Words
 
 /// `convert SPEC CODE TABLE`
 #[tactic(auto, unfolding(crate::specs::Words::convert_of))]
-fn convert<'a>(alloc: Global, given: &Given<'a>) -> Result<ConvertRequest<'a>, WordsError>
-    ensures { Gives (convert_of (given_of given.now) (given_of given.now).words) seen.convert_of result }
+fn convert<'a>(alloc: Global, given: &Given<'a>) -> Result<Request<'a>, WordsError>
+    ensures { Gives (request_of named.Convert (given_of given.now)) seen.request_of result }
 {
     let [spec, word, table] = given.words.as_slice() else {
         return Err(WordsError::BadWords);
     };
-    let code = code(alloc, given, word)?;
     let base = base(given)?;
-    Ok(ConvertRequest {
+    let code = code(alloc, given, word)?;
+    Ok(Request::Convert(ConvertRequest {
         spec: SpecName::of(spec),
         code,
         table,
         base,
-    })
+    }))
 }
 
 /// `list SPEC CODE`
 #[tactic(auto, unfolding(crate::specs::Words::list_of))]
-fn list<'a>(alloc: Global, given: &Given<'a>) -> Result<ListRequest<'a>, WordsError>
-    ensures { Gives (list_of (given_of given.now) (given_of given.now).words) seen.list_of result }
+fn list<'a>(alloc: Global, given: &Given<'a>) -> Result<Request<'a>, WordsError>
+    ensures { Gives (request_of named.List (given_of given.now)) seen.request_of result }
 {
     let [spec, word] = given.words.as_slice() else {
         return Err(WordsError::BadWords);
     };
     let code = code(alloc, given, word)?;
-    Ok(ListRequest {
+    Ok(Request::List(ListRequest {
         spec: SpecName::of(spec),
         code,
-    })
+    }))
 }
 
 /// The slice of the words ADDRESS and CELL, by a table over a base with stamps.
@@ -204,24 +207,28 @@ fn slice_from<'a>(
     check: CheckRequest<'a>,
     place: &str,
     cell: &'a str,
-) -> Result<SliceRequest<'a>, WordsError>
-    ensures { Gives (slice_from (seen.check_of check.entry) place.now cell.entry.now) seen.slice_of result }
+) -> Result<Request<'a>, WordsError>
+    ensures { Gives (option_map asked.slice (slice_from (seen.check_of check.entry) place.now cell.entry.now)) seen.request_of result }
 {
-    let address = address(place).ok_or(WordsError::BadWords)?;
+    let Some(address) = address(place) else {
+        drop(check);
+        return Err(WordsError::BadWords);
+    };
     if !check.analysis.base.is_stamped() {
+        drop(check);
         return Err(WordsError::BadWords);
     }
-    Ok(SliceRequest {
+    Ok(Request::Slice(SliceRequest {
         check,
         address,
         cell,
-    })
+    }))
 }
 
 /// `slice SPEC CODE ENTRY TABLE ADDRESS CELL`
 #[tactic(auto, unfolding(crate::specs::Words::slice_of))]
-fn slice<'a>(alloc: Global, given: &Given<'a>) -> Result<SliceRequest<'a>, WordsError>
-    ensures { Gives (slice_of (given_of given.now) (given_of given.now).words) seen.slice_of result }
+fn slice<'a>(alloc: Global, given: &Given<'a>) -> Result<Request<'a>, WordsError>
+    ensures { Gives (request_of named.Slice (given_of given.now)) seen.request_of result }
 {
     let [spec, word, entry, table, place, cell] = given.words.as_slice() else {
         return Err(WordsError::BadWords);
@@ -232,20 +239,20 @@ fn slice<'a>(alloc: Global, given: &Given<'a>) -> Result<SliceRequest<'a>, Words
 
 /// `claims SPEC CODE ENTRY TABLE CLAIMS`
 #[tactic(auto, unfolding(crate::specs::Words::claims_of))]
-fn claims<'a>(alloc: Global, given: &Given<'a>) -> Result<ClaimsRequest<'a>, WordsError>
-    ensures { Gives (claims_of (given_of given.now) (given_of given.now).words) seen.claims_of result }
+fn claims<'a>(alloc: Global, given: &Given<'a>) -> Result<Request<'a>, WordsError>
+    ensures { Gives (request_of named.Claims (given_of given.now)) seen.request_of result }
 {
     let [spec, word, entry, table, claims] = given.words.as_slice() else {
         return Err(WordsError::BadWords);
     };
     let check = check_from(alloc, given, spec, word, entry, table)?;
-    Ok(ClaimsRequest { check, claims })
+    Ok(Request::Claims(ClaimsRequest { check, claims }))
 }
 
 /// `stress NUMBER COUNT`
 #[tactic(auto, unfolding(crate::specs::Words::stress_of))]
-fn stress(given: &Given) -> Result<StressRequest, WordsError>
-    ensures { Gives (stress_of (given_of given.now) (given_of given.now).words) seen.stress_of result }
+fn stress<'a>(given: &Given<'a>) -> Result<Request<'a>, WordsError>
+    ensures { Gives (request_of named.Stress (given_of given.now)) seen.request_of result }
 {
     let [number, count] = given.words.as_slice() else {
         return Err(WordsError::BadWords);
@@ -253,9 +260,9 @@ fn stress(given: &Given) -> Result<StressRequest, WordsError>
     let number = decimal(number, NUMBER_FORM).ok_or(WordsError::BadWords)?;
     let count = decimal(count, COUNT_FORM).ok_or(WordsError::BadWords)?;
     let base = base(given)?;
-    Ok(StressRequest {
+    Ok(Request::Stress(StressRequest {
         number,
         count,
         base,
-    })
+    }))
 }

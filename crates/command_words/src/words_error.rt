@@ -6,7 +6,7 @@ ghost use Rattle.command_words.specs.declared.words_error.WordsError.TheVariants
 use std::alloc::{AllocError, AllocFailed};
 
 /// Why words ask for nothing.
-#[derive(Clone, Copy, Debug, PartialEq, Eq)]
+#[derive(Clone, Copy, Debug)]
 pub enum WordsError {
     /// They have no form.
     BadWords,

@@ -10,7 +10,7 @@ use tsl_lexer::Text;
 /// A function. Two functions are of one group where each is the other, or each reaches the other by
 /// calls. `group` is the least number of a function of its group, and `loops` says whether a function
 /// of its group calls a function of that group.
-#[derive(Debug, Drop)]
+#[derive(Drop)]
 pub struct Fun {
     pub name: Text,
     pub params: Vec<Ty>,
@@ -22,7 +22,7 @@ pub struct Fun {
 }
 
 /// The types of instructions and states, and the function from both to a state, by their numbers.
-#[derive(Clone, Copy, Debug, PartialEq, Eq, Drop)]
+#[derive(Clone, Copy, Drop)]
 pub struct Machine {
     pub instr: u32,
     pub state: u32,
@@ -30,7 +30,7 @@ pub struct Machine {
 }
 
 /// A checked specification.
-#[derive(Debug, Drop)]
+#[derive(Drop)]
 pub struct Spec {
     pub datas: Vec<Data>,
     pub maps: Vec<MapTy>,
@@ -40,7 +40,7 @@ pub struct Spec {
 }
 
 /// What a specification is wanted for.
-#[derive(Clone, Copy, Debug, PartialEq, Eq, Drop)]
+#[derive(Clone, Copy, Drop)]
 pub enum Use {
     Library,
     Machine,

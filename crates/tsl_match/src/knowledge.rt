@@ -4,7 +4,7 @@ use crate::shape::Shape;
 use smallvec::SmallVec;
 
 /// What is known of a value after some tests.
-#[derive(Debug, Drop)]
+#[derive(Drop)]
 pub enum Known {
     /// Its shape alone.
     Unknown(Shape),
@@ -19,7 +19,7 @@ pub enum Known {
 }
 
 /// What a test asks of the value at a position.
-#[derive(Debug, Drop)]
+#[derive(Drop)]
 pub enum Test {
     /// Whether it is true.
     Flag,

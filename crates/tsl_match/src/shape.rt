@@ -1,7 +1,7 @@
 //! The shapes of what is matched.
 
 /// What kind of value stands at a position.
-#[derive(Clone, Copy, Debug, PartialEq, Eq, Drop)]
+#[derive(Clone, Copy, Drop)]
 pub enum Shape {
     /// A truth value.
     Bool,
@@ -15,7 +15,7 @@ pub enum Shape {
 
 /// The declared types, by their numbers: of each type its constructors, by theirs, and of each
 /// constructor the shapes of its fields.
-#[derive(Debug, Drop)]
+#[derive(Drop)]
 pub struct Sig {
     pub datas: Vec<Vec<Vec<Shape>>>,
 }

@@ -1,4 +1,4 @@
-use Rattle.std.proofs.Common.{ℕ, ◌≡◌, ◌∙◌, Bor, List, Result, Vec, Global, arith, ap, subst, sym}
+use Rattle.std.proofs.Common.{ℕ, Bor, List, Vec, Global, arith, subst, sym}
 use Rattle.std.specs.Prelude.{Option, map}
 use Rattle.command_words.specs.declared.code_word.CodePart.{CodePart}
 use Rattle.command_words.specs.Code as spec

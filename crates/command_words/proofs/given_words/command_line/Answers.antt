@@ -1,11 +1,11 @@
-use Rattle.std.proofs.Common.{◌≡◌, ◌≤◌, ◌<◌, ◌∙◌, rules, ap, ap₂, arith, get_or, sym, take, fold, length, refl}
+use Rattle.std.proofs.Common.{◌≡◌, ◌<◌, ◌∙◌, rules, ap, ap₂, arith, get_or, sym, take, fold, length}
 use Rattle.std.proofs.lemmas.List.{take_all}
 use Rattle.std.proofs.lemmas.List.Sums.{fold_more}
 use Rattle.std.proofs.lemmas.Result.{IfOk-weaker}
-use Rattle.clap.specs.Words.{App, Rule, AddsArg, app_of, rule_of, with_rule}
+use Rattle.clap.specs.Words.{App, rule_of, with_rule}
 use Rattle.command_words.specs.declared.options.OptionName.{OptionName}
 use Rattle.command_words.specs.declared.options.OptionName.TheVariants.{At}
-use Rattle.command_words.specs.CommandLine.{bare_line, command_line, command_rule, option_rule, words_rule}
+use Rattle.command_words.specs.CommandLine.{bare_line, command_rule, option_rule, words_rule}
 use Rattle.command_words.specs.Options.{all_options}
 use Rattle.command_words.proofs.given_words.command_line.Goals as goal
 
@@ -22,6 +22,6 @@ pub returns : goal.returns
 returns c =
     let all : take c.loop-option.option-index all_options ≡ all_options = take_all c.loop-option.option-index all_options (omega arith) in
     let options = c.loop-option.invariant ∙ ap (fold with_option bare_line) all in
-    let first = c.in_ok-command-2.ensures.shape (search rules) ∙ ap₂ with_rule options (let rule : rule_of c.new-2.result ≡ command_rule = search rules in rule) in
-    let last : rule_of c.action-words.result ≡ words_rule = search rules in
+    let first = c.in_ok-command-2.ensures.shape (search rules) ∙ ap₂ with_rule options (let rule : rule_of c.new.result ≡ command_rule = search rules in rule) in
+    let last : rule_of c.action.result ≡ words_rule = search rules in
     IfOk-weaker c.arg-2.result _ _ (λ command added. added.shape (search rules) ∙ ap₂ with_rule first last) c.arg-2.ensures

@@ -1,6 +1,6 @@
-use Rattle.std.proofs.Common.{rules, codes, ◌∙◌}
+use Rattle.std.proofs.Common.{codes, ◌∙◌}
 use Rattle.clap.proofs.WalkLemmas.{first_value-rows}
-use Rattle.clap.specs.Words.{first_of, found_of, rows_of}
+use Rattle.clap.specs.Words.{found_of}
 use Rattle.command_words.proofs.GivenParts.{same_given}
 use Rattle.command_words.proofs.given_words.given_by.Goals as goal
 

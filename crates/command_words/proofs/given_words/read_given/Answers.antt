@@ -1,17 +1,17 @@
-use Rattle.std.proofs.Common.{ℕ, List, ap, sym, ◌∙◌}
-use Rattle.std.specs.Prelude.{Option, Some}
+use Rattle.std.proofs.Common.{ap, sym, ◌∙◌}
+use Rattle.std.specs.Prelude.{Some}
 use Rattle.command_words.specs.CommandLine.{Given}
 use Rattle.command_words.specs.Views.{texts}
 use Rattle.command_words.proofs.GivenParts.{line_is_simple, refused, taken}
 use Rattle.command_words.proofs.given_words.read_given.Goals as goal
 
-pub returns-in-Ok : goal.returns-in-Ok
-returns-in-Ok c =
+pub returns-in_ok-given-in-Ok : goal.returns-in_ok-given-in-Ok
+returns-in_ok-given-in-Ok c =
     let line = c.in_ok-command.ensures in
     taken _ (texts c.args.words.now) c.in-Ok.matches line c.in-Ok.ensures.matches (c.in-Ok.ensures.kinds (line_is_simple _ line))
-    ∙ ap (λ (given : Given). Some given) (sym c.in_ok-given_by-in-Ok.ensures)
+    ∙ ap (λ (given : Given). Some given) (sym c.in_ok-given-in-Ok.ensures)
 
-pub returns : goal.returns
-returns c =
+pub returns-in_default : goal.returns-in_default
+returns-in_default c =
     let line = c.in_ok-command.ensures in
-    refused _ (texts c.args.words.now) c.in-Err.error line (c.in-Err.ensures.kinds (line_is_simple _ line)) (λ memory. c.in_default.not-OutOfMemory (c.kind.ensures ∙ memory))
+    refused _ (texts c.args.words.now) c.in-Err.error line (c.in-Err.ensures.kinds (line_is_simple _ line)) (λ memory. c.in_default.not-OutOfMemory (c.kind-kind.ensures ∙ memory))
