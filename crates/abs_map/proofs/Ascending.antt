@@ -1,5 +1,5 @@
 -- Ascending lists of entries.
-use Rattle.std.proofs.Common.{◌≡◌, ℕ, ◌+◌, ◌-◌, ◌<◌, ◌≤◌, Bool, true, false, zero, suc, List, [], ◌∷◌, ◌++◌, Some, None, map, take, drop, length, get_or, ltb, eqb, cond, refl, sym, ap, subst, ◌∙◌, arith, IsTrue, ◌⊎◌, inl, inr, length-drop}
+use Rattle.std.proofs.Common.{◌≡◌, ℕ, ◌+◌, ◌-◌, ◌<◌, ◌≤◌, Bool, true, false, zero, suc, List, [], ◌∷◌, ◌++◌, Some, None, map, take, drop, length, get_or, ltb, eqb, cond, refl, sym, ap, subst, ◌∙◌, arith, IsTrue, ◌⊎◌, inl, inr, length-drop, append_assoc}
 use Rattle.std.proofs.Math.Seq.{take-length}
 use Rattle.std.specs.Prelude.{unwrap_or}
 use Rattle.std.specs.List.Sorted.{IsPartitionPoint, IsNonDecreasingBy}
@@ -129,13 +129,14 @@ module _ {A : Type 0} where
       sorted later (inr (inl s)) = rw (below_not e.0 k (omega arith), below_is e.0 (k + 1) (omega arith), below_not k e.0 (omega arith), same_is k e.0 (sym s), place_first (e.0 + 1) (k + 1) es (omega arith) h.1) refl
       sorted later (inr (inr m)) = rw (below_not e.0 k (omega arith), below_not e.0 (k + 1) (omega arith), below_is k e.0 m) refl
 
-  -- the slices that the code takes
-  pub put_slices : (k : ℕ) (x : A) (es out : List (ℕ × A)) (p q : ℕ) → IsAscendingFrom 0 (map (λ e. e.0) es) → out ≡ [] → p ≡ place_of k es → q ≡ place_of (k + 1) es
-      → ((out ++ take p es) ++ (k, x) ∷ []) ++ take (length es - q) (drop q es) ≡ put k x es
-  put_slices k x es out p q h e s t =
-      ap (λ l. ((l ++ take p es) ++ (k, x) ∷ []) ++ take (length es - q) (drop q es)) e
-      ∙ ap (λ l. (take p es ++ (k, x) ∷ []) ++ l) (ap (λ n. take n (drop q es)) (sym (length-drop q es)) ∙ take-length (drop q es))
-      ∙ ap (λ n. (take n es ++ (k, x) ∷ []) ++ drop q es) s ∙ ap (λ n. (take (place_of k es) es ++ (k, x) ∷ []) ++ drop n es) t ∙ put_parts 0 k x es h
+  -- the slices that the code takes, behind others
+  pub put_slices : (k : ℕ) (x : A) (es out : List (ℕ × A)) (p q : ℕ) → IsAscendingFrom 0 (map (λ e. e.0) es) → p ≡ place_of k es → q ≡ place_of (k + 1) es
+      → ((out ++ take p es) ++ (k, x) ∷ []) ++ take (length es - q) (drop q es) ≡ out ++ put k x es
+  put_slices k x es out p q h s t =
+      ap (λ l. ((out ++ take p es) ++ (k, x) ∷ []) ++ l) (ap (λ n. take n (drop q es)) (sym (length-drop q es)) ∙ take-length (drop q es))
+      ∙ ap (λ n. ((out ++ take n es) ++ (k, x) ∷ []) ++ drop q es) s ∙ ap (λ n. ((out ++ take (place_of k es) es) ++ (k, x) ∷ []) ++ drop n es) t
+      ∙ ap (λ l. l ++ drop (place_of (k + 1) es) es) (append_assoc out (take (place_of k es) es) ((k, x) ∷ [])) ∙ append_assoc out (take (place_of k es) es ++ (k, x) ∷ []) (drop (place_of (k + 1) es) es)
+      ∙ ap (λ l. out ++ l) (put_parts 0 k x es h)
 
 -- ---- the cell at a key
 module _ {W N : Type 0} where

@@ -1,6 +1,8 @@
 -- What a walk along ascending cells gives, by keys.
-use Rattle.std.proofs.Common.{◌≡◌, ℕ, ◌+◌, ◌<◌, ◌≤◌, Bool, true, false, zero, suc, List, [], ◌∷◌, ◌++◌, map, length, get_or, take, Option, Some, None, refl, sym, ap, subst, ◌∙◌, arith, cond, eqb}
-use Rattle.std.specs.Prelude.{◌==◌, ◌&&◌, ◌||◌, not, is_some, option_map, nat_lt, unwrap_or}
+use Rattle.std.proofs.Common.{◌≡◌, ℕ, ◌+◌, ◌<◌, ◌≤◌, Bool, true, false, zero, suc, List, [], ◌∷◌, ◌++◌, map, length, get_or, take, drop, drop-cons, take-suc, Option, Some, None, refl, sym, ap, subst, ◌∙◌, arith, cond, eqb, append_assoc}
+use Rattle.std.specs.Prelude.{◌==◌, ◌&&◌, ◌||◌, not, is_some, option_map, nat_lt, unwrap_or, slice_get, slice_index}
+use Rattle.std.proofs.lemmas.List.{get_or-map}
+use Rattle.std.proofs.lemmas.Option.{slice_get-get_or, slice_get-map}
 use Rattle.std.specs.List.{filter, list_all}
 use Rattle.base_trait.specs.Algebra.{Algebra}
 use Rattle.base_trait.specs.Lists.{IsAscendingFrom}
@@ -10,10 +12,10 @@ use Rattle.map_laws.specs.Keys.{has_key, with_key, either_key}
 use Rattle.map_laws.specs.Cells.{CellFits}
 use Rattle.map_laws.specs.Maps.{Map, Fits, keys, cell, cell_in, cells_at}
 use Rattle.map_laws.specs.Calls.{news}
-use Rattle.map_laws.proofs.Joining.{take_all}
+use Rattle.map_laws.proofs.Joining.{drop_all, take_all}
 use Rattle.map_laws.proofs.Places.{cells_again, each_cell}
 use Rattle.abs_map.specs.Listed.{listed_at}
-use Rattle.abs_map.proofs.Ascending.{cell_or}
+use Rattle.abs_map.proofs.Ascending.{cell_or, each_index}
 
 module _ {W N : Type 0} where
   map_made : (G : ℕ → Cell W N → Cell W N) (ks : List ℕ) (f : ℕ → Cell W N) → map (λ e. (e.0, G e.0 e.1)) (cells_at ks f) ≡ cells_at ks (λ k. G k (f k))
@@ -82,6 +84,14 @@ all_either test (k ∷ ks) js = grouped (test k) (list_all test ks) (list_all te
     grouped true b c = refl
     grouped false b c = refl
 
+-- ---- what stands at a place
+module _ {A : Type 0} (es ds : List (ℕ × A)) (i : ℕ) (d : ℕ × A) where
+  pub key_there : es ≡ ds → i < length ds → slice_get (map (λ e. e.0) ds) i ≡ Some (get_or es i d).0
+  key_there e l = slice_get-map (λ e. e.0) ds i ∙ ap (λ o. option_map (λ e. e.0) o) (slice_get-get_or ds i d l) ∙ ap (λ xs. Some (get_or xs i d).0) (sym e)
+
+  pub entry_there : es ≡ ds → i < length ds → slice_get ds i ≡ Some (slice_index (map (λ e. e.0) ds) i, (get_or es i d).1)
+  entry_there e l = slice_get-get_or ds i d l ∙ ap (λ k. Some (k, (get_or ds i d).1)) (sym (get_or-map (λ e. e.0) ds i d 0 l)) ∙ ap (λ xs. Some (slice_index (map (λ e. e.0) ds) i, (get_or xs i d).1)) (sym e)
+
 -- ---- the cell at a key, from what is listed there
 module _ {W N : Type 0} where
   pub found_some : (rest : Cell W N) (es : List (ℕ × Cell W N)) (k : ℕ) (x : Cell W N) → Some x ≡ listed_at k es → x ≡ cell_in rest es k
@@ -94,6 +104,11 @@ module _ {W N : Type 0} where
 module _ {W N C : Type 0} (B : Algebra W N C) (c : C) (cap : ℕ) where
   pub fits_at : (w : ℕ) (m : Map W N) (k : ℕ) (x : Cell W N) → w ≡ m.width → Fits B c cap m → x ≡ cell m k → CellFits B c w x
   fits_at w m k x e fit h = subst (λ t. CellFits B c t x) (sym e) (subst (λ t. CellFits B c m.width t) (sym h) (each_cell (CellFits B c m.width) m.rest m.cells k fit.cells.0 fit.cells.1))
+
+  -- a listed cell fits
+  pub fits_item : (w : ℕ) (m : Map W N) (es : List (ℕ × Cell W N)) (i : ℕ) (x : ℕ × Cell W N) → w ≡ m.width → Fits B c cap m → es ≡ m.cells → i < length es → x ≡ get_or es i x → CellFits B c w x.1
+  fits_item w m es i x e fit p l h =
+      subst (λ t. CellFits B c t x.1) (sym e) (subst (λ y. CellFits B c m.width y.1) (sym h) (subst (λ l. i < length l → CellFits B c m.width (get_or l i x).1) (sym p) (each_index (λ e. CellFits B c m.width e.1) m.cells i x fit.cells.1) l))
 
 -- ---- loops
 module _ {A D : Type 0} (f : A → D) where
@@ -112,6 +127,21 @@ module _ {A D : Type 0} (f : A → D) where
   pub map_done : (out : List D) (xs : List A) (i : ℕ) → length xs ≤ i → out ≡ map f (take i xs) → out ≡ map f xs
   map_done out xs i l h = h ∙ ap (λ t. map f t) (take_all i xs l)
 
+  -- the same, behind others
+  pub behind_more : (start out out' : List D) (y : D) (xs : List A) (i : ℕ) (d : A) → i < length xs → out ≡ start ++ map f (take i xs) → out' ≡ out ++ y ∷ [] → y ≡ f (get_or xs i d) → out' ≡ start ++ map f (take (i + 1) xs)
+  behind_more start out out' y xs i d l h p e =
+      let next : suc i ≡ i + 1 = omega arith in
+      p ∙ ap (λ l. l ++ y ∷ []) h ∙ append_assoc start (map f (take i xs)) (y ∷ []) ∙ ap (λ z. start ++ (map f (take i xs) ++ z ∷ [])) e ∙ ap (λ l. start ++ l) (sym (map_more xs i d l) ∙ ap (λ n. map f (take n xs)) next)
+
+  pub behind_done : (start out : List D) (xs : List A) (i : ℕ) → length xs ≤ i → out ≡ start ++ map f (take i xs) → out ≡ start ++ map f xs
+  behind_done start out xs i l h = h ∙ ap (λ t. start ++ map f t) (take_all i xs l)
+
+-- one more item behind others
+pub take_more : {A : Type 0} (start out out' : List A) (y : A) (xs : List A) (i : ℕ) (d : A) → i < length xs → out ≡ start ++ take i xs → out' ≡ out ++ y ∷ [] → y ≡ get_or xs i d → out' ≡ start ++ take (i + 1) xs
+take_more start out out' y xs i d l h p e =
+    let next : suc i ≡ i + 1 = omega arith in
+    p ∙ ap (λ l. l ++ y ∷ []) h ∙ append_assoc start (take i xs) (y ∷ []) ∙ ap (λ z. start ++ (take i xs ++ z ∷ [])) e ∙ ap (λ l. start ++ l) (sym (take-suc xs i d l) ∙ ap (λ n. take n xs) next)
+
 -- ---- a test at the keys that either map lists, taken at those of one and then of the other
 module _ {W N : Type 0} (test : ℕ → Bool) (own other m n : Map W N) (es ds : List (ℕ × Cell W N)) (a b : Bool) where
   pub second_test : own ≡ m → other ≡ n → es ≡ own.cells → ds ≡ other.cells → a ≡ list_all test (map (λ e. e.0) es) → b ≡ list_all test (map (λ e. e.0) ds) → a ≡ true → b ≡ list_all test (either_key (keys m) (keys n))
@@ -129,3 +159,23 @@ module _ {W N : Type 0} (test : ℕ → Bool) (own other m n : Map W N) (es ds :
       known : (x y : Bool) → x ≡ false → false ≡ x && y
       known true y s = cc
       known false y s = refl
+
+-- ---- a test at the keys of entries, one after the other
+module _ {A : Type 0} (test : ℕ → Bool) (es : List (ℕ × A)) (i : ℕ) where
+  module _ (e : ℕ × A) (whole : Bool) (left : i < length es) where
+    here_is : list_all test (map (λ e. e.0) (drop i es)) ≡ test (get_or es i e).0 && list_all test (map (λ e. e.0) (drop (suc i) es))
+    here_is = ap (λ l. list_all test (map (λ e. e.0) l)) (drop-cons es i e left)
+
+    -- the test holds at one more
+    pub all_on : test (get_or es i e).0 ≡ true → list_all test (map (λ e. e.0) (drop i es)) ≡ whole → list_all test (map (λ e. e.0) (drop (i + 1) es)) ≡ whole
+    all_on t h =
+        let next : i + 1 ≡ suc i = omega arith in
+        ap (λ n. list_all test (map (λ e. e.0) (drop n es))) next ∙ sym (ap (λ b. b && list_all test (map (λ e. e.0) (drop (suc i) es))) t) ∙ sym here_is ∙ h
+
+    -- it fails at one
+    pub all_off : test (get_or es i e).0 ≡ false → list_all test (map (λ e. e.0) (drop i es)) ≡ whole → false ≡ whole
+    all_off t h = sym (ap (λ b. b && list_all test (map (λ e. e.0) (drop (suc i) es))) t) ∙ sym here_is ∙ h
+
+  -- it holds at all
+  pub all_end : (whole : Bool) → length es ≤ i → list_all test (map (λ e. e.0) (drop i es)) ≡ whole → true ≡ whole
+  all_end whole l h = sym (ap (λ l. list_all test (map (λ e. e.0) l)) (drop_all i es l)) ∙ h

@@ -38,18 +38,11 @@ module _ {W N C : Type 0} (B : Algebra W N C) (c : C) (w cap : ℕ) where
   pub fold_cells : (es front : List (ℕ × Cell W N)) (x : ℕ × Cell W N) → es ≡ front ++ x ∷ [] → cap ≤ length front → take cap front ≡ take cap es
   fold_cells es front x e l = sym (take_push cap front x l) ∙ ap (λ xs. take cap xs) (sym e)
 
-  -- the cells, once they are shared
-  pub shared_is : (rest : Cell W N) (es es' : List (ℕ × Cell W N)) (m : Map W N) → es ≡ es' → ◌≡◌ {A = Map W N} (record { width = w; rest = rest; cells = es' }) m → ◌≡◌ {A = Map W N} (record { width = w; rest = rest; cells = es }) m
-  shared_is rest es es' m e h = ap (λ xs. record { width = w; rest = rest; cells = xs }) e ∙ h
-
-  -- where no more is listed than may be
-  pub fold_end : (rest rest' : Cell W N) (es es' : List (ℕ × Cell W N)) → IsTrue B.joins ⊎ (length es ≤ cap) → length es' ≤ cap
-      → rest_with B c w rest' (drop cap es') ≡ rest_with B c w rest (drop cap es) → take cap es' ≡ take cap es
+  -- the map of the rest and of the cells that are left
+  pub fold_made : (rest rest' : Cell W N) (es es' : List (ℕ × Cell W N)) → IsTrue B.joins ⊎ (length es ≤ cap) → rest' ≡ rest_with B c w rest (drop cap es) → es' ≡ take cap es
       → ◌≡◌ {A = Map W N} (record { width = w; rest = rest'; cells = es' }) (folded B c cap (record { width = w; rest = rest; cells = es }))
-  fold_end rest rest' es es' room few r e =
-      ap (λ t. record { width = w; rest = t; cells = es' }) (sym (ap (λ xs. rest_with B c w rest' xs) (drop_all cap es' few)) ∙ r)
-      ∙ ap (λ xs. record { width = w; rest = rest_with B c w rest (drop cap es); cells = xs }) (sym (take_all cap es' few) ∙ e)
-      ∙ by_joins B.joins room
+  fold_made rest rest' es es' room r e =
+      ap (λ t. record { width = w; rest = t; cells = es' }) r ∙ ap (λ xs. record { width = w; rest = rest_with B c w rest (drop cap es); cells = xs }) e ∙ by_joins B.joins room
     where
       by_joins : (b : Bool) → IsTrue b ⊎ (length es ≤ cap)
           → ◌≡◌ {A = Map W N} (record { width = w; rest = rest_with B c w rest (drop cap es); cells = take cap es }) (record { width = w; rest = cond b (rest_with B c w rest (drop cap es)) rest; cells = cond b (take cap es) es })

@@ -1,6 +1,6 @@
 -- Maps put together from their parts.
 use Rattle.std.proofs.Common.{◌≡◌, ℕ, ◌+◌, ◌-◌, ◌^◌, ◌<◌, ◌≤◌, Bool, true, false, suc, List, [], ◌∷◌, ◌++◌, map, length, get_or, take, drop, refl, sym, ap, subst, ◌∙◌, arith, cond, Result, Ok, Err, drop-cons}
-use Rattle.std.specs.Prelude.{not, IfOk, ◌&&◌}
+use Rattle.std.specs.Prelude.{not, IfOk, OnOk, ◌&&◌}
 use Rattle.std.specs.List.{filter, list_all}
 use Rattle.base_trait.specs.Algebra.{Algebra}
 use Rattle.base_trait.specs.Laws.{Laws}
@@ -25,6 +25,10 @@ pub if_ok : {T E : Type 0} (P Q : T → Type 0) (r : Result T E) → ((x : T) �
 if_ok P Q (Ok x) f h = f x h
 if_ok P Q (Err e) f h = h
 
+pub on_ok : {T E : Type 0} (P Q : Type 0) (r : Result T E) → (P → Q) → OnOk r P → OnOk r Q
+on_ok P Q (Ok x) f h = f h
+on_ok P Q (Err e) f h = h
+
 -- a list with an item is its first item and the others, as the code takes them
 pub parted : (ks : List ℕ) → 1 ≤ length ks → ks ≡ get_or ks 0 0 ∷ take (length ks - 1) (drop 1 ks)
 parted [] l = absurd (omega arith)
@@ -35,16 +39,24 @@ module _ {W N : Type 0} where
   pub made_is : (w : ℕ) (rest : Cell W N) (es : List (ℕ × Cell W N)) (m : Map W N) → w ≡ m.width → rest ≡ m.rest → es ≡ m.cells → ◌≡◌ {A = Map W N} (record { width = w; rest = rest; cells = es }) m
   made_is w rest es m a b d = ap (λ t. record { width = t; rest = rest; cells = es }) a ∙ ap (λ t. record { width = m.width; rest = t; cells = es }) b ∙ ap (λ t. record { width = m.width; rest = m.rest; cells = t }) d
 
+  -- answers that are made of such parts
+  module _ {E : Type 0} (w : ℕ) (rest : Cell W N) (es : List (ℕ × Cell W N)) (n : Map W N) (r : Result (Map W N) E) where
+    pub made_ok : ◌≡◌ {A = Map W N} (record { width = w; rest = rest; cells = es }) n → IfOk r (λ x. ◌≡◌ {A = Map W N} x (record { width = w; rest = rest; cells = es })) → IfOk r (λ x. x ≡ n)
+    made_ok e h = if_ok (λ x. ◌≡◌ {A = Map W N} x (record { width = w; rest = rest; cells = es })) (λ x. x ≡ n) r (λ x d. d ∙ e) h
+
+    pub made_fits : {C : Type 0} (B : Algebra W N C) (c : C) (cap : ℕ) → ◌≡◌ {A = Map W N} (record { width = w; rest = rest; cells = es }) n → Fits B c cap n → IfOk r (λ x. ◌≡◌ {A = Map W N} x (record { width = w; rest = rest; cells = es }))
+        → IfOk r (λ x. Fits B c cap x)
+    made_fits B c cap e f h = if_ok (λ x. ◌≡◌ {A = Map W N} x (record { width = w; rest = rest; cells = es })) (λ x. Fits B c cap x) r (λ x d. subst (λ t. Fits B c cap t) (sym (d ∙ e)) f) h
+
   pub written_is : (own m : Map W N) (k : ℕ) (x rest : Cell W N) (es : List (ℕ × Cell W N)) → own ≡ m → IsAscending (keys m) → rest ≡ own.rest → es ≡ put k x own.cells → ◌≡◌ {A = Map W N} (record { width = own.width; rest = rest; cells = es }) (written m k x)
   written_is own m k x rest es e order r p =
       made_is own.width rest es (written m k x) (ap (λ t. t.width) e) (r ∙ ap (λ t. t.rest) e) (p ∙ ap (λ t. put k x t.cells) e ∙ sym (put_written 0 m.rest k x m.cells order))
 
 module _ {W N C : Type 0} (B : Algebra W N C) (c : C) where
-  pub merged_is : (own other m n : Map W N) (rest : Cell W N) (ks : List ℕ) (es : List (ℕ × Cell W N)) → own ≡ m → other ≡ n → rest ≡ join_cells B c own.width own.rest other.rest → ks ≡ either_key (keys own) (keys other)
-      → es ≡ cells_at ks (λ k. join_cells B c m.width (cell m k) (cell n k)) → ◌≡◌ {A = Map W N} (record { width = own.width; rest = rest; cells = es }) (merged B c m n)
-  merged_is own other m n rest ks es e d r k h =
-      made_is own.width rest es (merged B c m n) (ap (λ t. t.width) e) (r ∙ ap (λ t. join_cells B c t.width t.rest other.rest) e ∙ ap (λ t. join_cells B c m.width m.rest t.rest) d)
-      (h ∙ ap (λ l. cells_at l (λ k. join_cells B c m.width (cell m k) (cell n k))) (k ∙ ap (λ t. either_key (keys t) (keys other)) e ∙ ap (λ t. either_key (keys m) (keys t)) d))
+  pub merged_is : (own other m n : Map W N) (rest : Cell W N) (es : List (ℕ × Cell W N)) → own ≡ m → other ≡ n → rest ≡ join_cells B c own.width own.rest other.rest
+      → es ≡ cells_at (either_key (keys m) (keys n)) (λ k. join_cells B c m.width (cell m k) (cell n k)) → ◌≡◌ {A = Map W N} (record { width = own.width; rest = rest; cells = es }) (merged B c m n)
+  merged_is own other m n rest es e d r h =
+      made_is own.width rest es (merged B c m n) (ap (λ t. t.width) e) (r ∙ ap (λ t. join_cells B c t.width t.rest other.rest) e ∙ ap (λ t. join_cells B c m.width m.rest t.rest) d) h
 
   not_chosen : (b : Bool) (x y : Cell W N) → cond (not b) x y ≡ cond b y x
   not_chosen true x y = refl
@@ -58,12 +70,11 @@ module _ {W N C : Type 0} (B : Algebra W N C) (c : C) where
       (r ∙ ap (λ t. cond (not all) (join_cells B c own.width t x) t) o ∙ ap (λ t. cond (not all) (join_cells B c t.width t.rest x) t.rest) e ∙ not_chosen all (join_cells B c m.width m.rest x) m.rest)
       (h ∙ ap (λ t. map (λ e. (e.0, cond (has_key ks e.0) (join_cells B c t.width e.1 x) e.1)) t.cells) e ∙ cells_by_key (λ k y. cond (has_key ks k) (join_cells B c m.width y x) y) m order)
 
-  pub widened_is : (own m n : Map W N) (rest others : Cell W N) (es : List (ℕ × Cell W N)) → own ≡ m → IsAscending (keys m)
-      → rest ≡ widen_cells B c own.width own.rest others → others ≡ joined B c m.width n.rest (news m n) → es ≡ map (λ e. (e.0, widen_cells B c m.width e.1 (cell n e.0))) m.cells
+  pub widened_is : (own m n : Map W N) (rest : Cell W N) (es : List (ℕ × Cell W N)) → own ≡ m → IsAscending (keys m)
+      → rest ≡ widen_cells B c m.width m.rest (joined B c m.width n.rest (news m n)) → es ≡ map (λ e. (e.0, widen_cells B c m.width e.1 (cell n e.0))) m.cells
       → ◌≡◌ {A = Map W N} (record { width = own.width; rest = rest; cells = es }) (widen_of B c m n)
-  widened_is own m n rest others es e order r o h =
-      made_is own.width rest es (widen_of B c m n) (ap (λ t. t.width) e) (r ∙ ap (λ t. widen_cells B c t.width t.rest others) e ∙ ap (λ t. widen_cells B c m.width m.rest t) o)
-      (h ∙ cells_by_key (λ k y. widen_cells B c m.width y (cell n k)) m order)
+  widened_is own m n rest es e order r h =
+      made_is own.width rest es (widen_of B c m n) (ap (λ t. t.width) e) r (h ∙ cells_by_key (λ k y. widen_cells B c m.width y (cell n k)) m order)
 
   -- ---- reading
   joined_push : (w : ℕ) (x : Cell W N) (xs : List (Cell W N)) (y : Cell W N) → join_cells B c w (joined B c w x xs) y ≡ joined B c w x (xs ++ y ∷ [])
@@ -143,9 +154,5 @@ module _ {W N C : Type 0} (B : Algebra W N C) (c : C) where
   pub unfolded_at : (m n : Map W N) → m ≡ n → FitsUnfolded B c n → FitsUnfolded B c m
   unfolded_at m n e h = subst (λ t. FitsUnfolded B c t) (sym e) h
 
-  pub fits_is : (cap : ℕ) (m n : Map W N) → m ≡ n → Fits B c cap n → Fits B c cap m
-  fits_is cap m n e h = subst (λ t. Fits B c cap t) (sym e) h
-
-  pub folded_fits_room : Laws W N C B → (cap : ℕ) (m n : Map W N) → cap ≡ cond B.joins 256 (2 ^ 32) → FitsUnfolded B c m → n ≡ folded B c cap m → Fits B c cap n
-  folded_fits_room L cap m n capacity fit e = fits_is cap n (folded B c cap m) e
-      (folded_fits B c cap m (room B cap capacity) fit.width (folded_each B c cap m (CellFits B c m.width) (cell_join_fits B L c m.width fit.width) fit.cells) fit.order fit.bound)
+  pub folded_fits_room : Laws W N C B → (cap : ℕ) (m : Map W N) → cap ≡ cond B.joins 256 (2 ^ 32) → FitsUnfolded B c m → Fits B c cap (folded B c cap m)
+  folded_fits_room L cap m capacity fit = folded_fits B c cap m (room B cap capacity) fit.width (folded_each B c cap m (CellFits B c m.width) (cell_join_fits B L c m.width fit.width) fit.cells) fit.order fit.bound

@@ -51,11 +51,25 @@ impl<B: Base> AMap<B> {
         ensures value { IfOk result (λ r. r ≡ record { width = w; rest = record { word = rest; note = note }; cells = [] }) }
         ensures fits { IfOk result (λ r. Fits B.algebra ctx.now B.CAP r) }
     {
-        Ok(AMap {
-            width: w,
-            rest: Cell { word: rest, note },
-            cells: Rc::new(alloc, Vec::new(alloc))?,
-        })
+        AMap::of_parts(alloc, w, Cell { word: rest, note }, Vec::new(alloc))
+    }
+
+    /// The map of a rest and of listed cells, as they are.
+    pub(crate) fn of_parts(
+        alloc: Global,
+        width: u32,
+        rest: CellOf<B>,
+        cells: Vec<(u64, CellOf<B>)>,
+    ) -> Result<AMap<B>, NoMemory>
+        ensures value { IfOk result (λ r. r ≡ record { width = width; rest = rest; cells = cells.items }) }
+    {
+        match Rc::new(alloc, cells) {
+            Ok(cells) => Ok(AMap { width, rest, cells }),
+            Err(error) => {
+                drop(rest);
+                Err(error.into())
+            }
+        }
     }
 
     /// The map of these listed cells and the rest, keys ascending below 2^32. Past what the base may list, the cell of the
@@ -149,10 +163,14 @@ impl<B: Base> AMap<B> {
     pub fn copy(&self, alloc: Global, ctx: &B::Ctx) -> Result<AMap<B>, NoMemory>
         ensures { IfOk result (λ r. r ≡ self.now) }
     {
-        Ok(AMap {
-            width: self.width,
-            rest: copied::<B>(alloc, ctx, &self.rest)?,
-            cells: self.cells.clone()?,
-        })
+        let width = self.width;
+        let rest = copied::<B>(alloc, ctx, &self.rest)?;
+        match self.cells.clone() {
+            Ok(cells) => Ok(AMap { width, rest, cells }),
+            Err(error) => {
+                drop(rest);
+                Err(error)
+            }
+        }
     }
 }

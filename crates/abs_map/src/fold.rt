@@ -1,7 +1,10 @@
 //! Room for cells.
 
-ghost use Rattle.std.specs.Prelude.{◌≡◌, IfOk};
-ghost use Rattle.map_laws.specs.Calls.{folded};
+ghost use Rattle.std.specs.Prelude.{◌≡◌, IfOk, OnOk, drop, take};
+ghost use Rattle.word_ops.specs.Width.{IsWidth};
+ghost use Rattle.base_trait.specs.Lists.{Each};
+ghost use Rattle.map_laws.specs.Calls.{folded, rest_with};
+ghost use Rattle.map_laws.specs.Cells.{CellFits, join_cells};
 ghost use Rattle.map_laws.specs.Maps.{Fits};
 ghost use Rattle.abs_map.specs.Unfolded.{FitsUnfolded};
 
@@ -10,7 +13,6 @@ use super::cells::{CellOf, joined};
 use base_trait::Base;
 use std::alloc::{AllocError as NoMemory, Global};
 use std::marker::Model;
-use std::rc::Rc;
 
 /// A map that may list more cells than there is room for. No other map shares its cells.
 #[derive(Drop)]
@@ -37,16 +39,56 @@ impl<B: Base> Unfolded<B> {
     {
         let Unfolded {
             width,
-            mut rest,
+            rest,
             mut cells,
         } = self;
-        while B::CAP < cells.len() as u64 {
-            let Some((_, cell)) = cells.pop() else {
-                unreachable!()
-            };
-            rest = joined::<B>(alloc, ctx, width, &rest, &cell)?;
+        match folded_rest::<B>(alloc, ctx, width, rest, &mut cells) {
+            Ok(rest) => AMap::of_parts(alloc, width, rest, cells),
+            Err(error) => {
+                drop(cells);
+                Err(error)
+            }
         }
-        let cells = Rc::new(alloc, cells)?;
-        Ok(AMap { width, rest, cells })
     }
+}
+
+/// The rest with the cells past what the base may list, that of the greatest key first; these are taken out.
+fn folded_rest<B: Base>(
+    alloc: Global,
+    ctx: &B::Ctx,
+    w: u32,
+    rest: CellOf<B>,
+    cells: &mut Vec<(u64, CellOf<B>)>,
+) -> Result<CellOf<B>, NoMemory>
+    requires width { IsWidth w }
+    requires rest { CellFits B.algebra ctx.now w rest }
+    requires cells { Each (λ e. CellFits B.algebra ctx.now w e.1) cells.old.items }
+    ensures rest { IfOk result (λ r. r ≡ rest_with B.algebra ctx.now w rest (drop B.CAP cells.old.items)) }
+    ensures cells { OnOk result (cells.new.items ≡ take B.CAP cells.old.items) }
+{
+    let mut rest = rest;
+    while B::CAP < cells.len() as u64 {
+        let Some((_, cell)) = cells.pop() else {
+            unreachable!()
+        };
+        rest = with_cell::<B>(alloc, ctx, w, rest, cell)?;
+    }
+    Ok(rest)
+}
+
+/// The rest joined with a cell; both are let go.
+fn with_cell<B: Base>(
+    alloc: Global,
+    ctx: &B::Ctx,
+    w: u32,
+    rest: CellOf<B>,
+    cell: CellOf<B>,
+) -> Result<CellOf<B>, NoMemory>
+    requires width { IsWidth w }
+    requires rest { CellFits B.algebra ctx.now w rest }
+    requires cell { CellFits B.algebra ctx.now w cell }
+    ensures value { IfOk result (λ r. r ≡ join_cells B.algebra ctx.now w rest cell) }
+    ensures fits { IfOk result (λ r. CellFits B.algebra ctx.now w r) }
+{
+    joined::<B>(alloc, ctx, w, &rest, &cell)
 }

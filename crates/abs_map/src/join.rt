@@ -1,9 +1,10 @@
 //! Joining two maps.
 
-ghost use Rattle.std.specs.Prelude.{◌≡◌, IfOk};
+ghost use Rattle.std.specs.Prelude.{◌≡◌, ◌++◌, IfOk, OnOk};
 ghost use Rattle.map_laws.specs.Calls.{join_of, merged};
 ghost use Rattle.map_laws.specs.Cells.{join_cells};
-ghost use Rattle.map_laws.specs.Maps.{Fits, cell, cells_at};
+ghost use Rattle.map_laws.specs.Keys.{either_key};
+ghost use Rattle.map_laws.specs.Maps.{Fits, cell, cells_at, keys};
 ghost use Rattle.abs_map.specs.Unfolded.{FitsUnfolded};
 
 use super::amap::AMap;
@@ -35,14 +36,31 @@ impl<B: Base> AMap<B> {
         ensures value { IfOk result (λ r. r ≡ merged B.algebra ctx.now self.now other.now) }
         ensures fits { IfOk result (λ r. FitsUnfolded B.algebra ctx.now r) }
     {
+        let width = self.width;
+        let rest = joined::<B>(alloc, ctx, width, &self.rest, &other.rest)?;
+        match self.merged_cells(alloc, ctx, other) {
+            Ok(cells) => Ok(Unfolded { width, rest, cells }),
+            Err(error) => {
+                drop(rest);
+                Err(error)
+            }
+        }
+    }
+
+    /// The joined cells at the keys of either.
+    fn merged_cells(
+        &self,
+        alloc: Global,
+        ctx: &B::Ctx,
+        other: &AMap<B>,
+    ) -> Result<Vec<(u64, CellOf<B>)>, NoMemory>
+        requires left { Fits B.algebra ctx.now B.CAP self.now }
+        requires right { Fits B.algebra ctx.now B.CAP other.now }
+        requires width { self.now.width ≡ other.now.width }
+        ensures value { IfOk result (λ r. r.items ≡ cells_at (either_key (keys self.now) (keys other.now)) (λ k. join_cells B.algebra ctx.now self.now.width (cell self.now k) (cell other.now k))) }
+    {
         let keys = either_key(alloc, self.cells(), other.cells())?;
-        let cells = self.joined_cells(alloc, ctx, other, &keys)?;
-        let rest = joined::<B>(alloc, ctx, self.width, &self.rest, &other.rest)?;
-        Ok(Unfolded {
-            width: self.width,
-            rest,
-            cells,
-        })
+        self.joined_cells(alloc, ctx, other, &keys)
     }
 
     /// The joined cells at these keys.
@@ -59,10 +77,33 @@ impl<B: Base> AMap<B> {
         ensures value { IfOk result (λ r. r.items ≡ cells_at keys.now (λ k. join_cells B.algebra ctx.now self.now.width (cell self.now k) (cell other.now k))) }
     {
         let mut cells = Vec::with_capacity(alloc, keys.len())?;
+        match self.push_joined(alloc, ctx, other, keys, &mut cells) {
+            Ok(()) => Ok(cells),
+            Err(error) => {
+                drop(cells);
+                Err(error)
+            }
+        }
+    }
+
+    /// The joined cells at these keys, behind others.
+    fn push_joined(
+        &self,
+        alloc: Global,
+        ctx: &B::Ctx,
+        other: &AMap<B>,
+        keys: &[u64],
+        out: &mut Vec<(u64, CellOf<B>)>,
+    ) -> Result<(), NoMemory>
+        requires left { Fits B.algebra ctx.now B.CAP self.now }
+        requires right { Fits B.algebra ctx.now B.CAP other.now }
+        requires width { self.now.width ≡ other.now.width }
+        ensures value { OnOk result (out.new.items ≡ out.old.items ++ cells_at keys.now (λ k. join_cells B.algebra ctx.now self.now.width (cell self.now k) (cell other.now k))) }
+    {
         for key in keys {
             let (left, right) = (self.cell(*key), other.cell(*key));
-            cells.push((*key, joined::<B>(alloc, ctx, self.width, left, right)?))?;
+            out.push((*key, joined::<B>(alloc, ctx, self.width, left, right)?))?;
         }
-        Ok(cells)
+        Ok(())
     }
 }

@@ -6,7 +6,7 @@ ghost use Rattle.base_trait.specs.Lists.{IsAscending};
 ghost use Rattle.map_laws.specs.Keys.{either_key, has_key};
 ghost use Rattle.abs_map.specs.Listed.{listed_at, place_of, put};
 
-use super::cells::{CellOf, copied};
+use super::cells::{CellOf, cell_of, copied};
 use base_trait::Base;
 use std::alloc::{AllocError as NoMemory, Global};
 
@@ -55,25 +55,48 @@ pub(crate) fn push_copies<B: Base>(
     Ok(())
 }
 
-/// The cells with one put at its key's place.
+/// The cells with a word and a note put at their key's place.
 pub(crate) fn put<B: Base>(
     alloc: Global,
     ctx: &B::Ctx,
     cells: &[(u64, CellOf<B>)],
     key: u64,
-    cell: CellOf<B>,
+    word: &B::Word,
+    note: &B::Note,
 ) -> Result<Vec<(u64, CellOf<B>)>, NoMemory>
     requires order { IsAscending (map (λ e. e.0) cells.now) }
     requires bound { key < 2 ^ 32 }
-    ensures value { IfOk result (λ r. r.items ≡ put key cell cells.now) }
+    ensures value { IfOk result (λ r. r.items ≡ put key (record { word = word.now; note = note.now }) cells.now) }
+{
+    let mut out = Vec::with_capacity(alloc, cells.len() + 1)?;
+    match push_put::<B>(alloc, ctx, &mut out, cells, key, word, note) {
+        Ok(()) => Ok(out),
+        Err(error) => {
+            drop(out);
+            Err(error)
+        }
+    }
+}
+
+/// The same cells, behind others.
+fn push_put<B: Base>(
+    alloc: Global,
+    ctx: &B::Ctx,
+    out: &mut Vec<(u64, CellOf<B>)>,
+    cells: &[(u64, CellOf<B>)],
+    key: u64,
+    word: &B::Word,
+    note: &B::Note,
+) -> Result<(), NoMemory>
+    requires order { IsAscending (map (λ e. e.0) cells.now) }
+    requires bound { key < 2 ^ 32 }
+    ensures value { OnOk result (out.new.items ≡ out.old.items ++ put key (record { word = word.now; note = note.now }) cells.now) }
 {
     let place = place_of(cells, key);
     let after = place_of(cells, key + 1);
-    let mut out = Vec::with_capacity(alloc, cells.len() + 1)?;
-    push_copies::<B>(alloc, ctx, &mut out, &cells[..place])?;
-    out.push((key, cell))?;
-    push_copies::<B>(alloc, ctx, &mut out, &cells[after..])?;
-    Ok(out)
+    push_copies::<B>(alloc, ctx, out, &cells[..place])?;
+    out.push((key, cell_of::<B>(alloc, ctx, word, note)?))?;
+    push_copies::<B>(alloc, ctx, out, &cells[after..])
 }
 
 /// The keys that either lists, ascending.

@@ -1,6 +1,6 @@
 //! Writing at a key.
 
-ghost use Rattle.std.specs.Prelude.{◌≡◌, IfOk, if◌then◌else◌, map};
+ghost use Rattle.std.specs.Prelude.{◌≡◌, ◌++◌, IfOk, OnOk, if◌then◌else◌, map};
 ghost use Rattle.word_ops.specs.Width.{IsWidth};
 ghost use Rattle.base_trait.specs.Lists.{Each};
 ghost use Rattle.map_laws.specs.Calls.{update_of, written};
@@ -11,14 +11,12 @@ ghost use Rattle.abs_map.specs.Unfolded.{FitsUnfolded};
 ghost use Rattle.abs_map.specs.View.{keys_of};
 
 use super::amap::AMap;
-use super::cells::{CellOf, copied, joined_if};
+use super::cells::{CellOf, cell_of, copied, joined_if};
 use super::fold::Unfolded;
 use super::keys::KeySet;
 use super::listed::put;
 use base_trait::Base;
-use map_laws::Cell;
 use std::alloc::{AllocError as NoMemory, Global};
-use std::rc::Rc;
 
 impl<B: Base> AMap<B> {
     /// The map after a write: it describes each concrete map with a described cell written at a key that may be meant.
@@ -40,38 +38,39 @@ impl<B: Base> AMap<B> {
         ensures value { IfOk result (λ r. r ≡ update_of B.algebra ctx.now B.CAP self.now (keys_of key.now) (record { word = v.now; note = note.now })) }
         ensures fits { IfOk result (λ r. Fits B.algebra ctx.now B.CAP r) }
     {
-        let cell = Cell {
-            word: B::copy(alloc, ctx, v)?,
-            note: B::copy_note(alloc, note)?,
-        };
         match key {
-            KeySet::One(key) => self.written(alloc, ctx, *key, cell)?.folded(alloc, ctx),
+            KeySet::One(key) => self.written(alloc, ctx, *key, v, note)?.folded(alloc, ctx),
             KeySet::Some { listed, all_listed } => {
+                let cell = cell_of::<B>(alloc, ctx, v, note)?;
                 self.joined_at(alloc, ctx, listed, *all_listed, &cell)
             }
         }
     }
 
-    /// The map with a cell written at a key, however many are listed then.
+    /// The map with a word and a note written at a key, however many are listed then.
     fn written(
         &self,
         alloc: Global,
         ctx: &B::Ctx,
         key: u64,
-        cell: CellOf<B>,
+        v: &B::Word,
+        note: &B::Note,
     ) -> Result<Unfolded<B>, NoMemory>
         requires map { Fits B.algebra ctx.now B.CAP self.now }
         requires key { IsKeyed (one key) }
-        requires cell { CellFits B.algebra ctx.now self.now.width cell }
-        ensures value { IfOk result (λ r. r ≡ written self.now key cell) }
+        requires word { B.algebra.words.fits ctx.now self.now.width v.now }
+        ensures value { IfOk result (λ r. r ≡ written self.now key (record { word = v.now; note = note.now })) }
         ensures fits { IfOk result (λ r. FitsUnfolded B.algebra ctx.now r) }
     {
-        let cells = put::<B>(alloc, ctx, self.cells(), key, cell)?;
-        Ok(Unfolded {
-            width: self.width,
-            rest: copied::<B>(alloc, ctx, &self.rest)?,
-            cells,
-        })
+        let width = self.width;
+        let rest = copied::<B>(alloc, ctx, &self.rest)?;
+        match put::<B>(alloc, ctx, self.cells(), key, v, note) {
+            Ok(cells) => Ok(Unfolded { width, rest, cells }),
+            Err(error) => {
+                drop(rest);
+                Err(error)
+            }
+        }
     }
 
     /// The map with a cell joined into each of these listed ones, and into the rest unless they are all.
@@ -88,14 +87,15 @@ impl<B: Base> AMap<B> {
         ensures value { IfOk result (λ r. r ≡ update_of B.algebra ctx.now B.CAP self.now (some listed.now all_listed) cell.now) }
         ensures fits { IfOk result (λ r. Fits B.algebra ctx.now B.CAP r) }
     {
-        let cells = joined_named::<B>(alloc, ctx, self.width, self.cells(), listed, cell)?;
         let rest = copied::<B>(alloc, ctx, &self.rest)?;
         let rest = joined_if::<B>(alloc, ctx, self.width, !all_listed, rest, cell)?;
-        Ok(AMap {
-            width: self.width,
-            rest,
-            cells: Rc::new(alloc, cells)?,
-        })
+        match joined_named::<B>(alloc, ctx, self.width, self.cells(), listed, cell) {
+            Ok(cells) => AMap::of_parts(alloc, self.width, rest, cells),
+            Err(error) => {
+                drop(rest);
+                Err(error)
+            }
+        }
     }
 }
 
@@ -114,10 +114,34 @@ fn joined_named<B: Base>(
     ensures value { IfOk result (λ r. r.items ≡ map (λ e. (e.0, if has_key named.now e.0 then join_cells B.algebra ctx.now w e.1 cell.now else e.1)) cells.now) }
 {
     let mut out = Vec::with_capacity(alloc, cells.len())?;
+    match push_joined::<B>(alloc, ctx, w, &mut out, cells, named, cell) {
+        Ok(()) => Ok(out),
+        Err(error) => {
+            drop(out);
+            Err(error)
+        }
+    }
+}
+
+/// The same cells, behind others.
+fn push_joined<B: Base>(
+    alloc: Global,
+    ctx: &B::Ctx,
+    w: u32,
+    out: &mut Vec<(u64, CellOf<B>)>,
+    cells: &[(u64, CellOf<B>)],
+    named: &[u64],
+    cell: &CellOf<B>,
+) -> Result<(), NoMemory>
+    requires width { IsWidth w }
+    requires old { Each (λ e. CellFits B.algebra ctx.now w e.1) cells.now }
+    requires new { CellFits B.algebra ctx.now w cell.now }
+    ensures value { OnOk result (out.new.items ≡ out.old.items ++ map (λ e. (e.0, if has_key named.now e.0 then join_cells B.algebra ctx.now w e.1 cell.now else e.1)) cells.now) }
+{
     for (key, old) in cells {
         let old = copied::<B>(alloc, ctx, old)?;
         let new = joined_if::<B>(alloc, ctx, w, named.contains(key), old, cell)?;
         out.push((*key, new))?;
     }
-    Ok(out)
+    Ok(())
 }

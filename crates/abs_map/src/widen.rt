@@ -1,6 +1,6 @@
 //! Widening a map by a new one.
 
-ghost use Rattle.std.specs.Prelude.{◌≡◌, IfOk, map};
+ghost use Rattle.std.specs.Prelude.{◌≡◌, ◌++◌, IfOk, OnOk, map};
 ghost use Rattle.map_laws.specs.Calls.{news, widen_of};
 ghost use Rattle.map_laws.specs.Cells.{CellFits, joined, widen_cells};
 ghost use Rattle.map_laws.specs.Maps.{Fits, cell};
@@ -10,7 +10,6 @@ use super::cells::{CellOf, copied, joined_if, widened};
 use super::listed::is_listed;
 use base_trait::Base;
 use std::alloc::{AllocError as NoMemory, Global};
-use std::rc::Rc;
 
 impl<B: Base> AMap<B> {
     /// A map that describes each concrete map that either describes, such that no chain of widenings grows for ever: it
@@ -25,14 +24,14 @@ impl<B: Base> AMap<B> {
         ensures value { IfOk result (λ r. r ≡ widen_of B.algebra ctx.now self.now new.now) }
         ensures fits { IfOk result (λ r. Fits B.algebra ctx.now B.CAP r) }
     {
-        let cells = self.widened_cells(alloc, ctx, new)?;
-        let others = self.new_rest(alloc, ctx, new)?;
-        let rest = widened::<B>(alloc, ctx, self.width, &self.rest, &others)?;
-        Ok(AMap {
-            width: self.width,
-            rest,
-            cells: Rc::new(alloc, cells)?,
-        })
+        let rest = self.widened_rest(alloc, ctx, new)?;
+        match self.widened_cells(alloc, ctx, new) {
+            Ok(cells) => AMap::of_parts(alloc, self.width, rest, cells),
+            Err(error) => {
+                drop(rest);
+                Err(error)
+            }
+        }
     }
 
     /// The old cells, each widened with what the new map has at its key.
@@ -48,11 +47,49 @@ impl<B: Base> AMap<B> {
         ensures value { IfOk result (λ r. r.items ≡ map (λ e. (e.0, widen_cells B.algebra ctx.now self.now.width e.1 (cell new.now e.0))) self.now.cells) }
     {
         let mut cells = Vec::with_capacity(alloc, self.cells.len())?;
+        match self.push_widened(alloc, ctx, new, &mut cells) {
+            Ok(()) => Ok(cells),
+            Err(error) => {
+                drop(cells);
+                Err(error)
+            }
+        }
+    }
+
+    /// The same cells, behind others.
+    fn push_widened(
+        &self,
+        alloc: Global,
+        ctx: &B::Ctx,
+        new: &AMap<B>,
+        out: &mut Vec<(u64, CellOf<B>)>,
+    ) -> Result<(), NoMemory>
+        requires old { Fits B.algebra ctx.now B.CAP self.now }
+        requires new { Fits B.algebra ctx.now B.CAP new.now }
+        requires width { self.now.width ≡ new.now.width }
+        ensures value { OnOk result (out.new.items ≡ out.old.items ++ map (λ e. (e.0, widen_cells B.algebra ctx.now self.now.width e.1 (cell new.now e.0))) self.now.cells) }
+    {
         for (key, old) in self.cells() {
             let cell = widened::<B>(alloc, ctx, self.width, old, new.cell(*key))?;
-            cells.push((*key, cell))?;
+            out.push((*key, cell))?;
         }
-        Ok(cells)
+        Ok(())
+    }
+
+    /// The old rest, widened with the new one.
+    fn widened_rest(
+        &self,
+        alloc: Global,
+        ctx: &B::Ctx,
+        new: &AMap<B>,
+    ) -> Result<CellOf<B>, NoMemory>
+        requires old { Fits B.algebra ctx.now B.CAP self.now }
+        requires new { Fits B.algebra ctx.now B.CAP new.now }
+        requires width { self.now.width ≡ new.now.width }
+        ensures value { IfOk result (λ r. r ≡ widen_cells B.algebra ctx.now self.now.width self.now.rest (joined B.algebra ctx.now self.now.width new.now.rest (news self.now new.now))) }
+    {
+        let others = self.new_rest(alloc, ctx, new)?;
+        widened::<B>(alloc, ctx, self.width, &self.rest, &others)
     }
 
     /// The new rest, joined with the cells that the new map alone lists.

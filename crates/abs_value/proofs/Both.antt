@@ -1,5 +1,5 @@
 -- Tests of two lists, item by item: lists of two lengths fail.
-use Rattle.std.proofs.Common.{◌≡◌, ℕ, suc, ◌+◌, ◌<◌, ◌≤◌, Bool, true, false, List, [], ◌∷◌, length, drop, get_or, refl, sym, ap, ◌∙◌}
+use Rattle.std.proofs.Common.{◌≡◌, ℕ, suc, ◌+◌, ◌<◌, ◌≤◌, Bool, true, false, List, [], ◌∷◌, length, drop, get_or, refl, sym, ap, subst, ◌∙◌}
 use Rattle.std.specs.Prelude.{◌&&◌, ◌==◌}
 use Rattle.base_trait.proofs.Lists.{number_itself}
 use Rattle.map_laws.proofs.Joining.{drop_all}
@@ -36,5 +36,16 @@ module _ {A D : Type 0} {one : A → D → Bool} {test : List A → List D → B
     pub off : one x y ≡ false → test (drop i xs) (drop i ys) ≡ whole → false ≡ whole
     off t h = sym (ap (λ k. k && test (drop (i + 1) xs) (drop (i + 1) ys)) t) ∙ sym here ∙ h
 
+  module _ (xs : List A) (ys : List D) (i : ℕ) (x : A) (y : D) (whole : Bool) (even : length xs ≡ length ys) (a : i < length xs) (p : x ≡ get_or xs i x) (q : y ≡ get_or ys i y) where
+    -- the same of lists of one length
+    pub passed : true ≡ one x y → test (drop i xs) (drop i ys) ≡ whole → test (drop (i + 1) xs) (drop (i + 1) ys) ≡ whole
+    passed t h = on xs ys i x y whole a (subst (λ n. i < n) even a) p q (sym t) h
+
+    pub failed : false ≡ one x y → test (drop i xs) (drop i ys) ≡ whole → false ≡ whole
+    failed t h = off xs ys i x y whole a (subst (λ n. i < n) even a) p q (sym t) h
+
   pub done : (xs : List A) (ys : List D) (i : ℕ) (whole : Bool) → length xs ≤ i → length ys ≤ i → test (drop i xs) (drop i ys) ≡ whole → true ≡ whole
   done xs ys i whole a b h = sym both.end ∙ sym (ap (λ l. test l []) (drop_all i xs a)) ∙ sym (ap (λ l. test (drop i xs) l) (drop_all i ys b)) ∙ h
+
+  pub ended : (xs : List A) (ys : List D) (i : ℕ) (whole : Bool) → length xs ≡ length ys → length xs ≤ i → test (drop i xs) (drop i ys) ≡ whole → true ≡ whole
+  ended xs ys i whole e a h = done xs ys i whole a (subst (λ n. n ≤ i) e a) h

@@ -1,6 +1,8 @@
 pub mod Absorption
 pub mod Both
+pub mod Falling
 pub mod Fields
+pub mod Hashing
 pub mod Merging
 pub mod OfValues
 pub mod Sameness

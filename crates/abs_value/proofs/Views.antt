@@ -2,11 +2,12 @@
 use Rattle.std.proofs.Common.{◌≡◌, ℕ, List, [], ◌∷◌, map, Option, Some, None, Vec, Global, refl, sym, ap, ◌∙◌}
 use Rattle.value_laws.specs.Abs.{Abs, made, cases, parts}
 use Rattle.value_laws.specs.Abs as v
+use Rattle.base_trait.specs.declared.tri.Tri.{Tri}
 use Rattle.map_laws.specs.Maps as maps
 use Rattle.abs_value.specs.View.{abs, case_of, seen, abs_step}
-use Rattle.abs_value.specs.declared.value.AV.{AV, Data, Map, fold-roll-AV}
+use Rattle.abs_value.specs.declared.value.AV.{AV, Data, Flag, Map, Word, fold-roll-AV}
 use Rattle.abs_value.specs.declared.value.AV.TheOpen.{AV-F}
-use Rattle.abs_value.specs.declared.value.AV.TheVariants.{rolls-Data, rolls-Map}
+use Rattle.abs_value.specs.declared.value.AV.TheVariants.{rolls-Data, rolls-Flag, rolls-Map, rolls-Word}
 use Rattle.abs_value.specs.declared.value.AV.TheShapes.{former-AV-Data-1-at-2}
 
 cases_seen : (X W N C : Type 0) (cs : List (Option (Vec (AV X W N C) Global))) → map seen (map ((former-AV-Data-1-at-2 X W N C).map (AV X W N C) (Abs W N) abs) cs) ≡ map case_of cs
@@ -19,3 +20,9 @@ abs_Data {X} {W} {N} {C} ty v = ap abs (sym (rolls-Data ty v)) ∙ fold-roll-AV 
 
 pub abs_Map : (X C : Type 0) {W N : Type 0} (n : ℕ) (m : maps.Map W N) → abs {X = X} {W = W} {N = N} {C = C} (Map n m) ≡ v.map n m
 abs_Map X C {W} {N} n m = ap abs (sym (rolls-Map n m)) ∙ fold-roll-AV X W N C (Abs W N) (abs_step X W N C) (AV-F.Map n m)
+
+pub abs_Flag : (X W N C : Type 0) (t : Tri) → abs {X = X} {W = W} {N = N} {C = C} (Flag t) ≡ v.flag t
+abs_Flag X W N C t = ap abs (sym (rolls-Flag t)) ∙ fold-roll-AV X W N C (Abs W N) (abs_step X W N C) (AV-F.Flag t)
+
+pub abs_Word : (X N C : Type 0) {W : Type 0} (w : ℕ) (x : W) → abs {X = X} {W = W} {N = N} {C = C} (Word w x) ≡ v.word w x
+abs_Word X N C {W} w x = ap abs (sym (rolls-Word w x)) ∙ fold-roll-AV X W N C (Abs W N) (abs_step X W N C) (AV-F.Word w x)

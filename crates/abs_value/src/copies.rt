@@ -3,6 +3,7 @@
 ghost use Rattle.std.specs.Prelude.{◌≡◌, map, IfOk};
 ghost use Rattle.abs_value.specs.View.{abs, case_of};
 
+use super::lists::pushed;
 use super::value::AV;
 use base_trait::Base;
 use std::alloc::{AllocError as NoMemory, Global};
@@ -39,12 +40,23 @@ fn copy_cases<B: Base>(
 {
     let mut out = Vec::new(alloc);
     for case in cases {
-        match case {
-            None => out.push(None)?,
-            Some(parts) => out.push(Some(copy_parts(alloc, ctx, parts)?))?,
-        }
+        out = pushed(out, copy_case(alloc, ctx, case))?;
     }
     Ok(out)
+}
+
+#[cycle(copy)]
+fn copy_case<B: Base>(
+    alloc: Global,
+    ctx: &B::Ctx,
+    case: &Option<Vec<AV<B>>>,
+) -> Result<Option<Vec<AV<B>>>, NoMemory>
+    ensures { IfOk result (λ r. case_of r ≡ case_of case.now) }
+{
+    match case {
+        None => Ok(None),
+        Some(parts) => Ok(Some(copy_parts(alloc, ctx, parts)?)),
+    }
 }
 
 #[cycle(copy)]
@@ -57,7 +69,7 @@ pub(crate) fn copy_parts<B: Base>(
 {
     let mut out = Vec::new(alloc);
     for part in parts {
-        out.push(copy(alloc, ctx, part)?)?;
+        out = pushed(out, copy(alloc, ctx, part))?;
     }
     Ok(out)
 }

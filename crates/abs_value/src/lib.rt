@@ -25,6 +25,7 @@ mod calls;
 mod copies;
 mod hashed;
 pub mod laws;
+mod lists;
 mod merge;
 mod of_value;
 mod rank;

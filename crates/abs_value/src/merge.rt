@@ -7,6 +7,7 @@ ghost use Rattle.abs_value.specs.View.{abs, case_of};
 ghost use Rattle.abs_value.specs.Ways.{merged, merged_case, merged_cases, merged_parts};
 
 use super::copies::{copy, copy_parts};
+use super::lists::pushed;
 use super::value::AV;
 use super::way::{Way, either, merge_maps, merge_words};
 use base_trait::Base;
@@ -66,7 +67,7 @@ fn merge_cases<B: Base>(
 {
     let mut out = Vec::new(alloc);
     for i in 0..xs.len().min(ys.len()) {
-        out.push(merge_case(alloc, ctx, way, &xs[i], &ys[i])?)?;
+        out = pushed(out, merge_case(alloc, ctx, way, &xs[i], &ys[i]))?;
     }
     Ok(out)
 }
@@ -105,7 +106,7 @@ fn merge_parts<B: Base>(
 {
     let mut out = Vec::new(alloc);
     for i in 0..xs.len().min(ys.len()) {
-        out.push(merge(alloc, ctx, way, &xs[i], &ys[i])?)?;
+        out = pushed(out, merge(alloc, ctx, way, &xs[i], &ys[i]))?;
     }
     Ok(out)
 }

@@ -1,6 +1,6 @@
 //! The value of a concrete one.
 
-ghost use Rattle.std.specs.Prelude.{◌≡◌, ◌<◌, ◌^◌, IfOk, OnOk, ◌++◌, map, slice_get, replicate, None};
+ghost use Rattle.std.specs.Prelude.{◌≡◌, ◌<◌, ◌^◌, IfOk, map, slice_get};
 ghost use Rattle.word_ops.specs.Width.{IsWidth};
 ghost use Rattle.map_laws.specs.Cells.{CellFits};
 ghost use Rattle.map_laws.specs.Maps.{Fits};
@@ -10,10 +10,11 @@ ghost use Rattle.tsl_values.specs.Values.{vals};
 ghost use Rattle.tsl_values.specs.Views.{val};
 ghost use Rattle.value_laws.specs.Abs.{cases, parts};
 ghost use Rattle.value_types.specs.OfValues as of;
-ghost use Rattle.value_types.specs.OfValues.{MapFits, ValueFits, ValuesFit, case_count, map_at, note_of, one_case};
+ghost use Rattle.value_types.specs.OfValues.{MapFits, ValueFits, ValuesFit, case_count, cells_of, map_at, note_of, one_case};
 ghost use Rattle.value_types.specs.TypeShapes.{width_of};
 ghost use Rattle.abs_value.specs.View.{abs, case_of};
 
+use super::lists::{one_of, pushed};
 use super::value::AV;
 use abs_map::AMap;
 use base_trait::{Base, Stamped, Tri};
@@ -69,7 +70,7 @@ fn of_values<B: Base>(
 {
     let mut out = Vec::with_capacity(alloc, values.len())?;
     for value in values {
-        out.push(of_value(alloc, ctx, spec, value)?)?;
+        out = pushed(out, of_value(alloc, ctx, spec, value))?;
     }
     Ok(out)
 }
@@ -104,21 +105,7 @@ pub fn one_case<B: Base>(
     requires { case < count }
     ensures { IfOk result (λ r. cases (map case_of r.items) ≡ one_case count case (parts (map abs values.items))) }
 {
-    let mut cases = Vec::with_capacity(alloc, count)?;
-    push_absent(&mut cases, case)?;
-    cases.push(Some(values))?;
-    push_absent(&mut cases, count - case - 1)?;
-    Ok(cases)
-}
-
-/// So many missing constructors, behind others.
-fn push_absent<T: Drop>(cases: &mut Vec<Option<T>>, count: usize) -> Result<(), NoMemory>
-    ensures { OnOk result (cases.new.items ≡ cases.old.items ++ replicate count None) }
-{
-    for _i in 0..count {
-        cases.push(None)?;
-    }
-    Ok(())
+    one_of(alloc, count, case, values)
 }
 
 /// The map of the cells of a concrete one.
@@ -126,12 +113,40 @@ fn of_map<B: Base>(alloc: Global, ctx: &B::Ctx, w: u32, m: &MapValue) -> Result<
     requires map { MapFits w m.now.rest m.now.cells.items }
     ensures value { IfOk result (λ r. r ≡ map_at B.algebra ctx.now B.CAP w m.now.rest m.now.cells.items) }
 {
+    let rest = of_cell::<B>(alloc, ctx, w, &m.rest)?;
+    AMap::of_cells(alloc, ctx, w, rest, cells_of::<B>(alloc, ctx, w, m)?)
+}
+
+/// The cells of a concrete map, with their keys.
+fn cells_of<B: Base>(
+    alloc: Global,
+    ctx: &B::Ctx,
+    w: u32,
+    m: &MapValue,
+) -> Result<Vec<(u64, Cell<B::Word, B::Note>)>, NoMemory>
+    requires map { MapFits w m.now.rest m.now.cells.items }
+    ensures { IfOk result (λ r. r.items ≡ cells_of B.algebra ctx.now w m.now.cells.items) }
+{
     let mut cells = Vec::with_capacity(alloc, m.cells.len())?;
     for (key, cell) in &m.cells {
-        cells.push((*key, of_cell::<B>(alloc, ctx, w, cell)?))?;
+        cells = pushed(cells, of_entry::<B>(alloc, ctx, w, *key, cell))?;
     }
-    let rest = of_cell::<B>(alloc, ctx, w, &m.rest)?;
-    AMap::of_cells(alloc, ctx, w, rest, cells)
+    Ok(cells)
+}
+
+/// A key with the cell of a concrete one.
+fn of_entry<B: Base>(
+    alloc: Global,
+    ctx: &B::Ctx,
+    w: u32,
+    key: u64,
+    cell: &tsl_values::Cell,
+) -> Result<(u64, Cell<B::Word, B::Note>), NoMemory>
+    requires width { IsWidth w }
+    requires number { cell.now.v < 2 ^ w }
+    ensures { IfOk result (λ r. r ≡ (key, of.cell_of B.algebra ctx.now w cell.now)) }
+{
+    Ok((key, of_cell::<B>(alloc, ctx, w, cell)?))
 }
 
 /// The cell of a concrete one.

@@ -1,14 +1,8 @@
-use Rattle.std.proofs.Common.{◌-◌, [], ◌∷◌, ◌++◌, take, drop, length, ap, ◌∙◌}
-use Rattle.abs_map.proofs.Ascending.{put_slices}
+use Rattle.std.proofs.Common.{◌++◌, ap, ◌∙◌}
+use Rattle.abs_map.specs.Listed.{put}
 use Rattle.abs_map.proofs.listed.put.Goals as goal
 
-pub returns : goal.returns
-returns g c =
-    let cells = c.args.cells.now in
-    let place = c.place_of-place.result in
-    let after = c.place_of-after.result in
-    record {
-      value =
-          c.in_ok-push_copies-2.ensures.value ∙ ap (λ l. l ++ take (length cells - after) (drop after cells)) (c.in_ok-push.ensures.items ∙ ap (λ l. l ++ (c.args.key, c.args.cell) ∷ []) c.in_ok-push_copies.ensures.value)
-          ∙ put_slices c.args.key c.args.cell cells c.in_ok-out.out.items place after c.requires.order c.in_ok-out.ensures.items c.place_of-place.ensures.value c.place_of-after.ensures.value;
-    }
+pub returns-in-Ok : goal.returns-in-Ok
+returns-in-Ok g c = record {
+  value = c.in-Ok.ensures.value ∙ ap (λ l. l ++ put c.args.key (record { word = c.args.word.now; note = c.args.note.now }) c.args.cells.now) c.in_ok-out.ensures.items;
+}

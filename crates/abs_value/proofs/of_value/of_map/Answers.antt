@@ -1,9 +1,7 @@
-use Rattle.std.proofs.Common.{◌≡◌, ap, sym, subst, ◌∙◌, arith}
+use Rattle.std.proofs.Common.{◌≡◌, ap, sym, subst, ◌∙◌}
 use Rattle.map_laws.specs.Calls.{folded}
-use Rattle.map_laws.proofs.Joining.{take_all}
 use Rattle.abs_map.specs.Unfolded.{FitsUnfolded}
 use Rattle.abs_map.proofs.Whole.{if_ok}
-use Rattle.value_types.specs.OfValues.{cells_of}
 use Rattle.abs_value.proofs.OfValues.{fits_unfolded, parts_are}
 use Rattle.abs_value.proofs.of_value.of_map.Goals as goal
 
@@ -12,8 +10,7 @@ of_cells-requires g c =
     let b = g.B.Base.algebra in
     let ctx = c.args.ctx.now in
     let m = c.args.m.now in
-    let all = ap (λ l. cells_of b ctx c.args.w l) (take_all c.loop-key.key-index m.cells.items (omega (arith, c.loop-key-test.false))) in
-    let same = parts_are b g.met.B.Base.laws ctx c.args.w m.rest m.cells.items c.in_ok-rest.rest c.loop-key.cells.items c.in_ok-rest.ensures.value (c.loop-key.invariant ∙ all) in
+    let same = parts_are b g.met.B.Base.laws ctx c.args.w m.rest m.cells.items c.in_ok-rest.rest c.in_ok-cells_of.field-0.items c.in_ok-rest.ensures.value c.in_ok-cells_of.ensures in
     record { map = subst (λ z. FitsUnfolded b ctx z) (sym same) (fits_unfolded b g.met.B.Base.laws ctx c.args.w m.rest m.cells.items c.requires.map) }
 
 pub returns : goal.returns
@@ -22,6 +19,5 @@ returns g c =
     let ctx = c.args.ctx.now in
     let cap = g.B.Base.CAP in
     let m = c.args.m.now in
-    let all = ap (λ l. cells_of b ctx c.args.w l) (take_all c.loop-key.key-index m.cells.items (omega (arith, c.loop-key-test.false))) in
-    let same = parts_are b g.met.B.Base.laws ctx c.args.w m.rest m.cells.items c.in_ok-rest.rest c.loop-key.cells.items c.in_ok-rest.ensures.value (c.loop-key.invariant ∙ all) in
+    let same = parts_are b g.met.B.Base.laws ctx c.args.w m.rest m.cells.items c.in_ok-rest.rest c.in_ok-cells_of.field-0.items c.in_ok-rest.ensures.value c.in_ok-cells_of.ensures in
     record { value = if_ok (λ r. r ≡ folded b ctx cap _) (λ r. r ≡ folded b ctx cap _) c.of_cells.result (λ r e. e ∙ ap (λ z. folded b ctx cap z) same) c.of_cells.ensures.value }

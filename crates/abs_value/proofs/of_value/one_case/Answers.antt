@@ -1,10 +1,15 @@
-use Rattle.std.proofs.Common.{◌≡◌, ◌-◌, Some, None, [], ◌∷◌, ◌++◌, map, replicate, ap, ◌∙◌, rules}
-use Rattle.value_laws.specs.Abs.{cases}
-use Rattle.abs_value.specs.View.{case_of}
+use Rattle.std.proofs.Common.{◌≡◌, ◌-◌, Some, None, [], ◌∷◌, ◌++◌, map, replicate, ap, ◌∙◌}
+use Rattle.abs_map.proofs.Whole.{if_ok}
+use Rattle.value_laws.specs.Abs.{cases, parts}
+use Rattle.value_types.specs.OfValues as of
+use Rattle.abs_value.specs.View.{abs, case_of}
 use Rattle.abs_value.proofs.OfValues.{one_seen}
 use Rattle.abs_value.proofs.of_value.one_case.Goals as goal
 
 pub returns : goal.returns
 returns g c =
-    let items : c.push_absent-2.new.cases.items ≡ (replicate c.args.case None ++ (Some c.args.values ∷ [])) ++ replicate (c.args.count - c.args.case - 1) None = search rules in
-    ap (λ l. cases (map case_of l)) items ∙ one_seen c.args.count c.args.case c.args.values c.requires
+    let n = c.args.count in
+    let k = c.args.case in
+    let xs = c.args.values in
+    if_ok (λ r. r.items ≡ (replicate k None ++ (Some xs ∷ [])) ++ replicate (n - k - 1) None) (λ r. cases (map case_of r.items) ≡ of.one_case n k (parts (map abs xs.items))) c.one_of.result
+    (λ r e. ap (λ l. cases (map case_of l)) e ∙ one_seen n k xs c.requires) c.one_of.ensures

@@ -1,13 +1,49 @@
 use Rattle.std.proofs.Common.{map, ap, sym, subst, cond, ◌∙◌}
 use Rattle.std.specs.Prelude.{not}
 use Rattle.std.specs.List.{filter}
+use Rattle.word_ops.specs.Width.{IsWidth}
+use Rattle.base_trait.specs.Lists.{IsAscending}
 use Rattle.map_laws.specs.Cells.{CellFits, join_cells, joined}
 use Rattle.map_laws.specs.Keys.{has_key}
 use Rattle.map_laws.specs.Maps.{keys}
 use Rattle.map_laws.proofs.Joining.{drop_all}
-use Rattle.abs_map.proofs.ByKey.{news_stand}
+use Rattle.abs_map.proofs.ByKey.{fits_item, news_stand}
 use Rattle.abs_map.proofs.Whole.{joined_tested}
 use Rattle.abs_map.proofs.amap.AMap.new_rest.Goals as goal
+
+pub loop-key-init : goal.loop-key-init
+loop-key-init g c =
+    let B = g.B.Base.algebra in
+    let ctx = c.args.ctx.now in
+    let m = c.args.self.now in
+    let n = c.args.new.now in
+    let same = c.in_ok-rest.ensures.value ∙ ap (λ t. t.rest) c.new.view_is in
+    record {
+      fits = subst (λ x. CellFits B ctx m.width x) (sym same) (subst (λ w. CellFits B ctx w n.rest) (sym c.requires.width) c.requires.new.cells.0);
+      rest = ap (λ x. joined B ctx m.width x (map (λ e. e.1) (filter (λ e. not (has_key (keys m) e.0)) c.cells-key-items.result.now))) same;
+    }
+
+pub is_listed-is_new-requires : goal.is_listed-is_new-requires
+is_listed-is_new-requires g c = record { order = subst (λ l. IsAscending (map (λ e. e.0) l)) (sym c.cells.ensures.value) c.requires.old.order }
+
+pub joined_if-requires-clause-width : goal.joined_if-requires-clause-width
+joined_if-requires-clause-width g c =
+    let width = ap (λ m. m.width) c.self.view_is in
+    subst (λ w. IsWidth w) (sym width) c.requires.old.width
+
+pub joined_if-requires-clause-old : goal.joined_if-requires-clause-old
+joined_if-requires-clause-old g c =
+    let B = g.B.Base.algebra in
+    let ctx = c.args.ctx.now in
+    let width = ap (λ m. m.width) c.self.view_is in
+    subst (λ w. CellFits B ctx w c.loop-key.rest) (sym width) c.loop-key.invariant.fits
+
+pub joined_if-requires-clause-new : goal.joined_if-requires-clause-new
+joined_if-requires-clause-new g c =
+    let B = g.B.Base.algebra in
+    let ctx = c.args.ctx.now in
+    let width = ap (λ m. m.width) c.self.view_is in
+    fits_item B ctx g.B.Base.CAP c.self.inside.width c.args.new.now c.cells-key-items.result.now c.loop-key.key-index c.loop-key-item.result (width ∙ c.requires.width) c.requires.new c.cells-key-items.ensures.value c.loop-key-test.true c.loop-key-item.is
 
 pub loop-key-preserved : goal.loop-key-preserved
 loop-key-preserved g c =
@@ -23,11 +59,16 @@ loop-key-preserved g c =
           c.loop-key.invariant.rest;
     }
 
-pub returns-clause-value : goal.returns-clause-value
-returns-clause-value g c =
+pub returns : goal.returns
+returns g c =
+    let B = g.B.Base.algebra in
+    let ctx = c.args.ctx.now in
     let m = c.args.self.now in
     let n = c.args.new.now in
-    sym (ap (λ l. joined g.B.Base.algebra c.args.ctx.now m.width c.loop-key.rest (map (λ e. e.1) (filter (λ e. not (has_key (keys m) e.0)) l))) (drop_all c.loop-key.key-index c.cells-key-items.result.now c.loop-key-test.false))
-    ∙ c.loop-key.invariant.rest
-    ∙ ap (λ l. joined g.B.Base.algebra c.args.ctx.now m.width n.rest (map (λ e. e.1) (filter (λ e. not (has_key (keys m) e.0)) l))) c.cells-key-items.ensures.value
-    ∙ ap (λ l. joined g.B.Base.algebra c.args.ctx.now m.width n.rest l) (news_stand m n c.requires.new.order)
+    record {
+      value = sym (ap (λ l. joined B ctx m.width c.loop-key.rest (map (λ e. e.1) (filter (λ e. not (has_key (keys m) e.0)) l))) (drop_all c.loop-key.key-index c.cells-key-items.result.now c.loop-key-test.false))
+          ∙ c.loop-key.invariant.rest
+          ∙ ap (λ l. joined B ctx m.width n.rest (map (λ e. e.1) (filter (λ e. not (has_key (keys m) e.0)) l))) c.cells-key-items.ensures.value
+          ∙ ap (λ l. joined B ctx m.width n.rest l) (news_stand m n c.requires.new.order);
+      fits = c.loop-key.invariant.fits;
+    }

@@ -1,17 +1,19 @@
-use Rattle.std.proofs.Common.{ap, ◌∙◌}
 use Rattle.map_laws.specs.Calls.{widen_of}
 use Rattle.map_laws.proofs.Fitting.{widen_fits}
-use Rattle.abs_map.proofs.Whole.{fits_is, widened_is}
+use Rattle.abs_map.proofs.Whole.{made_fits, made_ok, widened_is}
 use Rattle.abs_map.proofs.amap.AMap.widen.Goals as goal
 
-pub returns-clause-value : goal.returns-clause-value
-returns-clause-value g c =
-    widened_is g.B.Base.algebra c.args.ctx.now _ c.args.self.now c.args.new.now c.in_ok-rest.rest c.in_ok-others.others c.in_ok-new.field-0.value.items c.self.view_is c.requires.old.order c.in_ok-rest.ensures.value c.in_ok-others.ensures.value (ap (λ v. v.items) c.in_ok-new.ensures.ok ∙ c.in_ok-cells.ensures.value)
-
-pub returns-clause-fits : goal.returns-clause-fits
-returns-clause-fits g c =
+pub returns-in-Ok : goal.returns-in-Ok
+returns-in-Ok g c =
+    let B = g.B.Base.algebra in
+    let ctx = c.args.ctx.now in
     let m = c.args.self.now in
     let n = c.args.new.now in
-    fits_is g.B.Base.algebra c.args.ctx.now g.B.Base.CAP _ (widen_of g.B.Base.algebra c.args.ctx.now m n)
-    (widened_is g.B.Base.algebra c.args.ctx.now _ m n c.in_ok-rest.rest c.in_ok-others.others c.in_ok-new.field-0.value.items c.self.view_is c.requires.old.order c.in_ok-rest.ensures.value c.in_ok-others.ensures.value (ap (λ v. v.items) c.in_ok-new.ensures.ok ∙ c.in_ok-cells.ensures.value))
-    (widen_fits g.B.Base.algebra g.met.B.Base.laws c.args.ctx.now g.B.Base.CAP m n c.requires.old c.requires.new c.requires.width)
+    let w = c.self.inside.width in
+    let rest = c.in_ok-rest.rest in
+    let cells = c.in-Ok.cells.items in
+    let same = widened_is B ctx _ m n rest cells c.self.view_is c.requires.old.order c.in_ok-rest.ensures.value c.in-Ok.ensures.value in
+    record {
+      value = made_ok w rest cells (widen_of B ctx m n) c.of_parts.result same c.of_parts.ensures.value;
+      fits = made_fits w rest cells (widen_of B ctx m n) c.of_parts.result B ctx g.B.Base.CAP same (widen_fits B g.met.B.Base.laws ctx g.B.Base.CAP m n c.requires.old c.requires.new c.requires.width) c.of_parts.ensures.value;
+    }

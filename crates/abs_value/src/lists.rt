@@ -1,0 +1,40 @@
+//! Lists that grow by what may fail.
+
+ghost use Rattle.std.specs.Prelude.{◌≡◌, ◌<◌, ◌-◌, ◌++◌, ◌∷◌, [], IfOk, IsOkAnd, None, Some, replicate};
+
+use std::alloc::{AllocError as NoMemory, Global};
+
+/// The list with one item more, where that was made; else the list is let go.
+pub(crate) fn pushed<T: Drop>(
+    mut list: Vec<T>,
+    item: Result<T, NoMemory>,
+) -> Result<Vec<T>, NoMemory>
+    ensures { IfOk result (λ r. IsOkAnd item (λ x. r.items ≡ list.items ++ x ∷ [])) }
+{
+    list.push(item?)?;
+    Ok(list)
+}
+
+/// Of so many places one has the value.
+pub(crate) fn one_of<T: Drop>(
+    alloc: Global,
+    count: usize,
+    place: usize,
+    value: T,
+) -> Result<Vec<Option<T>>, NoMemory>
+    requires { place < count }
+    ensures { IfOk result (λ r. r.items ≡ (replicate place None ++ Some value ∷ []) ++ replicate (count - place - 1) None) }
+{
+    let before = push_absent(Vec::with_capacity(alloc, count)?, place)?;
+    push_absent(pushed(before, Ok(Some(value)))?, count - place - 1)
+}
+
+/// So many empty places behind others.
+fn push_absent<T: Drop>(mut list: Vec<Option<T>>, count: usize) -> Result<Vec<Option<T>>, NoMemory>
+    ensures { IfOk result (λ r. r.items ≡ list.items ++ replicate count None) }
+{
+    for _i in 0..count {
+        list.push(None)?;
+    }
+    Ok(list)
+}
