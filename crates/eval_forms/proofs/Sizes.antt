@@ -15,7 +15,7 @@ use Rattle.abs_steps.proofs.Steps.{at_fits}
 use Rattle.eval_memo.specs.declared.setting.Setting.{Setting}
 use Rattle.eval_forms.specs.Lines.{of_choice, of_condition}
 use Rattle.eval_forms.specs.Next.{IsNext, PlanFits}
-use Rattle.eval_forms.specs.Plans.{Plan, arm, both, either, goes, nothing, planned, present_plan, row_plan, size}
+use Rattle.eval_forms.specs.Plans.{Plan, arm, both, either, goes, nothing, plan_then, planned, present_plan, row_plan, size}
 use Rattle.eval_forms.specs.Weights.{tree_weight, trees_weight, weight}
 
 -- ---- sizes
@@ -49,6 +49,11 @@ either_size o p q = at o.may_true o.may_false
     at false true = omega arith
     at false false = omega arith
 
+then_size : {W N : Type 0} (p q : Plan W N) → size (plan_then p q) ≤ 1 + (size p + size q)
+then_size nothing q = omega arith
+then_size (arm r vs) q = omega arith
+then_size (both p o) q = omega arith
+
 module _ {W N C : Type 0} (B : Algebra W N C) (c : C) (x : Abs W N) where
   row_size : (r : ℕ) (o : Option (List (Abs W N))) → size (row_plan r o) ≤ 1
   row_size r None = omega arith
@@ -74,9 +79,10 @@ module _ {W N C : Type 0} (B : Algebra W N C) (c : C) (x : Abs W N) where
     present_size first (tree_then t ts) no_case = omega arith
     present_size first (tree_then t ts) (absent cs) = let k = present_size first ts cs in omega (arith, k)
     present_size first (tree_then t ts) (present xs cs) =
-        let k = present_size (both first (planned B c x t)) ts cs in
+        let k = present_size (plan_then first (planned B c x t)) ts cs in
         let p = planned_size t in
-        omega (arith, k, p)
+        let n = then_size first (planned B c x t) in
+        omega (arith, k, p, n)
 
 -- ---- what plans name
 module _ {X W N C : Type 0} (B : Algebra W N C) (cap : ℕ) (s : Setting X W N C) where
@@ -94,6 +100,11 @@ module _ {X W N C : Type 0} (B : Algebra W N C) (cap : ℕ) (s : Setting X W N C
       at true false = h
       at false true = k
       at false false = tt
+
+  then_fits : (p q : Plan W N) → PlanFitsHere p → PlanFitsHere q → PlanFitsHere (plan_then p q)
+  then_fits nothing q h k = k
+  then_fits (arm r vs) q h k = (h, k)
+  then_fits (both p o) q h k = (h, k)
 
   module _ (x : Abs W N) (fits : FitsHere x) where
     named_next : (o : Option (Abs W N)) (rest : Option (List (Abs W N))) → IfSome o FitsHere → IfSome rest (All FitsHere) → IfSome (option_and_then (λ y. option_map (λ ys. y ∷ ys) rest) o) (All FitsHere)
@@ -120,7 +131,7 @@ module _ {X W N C : Type 0} (B : Algebra W N C) (cap : ℕ) (s : Setting X W N C
       present_fits first no_tree cs h = h
       present_fits first (tree_then t ts) no_case h = h
       present_fits first (tree_then t ts) (absent cs) h = present_fits first ts cs h
-      present_fits first (tree_then t ts) (present xs cs) h = present_fits (both first (planned B s.ctx.now x t)) ts cs (h, planned_fits t)
+      present_fits first (tree_then t ts) (present xs cs) h = present_fits (plan_then first (planned B s.ctx.now x t)) ts cs (then_fits first (planned B s.ctx.now x t) h (planned_fits t))
 
   -- ---- what follows a form that goes on
   module _ (rank : ℕ → ℕ) (g : ℕ) where

@@ -47,6 +47,12 @@ abbrev pub all_both : {W N : Type 0} → List (Plan W N) → Plan W N → Plan W
 all_both [] q = q
 all_both (p ∷ ps) q = both p (all_both ps q)
 
+-- one and then another, where the first may be none
+abbrev pub plan_then : {W N : Type 0} → Plan W N → Plan W N → Plan W N
+plan_then nothing q = q
+plan_then (arm r vs) q = both (arm r vs) q
+plan_then (both p o) q = both (both p o) q
+
 abbrev pub row_plan : {W N : Type 0} → ℕ → Option (List (Abs W N)) → Plan W N
 row_plan r None = nothing
 row_plan r (Some vs) = arm r vs
@@ -63,7 +69,7 @@ module _ {W N C : Type 0} (B : Algebra W N C) (c : C) (x : Abs W N) where
     -- those of the constructors that are present, behind those of earlier ones
     pub present_plan : Plan W N → Trees → Cases W N → Plan W N
     present_plan first (tree_then t ts) (absent cs) = present_plan first ts cs
-    present_plan first (tree_then t ts) (present xs cs) = present_plan (both first (planned t)) ts cs
+    present_plan first (tree_then t ts) (present xs cs) = present_plan (plan_then first (planned t)) ts cs
     present_plan first _ _ = first
 
 abbrev pub valued : {W N : Type 0} → Option (Abs W N) → List Seen → Answer (Next W N)

@@ -43,6 +43,17 @@ fn both<B: Base>(alloc: Global, first: Plan<B>, second: Plan<B>) -> Result<Plan<
     Ok(Plan::Both(Box::new(alloc, first)?, Box::new(alloc, second)?))
 }
 
+/// One plan and then another, where the first may be none.
+fn then_plan<B: Base>(alloc: Global, first: Plan<B>, second: Plan<B>) -> Result<Plan<B>, NoMemory>
+    ensures { IfOk result (λ r. plan r ≡ of.plan_then (plan first) (plan second)) }
+{
+    match first {
+        Plan::Nothing => Ok(second),
+        Plan::Arm(number, named) => both(alloc, Plan::Arm(number, named), second),
+        Plan::Both(one, other) => both(alloc, Plan::Both(one, other), second),
+    }
+}
+
 /// The arm of a row, where all that its variables name is there.
 fn row_plan<B: Base>(
     alloc: Global,
@@ -171,7 +182,7 @@ fn with_arm<B: Base>(
     match case {
         Some(_fields) => {
             let second = planned(alloc, ctx, x, arm)?;
-            both(alloc, first, second)
+            then_plan(alloc, first, second)
         }
         None => Ok(first),
     }
