@@ -1,6 +1,7 @@
 -- What the first of two plans gives, joined behind others.
-use Rattle.std.proofs.Common.{◌≡◌, ◌∙◌, ◌++◌, ℕ, List, [], ◌∷◌, Bool, Option, refl, sym, ap}
+use Rattle.std.proofs.Common.{◌≡◌, ◌∙◌, ◌<◌, ◌++◌, ℕ, List, [], ◌∷◌, Bool, Option, length, map, option_map, refl, sym, ap, length-append, arith}
 use Rattle.std.specs.Prelude.{All}
+use Rattle.std.proofs.lemmas.List.{map-append}
 use Rattle.std.proofs.lemmas.List.Elements.{All-nil, All-cons, All-head, All-tail}
 use Rattle.base_trait.specs.Algebra.{Algebra}
 use Rattle.base_trait.specs.Uses.{Seen}
@@ -24,6 +25,9 @@ pub last_of_all : {V : Type 0} (P : V → Type 0) (xs : List V) (y : V) → All 
 last_of_all P [] y h = All-head P y [] h
 last_of_all P (x ∷ xs) y h = last_of_all P xs y (All-tail P x (xs ++ y ∷ []) h)
 
+pub shorter : {V : Type 0} (xs ys : List V) (y : V) → xs ≡ ys ++ y ∷ [] → length ys < length xs
+shorter xs ys y e = let long = ap length e ∙ length-append ys (y ∷ []) in omega (arith, long)
+
 module _ {A : Type 0} (j : A → A → A) where
   pub join_last : (xs : List (Option A)) (x y : Option A) → join_all j (xs ++ x ∷ []) y ≡ join_all j xs (join_some j x y)
   join_last [] x y = refl
@@ -36,6 +40,20 @@ module _ {A : Type 0} (j : A → A → A) where
   pub behind_one : (xs : List (Option A)) (x : Option A) (r : Answer A) → joined_behind j xs (then_on r (λ y l. gives (join_some j x y) l)) ≡ joined_behind j (xs ++ x ∷ []) r
   behind_one xs x (fails i) = refl
   behind_one xs x (gives y l) = ap (λ z. gives z l) (sym (join_last xs x y))
+
+-- lists of what has been given, from the last on
+module _ {V A : Type 0} (view : V → A) (j : A → A → A) (whole : Option A) where
+  pub join_step : (xs left : List (Option V)) (x y z : Option V) → xs ≡ left ++ x ∷ [] → join_all j (map (option_map view) xs) (option_map view y) ≡ whole → option_map view z ≡ join_some j (option_map view x) (option_map view y)
+      → join_all j (map (option_map view) left) (option_map view z) ≡ whole
+  join_step xs left x y z split so joined =
+      ap (join_all j (map (option_map view) left)) joined
+      ∙ sym (join_last j (map (option_map view) left) (option_map view x) (option_map view y))
+      ∙ ap (λ l. join_all j l (option_map view y)) (sym (ap (map (option_map view)) split ∙ map-append (option_map view) left (x ∷ [])))
+      ∙ so
+
+  pub join_done : (xs : List (Option V)) (n : ℕ) (y : Option V) → n ≡ 0 → n ≡ length xs → join_all j (map (option_map view) xs) (option_map view y) ≡ whole → option_map view y ≡ whole
+  join_done [] n y none long so = so
+  join_done (x ∷ xs) n y none long so = absurd (omega (arith, none, long))
 
 module _ {X W N C : Type 0} (B : Algebra W N C) (cap : ℕ) (on : ℕ → List (Abs W N) → Answer (Abs W N)) (s : Setting X W N C) (g : ℕ) (tail : Bool) (env : List (Abs W N)) (arms : Cores) where
   abbrev Given : Type 0

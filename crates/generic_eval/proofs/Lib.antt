@@ -1,7 +1,15 @@
+pub mod Activating
+pub mod Bodies
+pub mod Branching
+pub mod Calling
+pub mod Collecting
 pub mod Ending
+pub mod Fitting
 pub mod Following
+pub mod Going
 pub mod Growing
 pub mod Joining
+pub mod Parted
 pub mod Parting
 pub mod Planning
 pub mod Starting

@@ -13,7 +13,7 @@ use Rattle.reinterpretation.specs.Choices.{abs_at, abs_named, arm_on, arms_prese
 use Rattle.reinterpretation.specs.Terms.{GroupArgs}
 use Rattle.eval_memo.specs.declared.setting.Setting.{Setting}
 use Rattle.eval_forms.specs.Forms.{part_at}
-use Rattle.eval_forms.specs.Plans.{Plan, both, either, given_plan, nothing, planned, present_plan, row_plan}
+use Rattle.eval_forms.specs.Plans.{Plan, arm, both, either, given_plan, nothing, plan_then, planned, present_plan, row_plan}
 use Rattle.eval_memo.specs.Settings.{given_arm, given_decided, given_of, join_yields}
 
 some_is : {A : Type 0} (x y : A) → Some x ≡ Some y → x ≡ y
@@ -69,6 +69,11 @@ module _ {X W N C : Type 0} (B : Algebra W N C) (cap : ℕ) (on : ℕ → List (
         at false true = eh l ∙ sym (last (h l))
         at true true = after (given_so p l) ∙ ap (λ r. then_on r (λ x l. joined_from j (join_some j None x) (h ∷ []) l)) (ef l)
 
+    then_so : (p q : Plan W N) (l : List Seen) → given_so (plan_then p q) l ≡ given_so (both p q) l
+    then_so nothing q l = sym (last (given_so q l))
+    then_so (arm r vs) q l = refl
+    then_so (both p o) q l = refl
+
     module _ (x : Abs W N) where
       abbrev decided_so : Tree → Evaluation (Yield (GroupArgs W N) (Abs W N))
       decided_so by = given_decided B cap on s g tail env arms x by
@@ -97,7 +102,8 @@ module _ {X W N C : Type 0} (B : Algebra W N C) (cap : ℕ) (on : ℕ → List (
             stays (fails i) = refl
             stays (gives y l) = refl
         given_present first (tree_then t ts) (absent cs) l = given_present first ts cs l
-        given_present first (tree_then t ts) (present xs cs) l = given_present (both first (planned B s.ctx.now x t)) ts cs l ∙ turned (given_planned t) (given_so first l)
+        given_present first (tree_then t ts) (present xs cs) l = given_present (plan_then first (planned B s.ctx.now x t)) ts cs l
+            ∙ ap (λ r. then_on r (λ y l. joined_from j y rest l)) (then_so first (planned B s.ctx.now x t) l) ∙ turned (given_planned t) (given_so first l)
           where
             rest : List (Evaluation (Yield (GroupArgs W N) (Abs W N)))
             rest = arms_present B s.ctx.now j (λ r vs m. given_arm B cap on s g tail env arms r vs m) x ts cs

@@ -1,10 +1,24 @@
 -- When an evaluation begins.
-use Rattle.std.proofs.Common.{◌≡◌, ℕ, List, [], ◌∷◌, cond, length, subst, arith}
-use Rattle.std.specs.Prelude.{All, ◌^◌}
+use Rattle.std.proofs.Common.{◌≡◌, ◌∙◌, ◌++◌, ◌<◌, ◌≤◌, ℕ, false, ltb, List, [], ◌∷◌, Option, None, Result, Ok, Err, option_map, cond, length, sym, ap, subst, append-nil, arith}
+use Rattle.std.proofs.lemmas.Bool.{le-ltb}
+use Rattle.std.proofs.lemmas.List.{length-map}
+use Rattle.recursion_fix.specs.declared.policy.Policy.{Policy}
+use Rattle.spec_types.specs.Specification.{Spec}
+use Rattle.spec_types.specs.Views.{fun_of}
+use Rattle.call_answers.specs.Answers.{answers}
+use Rattle.std.specs.Prelude.{All, IfOk, ◌^◌}
 use Rattle.std.proofs.lemmas.List.Elements.{All-nil, All-cons}
 use Rattle.base_trait.specs.Algebra.{Algebra}
 use Rattle.base_trait.specs.Laws.{Laws}
 use Rattle.map_laws.proofs.Fitting.{room}
+use Rattle.base_trait.specs.Uses.{Seen}
+use Rattle.abs_value.specs.View.{abs}
+use Rattle.abs_value.specs.declared.value.AV.{AV}
+use Rattle.recursion_fix.specs.Answer.{gives}
+use Rattle.reinterpretation.specs.Answers.{Answer, behind}
+use Rattle.eval_memo.specs.declared.error.EvalError.{EvalError}
+use Rattle.eval_memo.specs.Given.{Gives}
+use Rattle.eval_memo.proofs.Answering.{passed}
 use Rattle.value_laws.specs.Abs.{Abs, parts}
 use Rattle.value_laws.specs.Fits.{Fits, PartsFit}
 use Rattle.call_answers.proofs.Right.{answers_are_right}
@@ -36,3 +50,35 @@ module _ {X W N C : Type 0} (B : Algebra W N C) (laws : Laws W N C B) (cap : ℕ
   -- a memo that is right stands where it is counted from
   pub stands_by : (es : List (Remembered W N)) (steps : ℕ) → IsRight B cap s es → Stands (calls_of B cap s) (length es) steps es steps
   stands_by es steps h = record { true_of = h.true_of; distinct = h.distinct; counted = omega arith }
+
+-- a call that is not kept: its own reads come behind those before
+module _ (X W N C : Type 0) where
+  pub alone_failed : (er : EvalError) (l own : List Seen) (answer : Answer (Abs W N)) → Gives (abs {X = X} {W = W} {N = N} {C = C}) (Err er) own answer → Gives (abs {X = X} {W = W} {N = N} {C = C}) (Err er) l (behind l answer)
+  alone_failed er l own answer h = passed (abs {X = X} {W = W} {N = N} {C = C}) (abs {X = X} {W = W} {N = N} {C = C}) er own l answer (behind l answer) h (λ i e. ap (behind l) e)
+
+  pub alone_gave : (v w : Option (AV X W N C)) (l own n : List Seen) (answer : Answer (Abs W N)) → answer ≡ gives (option_map abs v) own → w ≡ v → n ≡ l ++ own → behind l answer ≡ gives (option_map abs w) n
+  alone_gave v w l own n answer gave is log = ap (behind l) gave ∙ ap (λ w. gives (option_map abs w) (l ++ own)) (sym is) ∙ ap (λ n. gives (option_map abs w) n) (sym log)
+
+-- what is held where types are right
+pub held_by : {A E T : Type 0} (L H : Type 0) (r : Result A E) → T → IfOk r (λ _. T → H) → IfOk r (λ _. L → H)
+held_by L H (Ok v) typed h = λ _. h typed
+held_by L H (Err x) typed h = tt
+
+-- a function that is not there has no value
+module _ {W N C : Type 0} (B : Algebra W N C) (c : C) (cap : ℕ) (spec : Spec) (a : ℕ) (policy : Policy) where
+  pub no_function : (f : ℕ) (ps : List (Abs W N)) (l : List Seen) → length spec.funs ≤ f → behind l (answers B c cap spec a policy f ps) ≡ gives None l
+  no_function f ps l past = let no : ltb f (length spec.funs) ≡ false = le-ltb f (length spec.funs) past in rw no (ap (λ z. gives None z) (append-nil l))
+
+-- the functions of the specification are those of the code's
+module _ {X W N C : Type 0} (s : Setting X W N C) where
+  funs_are : length (spec_of s).funs ≡ s.spec.now.funs.len
+  funs_are = length-map s.spec.now.funs.items fun_of ∙ sym s.spec.now.funs.ok.0
+
+  pub not_there : (spec : Spec) (len f : ℕ) → spec ≡ spec_of s → len ≡ s.spec.now.funs.len → len ≤ f → length spec.funs ≤ f
+  not_there spec len f is long past = let k = ap (λ z. length z.funs) is in let m = funs_are in omega (arith, k, m, long, past)
+
+  pub is_there : (len f : ℕ) → len ≡ s.spec.now.funs.len → f < len → f < length (spec_of s).funs
+  is_there len f long within = let m = funs_are in omega (arith, m, long, within)
+
+  pub never_there : {H : Type 0} (len f : ℕ) → len ≡ s.spec.now.funs.len → len ≤ f → f < length (spec_of s).funs → H
+  never_there len f long past h = let m = funs_are in absurd (omega (arith, m, long, past, h))

@@ -19,6 +19,7 @@ ghost use Rattle.eval_forms.specs.Next.{PlanFits};
 ghost use Rattle.eval_forms.specs.Views.{plan as plan_of};
 
 use crate::joins::joined_all;
+use crate::lists::{append_all, pushed};
 use abs_value::AV;
 use base_trait::{Base, Log};
 use eval_forms::{Next, Plan, branch, follow, part};
@@ -93,11 +94,20 @@ fn values<B: Base, K: Known<B>, L: Ledger>(
         let Some(x) = part(t, out.len()) else {
             return Ok(Some(out));
         };
-        let given = term::<B, K, L>(alloc, setting, room, group, false, env, x, memo, steps, log)?;
+        let given = match term::<B, K, L>(
+            alloc, setting, room, group, false, env, x, memo, steps, log,
+        ) {
+            Ok(given) => given,
+            Err(error) => {
+                drop(out);
+                return Err(error);
+            }
+        };
         let Some(v) = value_in(given) else {
+            drop(out);
             return Ok(None);
         };
-        out.push(v)?;
+        out = pushed(out, v)?;
     }
 }
 
@@ -124,6 +134,7 @@ fn go<B: Base, K: Known<B>, L: Ledger>(
     ensures { Runs B.algebra B.CAP setting.now K.spec K.rank (K.calls setting.now.ctx.now) K.before K.ticked yield (λ y. YieldFits B.algebra B.CAP setting.now group (yield y)) result (uses_of log.old) (uses_of log.new) (given_plan B.algebra B.CAP (K.calls setting.now.ctx.now) setting.now group tail (map abs env.old.items) (branches (core t.now)) (plan_of plan) (uses_of log.old)) env.old.items env.new.items (entries memo.old) (entries memo.new) steps.new }
 {
     if room == 0 {
+        drop(plan);
         return Err(EvalError::NoMemory);
     }
     let room = room - 1;
@@ -135,17 +146,36 @@ fn go<B: Base, K: Known<B>, L: Ledger>(
                 return Ok(joined_all::<B, K>(alloc, setting, group, firsts, None)?);
             }
             Plan::Arm(number, named) => {
-                let last = arm::<B, K, L>(
+                let last = match arm::<B, K, L>(
                     alloc, setting, room, group, tail, env, t, number, named, memo, steps, log,
-                )?;
+                ) {
+                    Ok(last) => last,
+                    Err(error) => {
+                        drop(firsts);
+                        return Err(error);
+                    }
+                };
                 return Ok(joined_all::<B, K>(alloc, setting, group, firsts, last)?);
             }
             Plan::Both(first, second) => {
                 let plan = Box::into_inner(first);
-                let given = go::<B, K, L>(
+                let given = match go::<B, K, L>(
                     alloc, setting, room, group, tail, env, t, plan, memo, steps, log,
-                )?;
-                firsts.push(given)?;
+                ) {
+                    Ok(given) => given,
+                    Err(error) => {
+                        drop(firsts);
+                        drop(second);
+                        return Err(error);
+                    }
+                };
+                firsts = match pushed(firsts, given) {
+                    Ok(firsts) => firsts,
+                    Err(_) => {
+                        drop(second);
+                        return Err(EvalError::NoMemory);
+                    }
+                };
                 rest = Box::into_inner(second);
             }
         }
@@ -163,7 +193,7 @@ fn arm<B: Base, K: Known<B>, L: Ledger>(
     env: &mut Vec<AV<B>>,
     t: &Core,
     number: u32,
-    mut named: Vec<AV<B>>,
+    named: Vec<AV<B>>,
     memo: &mut Memo<B>,
     steps: &mut Steps<L>,
     log: &mut Log,
@@ -174,10 +204,11 @@ fn arm<B: Base, K: Known<B>, L: Ledger>(
     ensures { Runs B.algebra B.CAP setting.now K.spec K.rank (K.calls setting.now.ctx.now) K.before K.ticked yield (λ y. YieldFits B.algebra B.CAP setting.now group (yield y)) result (uses_of log.old) (uses_of log.new) (of.given_arm B.algebra B.CAP (K.calls setting.now.ctx.now) setting.now group tail (map abs env.old.items) (branches (core t.now)) number (map abs named.items) (uses_of log.old)) env.old.items env.new.items (entries memo.old) (entries memo.new) steps.new }
 {
     let Some(body) = branch(t, number as usize) else {
+        drop(named);
         return Ok(None);
     };
     let outer = env.len();
-    env.append(&mut named)?;
+    append_all(env, named)?;
     let given = term::<B, K, L>(
         alloc, setting, room, group, tail, env, body, memo, steps, log,
     )?;
@@ -232,12 +263,25 @@ fn body<B: Base, K: Known<B>, L: Ledger>(
     let Some(args) = args else {
         return Ok(first);
     };
-    let mut env = copy_all(alloc, setting.ctx, args)?;
+    let mut env = match copy_all(alloc, setting.ctx, args) {
+        Ok(env) => env,
+        Err(_) => {
+            drop(first);
+            return Err(EvalError::NoMemory);
+        }
+    };
     let t = body_of::<B, K>(setting, number);
     let given = term::<B, K, L>(
         alloc, setting, room, group, true, &mut env, t, memo, steps, log,
-    )?;
-    Ok(joined::<B, K>(alloc, setting, group, first, given)?)
+    );
+    drop(env);
+    match given {
+        Ok(given) => Ok(joined::<B, K>(alloc, setting, group, first, given)?),
+        Err(error) => {
+            drop(first);
+            Err(error)
+        }
+    }
 }
 
 /// The value of a call, with its own reads behind those before. A call that is held is not evaluated again; one that is new is kept.
@@ -257,13 +301,35 @@ pub(crate) fn call<B: Base, K: Known<B>, L: Ledger>(
     requires args { All (Fits B.algebra setting.now.ctx.now B.CAP) (map abs args.items) }
     ensures { RunsCall B.algebra B.CAP setting.now K.spec K.rank (K.calls setting.now.ctx.now) K.before K.ticked fun (map abs args.items) result (uses_of log.old) (uses_of log.new) (entries memo.old) (entries memo.new) steps.new }
 {
-    if let Some(value) = recalled::<B, K>(alloc, setting, memo, fun, &args, log)? {
-        return Ok(value);
+    match recalled::<B, K>(alloc, setting, memo, fun, &args, log) {
+        Ok(None) => {}
+        Ok(Some(value)) => {
+            drop(args);
+            return Ok(value);
+        }
+        Err(_) => {
+            drop(args);
+            return Err(EvalError::NoMemory);
+        }
     }
+    let again = match copy_all(alloc, setting.ctx, &args) {
+        Ok(again) => again,
+        Err(_) => {
+            drop(args);
+            return Err(EvalError::NoMemory);
+        }
+    };
     let mut own = Log::new(alloc);
-    let again = copy_all(alloc, setting.ctx, &args)?;
-    let value = activation::<B, K, L>(alloc, setting, room, fun, again, memo, steps, &mut own)?;
-    Ok(recorded::<B, K, L>(alloc, setting, fun, args, value, own, memo, steps, log)?)
+    match activation::<B, K, L>(alloc, setting, room, fun, again, memo, steps, &mut own) {
+        Ok(value) => {
+            Ok(recorded::<B, K, L>(alloc, setting, fun, args, value, own, memo, steps, log)?)
+        }
+        Err(error) => {
+            drop(own);
+            drop(args);
+            Err(error)
+        }
+    }
 }
 
 /// The value of an activation.
@@ -287,20 +353,28 @@ pub(crate) fn activation<B: Base, K: Known<B>, L: Ledger>(
     let group = group_of(setting.spec, fun);
     let mut activity: Activity<B, K> = begin::<B, K>(alloc, setting, fun, args)?;
     loop {
-        let given = turn::<B, K, L>(
-            alloc,
-            setting,
-            room,
-            group,
-            args_of(&activity),
-            memo,
-            steps,
-            own,
-        )?;
-        match advance::<B, K>(alloc, setting, fun, &mut activity, given)? {
-            Step::Again => {}
-            Step::Done(value) => return Ok(value),
-            Step::Deep => return Err(EvalError::Deep { function: fun }),
+        let args = args_of(&activity);
+        let given = match turn::<B, K, L>(alloc, setting, room, group, args, memo, steps, own) {
+            Ok(given) => given,
+            Err(error) => {
+                drop(activity);
+                return Err(error);
+            }
+        };
+        match advance::<B, K>(alloc, setting, fun, &mut activity, given) {
+            Ok(Step::Again) => {}
+            Ok(Step::Done(value)) => {
+                drop(activity);
+                return Ok(value);
+            }
+            Ok(Step::Deep) => {
+                drop(activity);
+                return Err(EvalError::Deep { function: fun });
+            }
+            Err(_) => {
+                drop(activity);
+                return Err(EvalError::NoMemory);
+            }
         }
     }
 }

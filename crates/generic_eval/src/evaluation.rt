@@ -1,6 +1,6 @@
 //! Calls of functions.
 
-ghost use Rattle.std.specs.Prelude.{◌≡◌, ◌+◌, ◌<◌, length, map, IfOk, IfSome};
+ghost use Rattle.std.specs.Prelude.{◌≡◌, ◌++◌, ◌+◌, ◌<◌, length, map, IfOk, IfSome, OnOk};
 ghost use Rattle.base_trait.specs.Lists.{IsGrown};
 ghost use Rattle.base_trait.specs.Uses.{uses_of};
 ghost use Rattle.value_laws.specs.Fits.{Fits};
@@ -19,7 +19,7 @@ use crate::known::{Defined, Placed};
 use abs_value::AV;
 use base_trait::{Base, Log};
 use eval_memo::{EvalError, Memo, Setting, append, memo_new};
-use std::alloc::Global;
+use std::alloc::{AllocError as NoMemory, Global};
 use std::marker::Brand;
 use std::sync::ledger::{Blank, Ledger};
 use step_counter::Steps;
@@ -95,7 +95,9 @@ fn counted<B: Base, L: Ledger>(
 {
     let mut memo = memo_new(alloc);
     let mut steps: Steps<L> = Steps::new(blank);
-    alone::<B, Brand, L>(alloc, setting, function, args, &mut memo, &mut steps, log)
+    let value = alone::<B, Brand, L>(alloc, setting, function, args, &mut memo, &mut steps, log);
+    drop(memo);
+    value
 }
 
 /// The same as `evaluated`, where the call itself is not kept, since nobody can ask for it again.
@@ -116,10 +118,11 @@ fn alone<B: Base, K: Placed, L: Ledger>(
     ensures grown { IsGrown (uses_of log.old) (uses_of log.new) }
 {
     if function as usize >= setting.spec.funs.len() {
+        drop(args);
         return Ok(None);
     }
     let mut own = Log::new(alloc);
-    let value = activation::<B, Defined<K>, L>(
+    match activation::<B, Defined<K>, L>(
         alloc,
         setting,
         MOST_NESTED,
@@ -128,9 +131,35 @@ fn alone<B: Base, K: Placed, L: Ledger>(
         memo,
         steps,
         &mut own,
-    )?;
-    append(alloc, log, &own)?;
-    Ok(value)
+    ) {
+        Ok(value) => Ok(read::<B>(alloc, own, value, log)?),
+        Err(error) => {
+            drop(own);
+            Err(error)
+        }
+    }
+}
+
+/// The value, once the reads of its own log are added.
+fn read<B: Base>(
+    alloc: Global,
+    own: Log,
+    value: Option<AV<B>>,
+    log: &mut Log,
+) -> Result<Option<AV<B>>, NoMemory>
+    ensures value { IfOk result (λ r. r ≡ value) }
+    ensures log { OnOk result (uses_of log.new ≡ uses_of log.old ++ uses_of own) }
+    ensures grown { IsGrown (uses_of log.old) (uses_of log.new) }
+{
+    let result = append(alloc, log, &own);
+    drop(own);
+    match result {
+        Ok(()) => Ok(value),
+        Err(error) => {
+            drop(value);
+            Err(error)
+        }
+    }
 }
 
 /// The same as `eval`, where what is known of the setting, of the memo and of the steps is picked by the caller's proof.
@@ -155,6 +184,7 @@ fn evaluated<B: Base, K: Placed, L: Ledger>(
     ensures known { Holds function (map abs args.items) (entries memo.old) → entries memo.new ≡ entries memo.old }
 {
     if function as usize >= setting.spec.funs.len() {
+        drop(args);
         return Ok(None);
     }
     call::<B, Defined<K>, L>(

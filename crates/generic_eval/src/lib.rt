@@ -8,7 +8,7 @@
 //! *A term* is evaluated in three steps. Its parts are, one after another; what follows on their values is computed by `eval_forms`: a
 //! value, a call, or a plan of branches; and a call or a plan is then evaluated.
 //!
-//! *The memo* (`eval_state`). Each call that is evaluated is kept with its value and its own reads. A call that is met again has both from
+//! *The memo* (`eval_memo`). Each call that is evaluated is kept with its value and its own reads. A call that is met again has both from
 //! there: of a function that calls another twice on the same values, the second call is a look-up, and ticks no step.
 //!
 //! *Nesting.* Terms are evaluated by recursion, each within that of the term around it, a plan within that of the plan around it, and a call
@@ -28,5 +28,6 @@ mod evaluate;
 mod evaluation;
 mod joins;
 mod known;
+mod lists;
 
 pub use evaluation::{eval, eval_anew};

@@ -1,24 +1,37 @@
 -- Numbers, and lists of values.
-use Rattle.std.proofs.Common.{◌≡◌, ℕ, zero, suc, ◌+◌, ◌-◌, ◌<◌, ◌≤◌, ◌^◌, Bool, true, false, List, [], ◌∷◌, ◌++◌, length, map, drop, get_or, min, Option, Some, None, Vec, Global, refl, sym, ap, ◌∙◌, arith, add-one, ltb, pow_mono, length-drop, append_assoc, take, cond}
+use Rattle.std.proofs.Common.{◌≡◌, ℕ, zero, suc, ◌+◌, ◌-◌, ◌<◌, ◌≤◌, ◌^◌, Bool, true, false, List, [], ◌∷◌, ◌++◌, length, map, drop, get_or, min, Option, Some, None, Result, Ok, Err, Vec, Global, refl, sym, ap, ◌∙◌, subst, arith, add-one, ltb, pow_mono, length-drop, append_assoc, take, cond}
+use Rattle.std.specs.Prelude.{◌==◌, IfOk, IsOkAnd}
+use Rattle.std.specs.List.{list_all}
 use Rattle.std.proofs.Math.Seq.{drop-cons, take-suc}
 use Rattle.std.proofs.lemmas.List.{map-append}
-use Rattle.std.proofs.lemmas.Bool.{ltb-false, ltb-true}
+use Rattle.std.proofs.lemmas.Option.{slice_get-get_or}
+use Rattle.std.proofs.lemmas.Bool.{ltb-false, ltb-true, ne_eqb}
 use Rattle.base_trait.specs.Algebra.{Algebra}
 use Rattle.base_trait.specs.Lists.{Each}
+use Rattle.base_trait.proofs.Tests.{and_parts}
+use Rattle.spec_types.specs.declared.ty.Ty.{Ty}
+use Rattle.spec_types.specs.Environment.{Environment}
 use Rattle.map_laws.specs.Maps.{Map}
+use Rattle.map_laws.proofs.Joining.{drop_all}
 use Rattle.tsl_values.specs.declared.entry.Given.{Given}
 use Rattle.tsl_values.specs.declared.entry.KeyAt.{KeyAt}
 use Rattle.tsl_values.specs.declared.entry.KeyAt.TheVariants.{Whole, Rest, At}
 use Rattle.tsl_values.specs.declared.entry.Line.{Line}
-use Rattle.value_laws.specs.Abs.{Abs, Parts, cases, no_part, part, parts, parts_onto}
-use Rattle.value_laws.specs.Calls.{join_parts, widen_parts}
+use Rattle.value_laws.specs.Abs.{Abs, Parts, cases, made, no_part, part, parts, parts_onto, word}
 use Rattle.value_laws.proofs.Joining.{same_number}
-use Rattle.cell_laws.specs.Calls.{behind_first, values_rank}
+use Rattle.cell_laws.specs.Calls.{behind_first, made_state, values_rank}
+use Rattle.value_types.specs.OfValues.{one_case}
 use Rattle.domain_laws.specs.declared.field.Field.{Field}
+use Rattle.domain_laws.specs.Entries.{LinesFit}
+use Rattle.domain_laws.specs.States.{field_of, fields_of, is_field}
+use Rattle.cell_laws.specs.Lines.{IsField, OfField}
+use Rattle.cell_laws.proofs.Fields.{fields_told}
+use Rattle.cell_laws.proofs.Lines.{of_field}
 use Rattle.cell_laws.specs.Entry.{entry_value, entry_values, with_cell, with_cells}
-use Rattle.abs_value.proofs.Merging.{parts_onto_more}
+use Rattle.abs_value.proofs.Merging.{drop_here, map_push, parts_onto_more}
+use Rattle.abs_value.proofs.Views.{abs_Data}
 use Rattle.abs_value.specs.View.{abs, case_of}
-use Rattle.abs_value.specs.declared.value.AV.{AV}
+use Rattle.abs_value.specs.declared.value.AV.{AV, Data}
 
 pub small_power : (w : ℕ) → 2 ^ w ≤ 2 ^ 32 → w < 64
 small_power w h = sorted (ltb w 64) refl
@@ -50,39 +63,74 @@ module _ {X W N C : Type 0} where
       of_more [] = refl
       of_more (x ∷ l) = refl
 
-module _ {X W N C : Type 0} (B : Algebra W N C) (c : C) where
-  no_more : (xs ys : List (AV X W N C)) (i : ℕ) → min (length xs) (length ys) ≤ i → min (length (drop i xs)) (length (drop i ys)) ≡ 0
-  no_more xs ys i h = simp length-drop (omega (arith, h))
-
-  -- joining and widening end with the shorter list
-  pub join_ends : (cap : ℕ) (xs ys : List (AV X W N C)) (i : ℕ) → min (length xs) (length ys) ≤ i → join_parts B c cap (parts (map abs (drop i xs))) (parts (map abs (drop i ys))) ≡ no_part
-  join_ends cap xs ys i h = ends (drop i xs) (drop i ys) (no_more xs ys i h)
+  -- the one constructor, present and missing
+  pub one_is : (cs : List (Option (Vec (AV X W N C) Global))) (x : Option (Vec (AV X W N C) Global)) (v : Vec (AV X W N C) Global) (l r : List (AV X W N C)) → length cs ≡ 1 → x ≡ get_or cs 0 x → x ≡ Some v → l ≡ v.items → r ≡ drop 1 l
+      → parts (map abs r) ≡ behind_first (cases (map case_of cs))
+  one_is [] x v l r n is e k h = absurd (omega (arith, n))
+  one_is (y ∷ z ∷ cs) x v l r n is e k h = absurd (omega (arith, n))
+  one_is (y ∷ []) x v l r n is e k h = ap (λ t. parts (map abs t)) (h ∙ ap (drop 1) k) ∙ others v.items ∙ ap (λ t. behind_first (cases (case_of t ∷ []))) (sym e ∙ is)
     where
-      ends : (ps qs : List (AV X W N C)) → min (length ps) (length qs) ≡ 0 → join_parts B c cap (parts (map abs ps)) (parts (map abs qs)) ≡ no_part
-      ends [] qs h = refl
-      ends (p ∷ ps) [] h = refl
-      ends (p ∷ ps) (q ∷ qs) h = absurd (omega arith)
+      others : (vs : List (AV X W N C)) → parts (map abs (drop 1 vs)) ≡ behind_first (cases (Some (parts (map abs vs)) ∷ []))
+      others [] = refl
+      others (w ∷ vs) = refl
 
-  pub widen_ends : (xs ys : List (AV X W N C)) (i : ℕ) → min (length xs) (length ys) ≤ i → widen_parts B c (parts (map abs (drop i xs))) (parts (map abs (drop i ys))) ≡ no_part
-  widen_ends xs ys i h = ends (drop i xs) (drop i ys) (no_more xs ys i h)
-    where
-      ends : (ps qs : List (AV X W N C)) → min (length ps) (length qs) ≡ 0 → widen_parts B c (parts (map abs ps)) (parts (map abs qs)) ≡ no_part
-      ends [] qs h = refl
-      ends (p ∷ ps) [] h = refl
-      ends (p ∷ ps) (q ∷ qs) h = absurd (omega arith)
+  pub none_is : (cs : List (Option (Vec (AV X W N C) Global))) (x : Option (Vec (AV X W N C) Global)) → length cs ≡ 1 → x ≡ get_or cs 0 x → x ≡ None → no_part ≡ behind_first (cases (map case_of cs))
+  none_is [] x n is e = absurd (omega (arith, n))
+  none_is (y ∷ z ∷ cs) x n is e = absurd (omega (arith, n))
+  none_is (y ∷ []) x n is e = ap (λ t. behind_first (cases (case_of t ∷ []))) (sym e ∙ is)
 
 -- ---- one more step of a loop
 pub drop_at : {A : Type 0} (xs : List A) (i : ℕ) (d : A) → i < length xs → drop i xs ≡ get_or xs i d ∷ drop (i + 1) xs
 drop_at xs i d h = rw (add-one, drop-cons xs i d h) refl
 
--- copies behind others
-pub copies_more : {A D : Type 0} (f : A → D) (start : List D) (out out' : List A) (z : A) (xs : List A) (i : ℕ) (x : A) → x ≡ get_or xs i x → i < length xs → out' ≡ out ++ z ∷ [] → f z ≡ f x
-    → map f out ≡ start ++ map f (take i xs) → map f out' ≡ start ++ map f (take (i + 1) xs)
-copies_more f start out out' z xs i x is lt push e h =
-    ap (map f) push ∙ rw (map-append, h, e) refl ∙ append_assoc start (map f (take i xs)) (f x ∷ []) ∙ ap (λ l. start ++ l) (sym last)
+-- one more copy behind others, which may fail
+pub copy_pushed : {A D E : Type 0} (f : A → D) (start : List D) (item : Result A E) (out out' : List A) (xs : List A) (i : ℕ) (x : A) → x ≡ get_or xs i x → i < length xs → IsOkAnd item (λ z. out' ≡ out ++ z ∷ [])
+    → IfOk item (λ z. f z ≡ f x) → map f out ≡ start ++ map f (take i xs) → map f out' ≡ start ++ map f (take (i + 1) xs)
+copy_pushed f start (Ok z) out out' xs i x is lt push e h =
+    ap (map f) push ∙ map_push f out z ∙ ap (λ l. l ++ f z ∷ []) h ∙ append_assoc start (map f (take i xs)) (f z ∷ []) ∙ ap (λ y. start ++ (map f (take i xs) ++ y ∷ [])) e ∙ ap (λ l. start ++ l) (sym last)
   where
     last : map f (take (i + 1) xs) ≡ map f (take i xs) ++ f x ∷ []
     last = rw (add-one, take-suc xs i x lt, map-append, ← is) refl
+copy_pushed f start (Err k) out out' xs i x is lt push e h = absurd push
+
+-- copies behind nothing
+pub copies_alone : {A D E : Type 0} (f : A → D) (room values : List A) (r : Result (Vec A Global) E) → room ≡ [] → IfOk r (λ x. map f x.items ≡ map f room ++ map f values) → IfOk r (λ x. map f x.items ≡ map f values)
+copies_alone f room values (Ok x) e h = h ∙ ap (λ l. map f l ++ map f values) e
+copies_alone f room values (Err k) e h = h
+
+-- a counter and the values behind it
+module _ {X W N C : Type 0} where
+  pub counted : {E D : Type 0} (item : Result (AV X W N C) E) (k : W) (room first values : List (AV X W N C)) (r : Result (Vec (AV X W N C) Global) D) → room ≡ [] → IsOkAnd item (λ x. first ≡ room ++ x ∷ []) → IfOk item (λ x. abs x ≡ word 32 k)
+      → IfOk r (λ v. map abs v.items ≡ map abs first ++ map abs values) → IfOk r (λ v. parts (map abs v.items) ≡ part (word 32 k) (parts (map abs values)))
+  counted (Ok x) k room first values (Ok v) e p d h = ap parts (h ∙ ap (λ l. map abs l ++ map abs values) (p ∙ ap (λ l. l ++ x ∷ []) e) ∙ ap (λ y. y ∷ map abs values) d)
+  counted (Ok x) k room first values (Err z) e p d h = h
+  counted (Err z) k room first values r e p d h = absurd p
+
+  -- the state value of these
+  pub opened_is : (number : ℕ) (k : W) (fields values : List (AV X W N C)) (cs : Vec (Option (Vec (AV X W N C) Global)) Global) → cases (map case_of cs.items) ≡ one_case 1 0 (parts (map abs fields)) → parts (map abs fields) ≡ part (word 32 k) (parts (map abs values))
+      → abs (Data number cs) ≡ made_state number k (parts (map abs values))
+  opened_is number k fields values cs p q = abs_Data number cs ∙ ap (made number) (p ∙ ap (one_case 1 0) q)
+
+-- the field at a place, and the lines of it
+module _ (fields : List Field) (i : ℕ) (d : Field) (lt : i < length fields) where
+  pub field_right : list_all is_field fields ≡ true → IsField (get_or fields i d)
+  field_right h = each_get IsField fields i d lt (fields_told fields h)
+
+  pub field_lines : (lines : List Line) → LinesFit fields lines → OfField (i + 1) (get_or fields i d) lines
+  field_lines lines fit = subst (λ n. OfField n (get_or fields i d) lines) (next i) (of_field fields lines fit i (get_or fields i d) (slice_get-get_or fields i d lt))
+    where
+      next : (n : ℕ) → suc n ≡ n + 1
+      next n = omega arith
+
+-- the field of one more type
+module _ (env : Environment) (fields : List (List ℕ × Ty)) (i : ℕ) (x : List ℕ × Ty) (lt : i < length fields) (is : x ≡ get_or fields i x) where
+  pub next_right : list_all is_field (fields_of env (map (λ f. f.1) (drop i fields))) ≡ true → (is_field (field_of env x.1) ≡ true) × (list_all is_field (fields_of env (map (λ f. f.1) (drop (i + 1) fields))) ≡ true)
+  next_right h = and_parts (is_field (field_of env x.1)) (list_all is_field (fields_of env (map (λ f. f.1) (drop (i + 1) fields)))) (subst (λ l. list_all is_field (fields_of env (map (λ f. f.1) l)) ≡ true) (drop_here fields i x is lt) h)
+
+  pub next_field : (out new all : List Field) → new ≡ out ++ field_of env x.1 ∷ [] → out ++ fields_of env (map (λ f. f.1) (drop i fields)) ≡ all → new ++ fields_of env (map (λ f. f.1) (drop (i + 1) fields)) ≡ all
+  next_field out new all n h =
+      ap (λ l. l ++ fields_of env (map (λ f. f.1) (drop (i + 1) fields))) n ∙ append_assoc out (field_of env x.1 ∷ []) (fields_of env (map (λ f. f.1) (drop (i + 1) fields)))
+      ∙ ap (λ l. out ++ fields_of env (map (λ f. f.1) l)) (sym (drop_here fields i x is lt)) ∙ h
 
 module _ {W N C : Type 0} (B : Algebra W N C) (c : C) (cap : ℕ) (lines : List Line) where
   -- the value of one more field
@@ -100,20 +148,42 @@ module _ {W N C : Type 0} (B : Algebra W N C) (c : C) (cap : ℕ) (lines : List 
       next : (n : ℕ) → n + 1 ≡ suc n
       next n = omega arith
 
+-- the same of a value that may fail
+module _ {X W N C : Type 0} (B : Algebra W N C) (c : C) (cap : ℕ) (lines : List Line) where
+  pub entry_pushed : {E : Type 0} (item : Result (AV X W N C) E) (fields : List Field) (i : ℕ) (d : Field) (out out' : List (AV X W N C)) (whole : Parts W N) → i < length fields → IsOkAnd item (λ z. out' ≡ out ++ z ∷ [])
+      → IfOk item (λ z. abs z ≡ entry_value B c cap lines (i + 1) (get_or fields i d)) → parts_onto (map abs out) (entry_values B c cap lines (i + 1) (drop i fields)) ≡ whole
+      → parts_onto (map abs out') (entry_values B c cap lines ((i + 1) + 1) (drop (i + 1) fields)) ≡ whole
+  entry_pushed (Ok z) fields i d out out' whole lt push e h = entry_more B c cap lines fields i d (map abs out) (map abs out') (abs z) whole lt (ap (map abs) push ∙ map_push (λ v. abs v) out z) e h
+  entry_pushed (Err k) fields i d out out' whole lt push e h = absurd push
+
+  pub entry_ends : (fields : List Field) (i : ℕ) (out : List (AV X W N C)) (whole : Parts W N) → length fields ≤ i → parts_onto (map abs out) (entry_values B c cap lines (i + 1) (drop i fields)) ≡ whole → parts (map abs out) ≡ whole
+  entry_ends fields i out whole past h = ap (λ fs. parts_onto (map abs out) (entry_values B c cap lines (i + 1) fs)) (sym (drop_all i fields past)) ∙ h
+
 module _ {W N C : Type 0} (B : Algebra W N C) (c : C) (cap n : ℕ) where
   pub same_width : (key : KeyAt) (g : Given) (m : Map W N) → (with_cell B c cap key g m).width ≡ m.width
   same_width Whole g m = refl
   same_width Rest g m = refl
   same_width (At k) g m = refl
 
+  -- one line, of another field and of this one
+  pub line_other : (l : Line) (m : Map W N) → (l.field ≡ n → ⊥) → m ≡ with_cells B c cap n (l ∷ []) m
+  line_other l m h = ap (λ t. cond t (with_cell B c cap l.key l.given m) m) (sym (ne_eqb l.field n h))
+
+  pub line_here : (l : Line) (m next : Map W N) (key : KeyAt) → l.field ≡ n → l.key ≡ key → next ≡ with_cell B c cap key l.given m → next ≡ with_cells B c cap n (l ∷ []) m
+  line_here l m next key e is h = h ∙ ap (λ k. with_cell B c cap k l.given m) (sym is) ∙ ap (λ t. cond t (with_cell B c cap l.key l.given m) m) (sym (same_number l.field n e))
+
+  pub line_width : (l : Line) (m : Map W N) → (with_cells B c cap n (l ∷ []) m).width ≡ m.width
+  line_width l m = by_test (l.field == n)
+    where
+      by_test : (t : Bool) → (cond t (with_cell B c cap l.key l.given m) m).width ≡ m.width
+      by_test true = same_width l.key l.given m
+      by_test false = refl
+
   -- the line in front of those that were read
-  pub named : (lines : List Line) (base m next : Map W N) (left : ℕ) (d : Line) → 0 < left → left ≤ length lines → (get_or lines (left - 1) d).field ≡ n
-      → m ≡ with_cells B c cap n (drop left lines) base → next ≡ with_cell B c cap (get_or lines (left - 1) d).key (get_or lines (left - 1) d).given m
+  pub named : (lines : List Line) (base m next : Map W N) (left : ℕ) (d : Line) → 0 < left → left ≤ length lines → m ≡ with_cells B c cap n (drop left lines) base → next ≡ with_cells B c cap n (get_or lines (left - 1) d ∷ []) m
       → next ≡ with_cells B c cap n (drop (left - 1) lines) base
-  named lines base m next left d some most e before made =
-      made
-      ∙ ap (with_cell B c cap (get_or lines (left - 1) d).key (get_or lines (left - 1) d).given) (before ∙ ap (λ k. with_cells B c cap n (drop k lines) base) (again left some))
-      ∙ ap (λ t. cond t (with_cell B c cap (get_or lines (left - 1) d).key (get_or lines (left - 1) d).given (with_cells B c cap n (drop (left - 1 + 1) lines) base)) (with_cells B c cap n (drop (left - 1 + 1) lines) base)) (sym (same_number (get_or lines (left - 1) d).field n e))
+  named lines base m next left d some most before h =
+      h ∙ ap (λ x. with_cells B c cap n (get_or lines (left - 1) d ∷ []) x) (before ∙ ap (λ k. with_cells B c cap n (drop k lines) base) (again left some))
       ∙ ap (λ l. with_cells B c cap n l base) (sym (drop_at lines (left - 1) d (omega (arith, some, most))))
     where
       again : (k : ℕ) → 0 < k → k ≡ k - 1 + 1

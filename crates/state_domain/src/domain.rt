@@ -3,7 +3,7 @@
 use crate::entry::entry_values;
 use crate::fields::{fields_of, state_number};
 use crate::states::{closed, opened};
-use crate::values::{absorbed, joined, push_copies, ranked, widened};
+use crate::values::{absorbed, copies, joined, ranked, widened};
 use abs_value::AV;
 use base_trait::Base;
 use domain_laws::Field;
@@ -122,8 +122,6 @@ impl<B: Base> Domain for StateDomain<B> {
     }
 
     fn copy(&self, alloc: Global, x: &Vec<AV<B>>) -> Result<Vec<AV<B>>, NoMemory> {
-        let mut out = Vec::with_capacity(alloc, x.len())?;
-        push_copies(alloc, &self.ctx, &mut out, x)?;
-        Ok(out)
+        copies(alloc, &self.ctx, x)
     }
 }

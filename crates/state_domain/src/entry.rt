@@ -1,10 +1,11 @@
 //! The element of an entry.
 
-ghost use Rattle.std.specs.Prelude.{◌≡◌, IfOk, map, true};
+ghost use Rattle.std.specs.Prelude.{◌≡◌, ◌<◌, ◌^◌, ◌∷◌, [], IfOk, map, true};
 ghost use Rattle.std.specs.List.{list_all};
 ghost use Rattle.word_ops.specs.Width.{IsWidth};
 ghost use Rattle.map_laws.specs.Maps.{Fits};
 ghost use Rattle.meaning.specs.Entries as meaning;
+ghost use Rattle.value_laws.specs.Abs as plain;
 ghost use Rattle.value_laws.specs.Abs.{parts};
 ghost use Rattle.domain_laws.specs.Entries.{GivenFits, LinesFit};
 ghost use Rattle.domain_laws.specs.States.{is_field};
@@ -12,12 +13,17 @@ ghost use Rattle.cell_laws.specs.Entry as cells;
 ghost use Rattle.cell_laws.specs.Lines.{IsField, KeyFits, OfField, OfKeys};
 ghost use Rattle.abs_value.specs.View.{abs};
 
+use crate::growth::pushed;
 use abs_map::{AMap, KeySet};
 use abs_value::AV;
 use base_trait::Base;
 use domain_laws::Field;
+use map_laws::Cell;
 use std::alloc::{AllocError as NoMemory, Global};
 use tsl_values::{Given, KeyAt, Line};
+
+/// A cell of words and notes of a base.
+type CellOf<B> = Cell<<B as Base>::Word, <B as Base>::Note>;
 
 /// Whether both are one part of a field.
 pub fn is_key(x: KeyAt, y: KeyAt) -> bool
@@ -76,6 +82,36 @@ fn word_of<B: Base>(alloc: Global, ctx: &B::Ctx, w: u32, given: Given) -> Result
     }
 }
 
+/// The cell of what is given, which no instruction has written.
+fn cell_of<B: Base>(
+    alloc: Global,
+    ctx: &B::Ctx,
+    w: u32,
+    given: Given,
+) -> Result<CellOf<B>, NoMemory>
+    requires width { IsWidth w }
+    requires given { GivenFits w given }
+    ensures value { IfOk result (λ r. r ≡ cells.given_cell B.algebra ctx.now w given) }
+    ensures fits { IfOk result (λ r. B.algebra.words.fits ctx.now w r.word) }
+{
+    let note = B::entry_note(alloc)?;
+    Ok(Cell {
+        word: word_of::<B>(alloc, ctx, w, given)?,
+        note,
+    })
+}
+
+/// The map that has what is given at each key.
+fn map_of<B: Base>(alloc: Global, ctx: &B::Ctx, w: u32, given: Given) -> Result<AMap<B>, NoMemory>
+    requires width { IsWidth w }
+    requires given { GivenFits w given }
+    ensures value { IfOk result (λ r. r ≡ cells.map_of B.algebra ctx.now w given) }
+    ensures fits { IfOk result (λ r. Fits B.algebra ctx.now B.CAP r) }
+{
+    let cell = cell_of::<B>(alloc, ctx, w, given)?;
+    AMap::new(alloc, ctx, w, cell.word, cell.note)
+}
+
 /// The map of what lines give of a field: each key that none of them names has the rest.
 fn entry_map<B: Base>(
     alloc: Global,
@@ -90,37 +126,86 @@ fn entry_map<B: Base>(
     requires lines { OfKeys field w lines.now }
     ensures { IfOk result (λ r. r ≡ cells.with_cells B.algebra ctx.now B.CAP field lines.now (cells.map_of B.algebra ctx.now w rest)) }
 {
-    let word = word_of::<B>(alloc, ctx, w, rest)?;
-    let mut m: AMap<B> = AMap::new(alloc, ctx, w, word, B::entry_note(alloc)?)?;
+    let mut m = map_of(alloc, ctx, w, rest)?;
     let mut left = lines.len();
     while left > 0 {
         left -= 1;
-        let line = lines[left];
-        if u64::from(line.field) == field {
-            m = with_cell(alloc, ctx, line.key, line.given, m)?;
-        }
+        m = with_line(alloc, ctx, field, &lines[left], m)?;
     }
     Ok(m)
 }
 
-/// The map with the cell that a line names, if it names one.
-fn with_cell<B: Base>(
+/// The map with the cell that a line names, if it names one of this field.
+fn with_line<B: Base>(
     alloc: Global,
     ctx: &B::Ctx,
-    key: KeyAt,
-    given: Given,
+    field: u64,
+    line: &Line,
     m: AMap<B>,
 ) -> Result<AMap<B>, NoMemory>
     requires map { Fits B.algebra ctx.now B.CAP m }
-    requires key { KeyFits m.width key given }
-    ensures value { IfOk result (λ r. r ≡ cells.with_cell B.algebra ctx.now B.CAP key given m) }
+    requires key { line.now.field ≡ field → KeyFits m.width line.now.key line.now.given }
+    ensures value { IfOk result (λ r. r ≡ cells.with_cells B.algebra ctx.now B.CAP field (line.now ∷ []) m) }
     ensures fits { IfOk result (λ r. Fits B.algebra ctx.now B.CAP r) }
 {
-    let KeyAt::At(k) = key else {
+    if u64::from(line.field) != field {
         return Ok(m);
-    };
-    let word = word_of::<B>(alloc, ctx, m.width(), given)?;
-    m.update(alloc, ctx, &KeySet::One(k), &word, &B::entry_note(alloc)?)
+    }
+    match line.key {
+        KeyAt::At(key) => with_cell(alloc, ctx, key, line.given, &m),
+        KeyAt::Whole | KeyAt::Rest => Ok(m),
+    }
+}
+
+/// The map with what is given at a key.
+fn with_cell<B: Base>(
+    alloc: Global,
+    ctx: &B::Ctx,
+    key: u64,
+    given: Given,
+    m: &AMap<B>,
+) -> Result<AMap<B>, NoMemory>
+    requires map { Fits B.algebra ctx.now B.CAP m.now }
+    requires key { key < 2 ^ 32 }
+    requires given { GivenFits m.now.width given }
+    ensures value { IfOk result (λ r. r ≡ cells.with_cell B.algebra ctx.now B.CAP (KeyAt.At key) given m.now) }
+    ensures fits { IfOk result (λ r. Fits B.algebra ctx.now B.CAP r) }
+{
+    let cell = cell_of::<B>(alloc, ctx, m.width(), given)?;
+    m.update(alloc, ctx, &KeySet::One(key), &cell.word, &cell.note)
+}
+
+/// The value of a word.
+fn word_value<B: Base>(alloc: Global, ctx: &B::Ctx, w: u32, given: Given) -> Result<AV<B>, NoMemory>
+    requires width { IsWidth w }
+    requires given { GivenFits w given }
+    ensures { IfOk result (λ r. abs r ≡ plain.word w (cells.given B.algebra ctx.now w given)) }
+{
+    Ok(AV::Word {
+        w,
+        x: word_of::<B>(alloc, ctx, w, given)?,
+    })
+}
+
+/// The value of a map.
+fn map_value<B: Base>(
+    alloc: Global,
+    ctx: &B::Ctx,
+    map: u32,
+    field: u64,
+    w: u32,
+    rest: Given,
+    lines: &[Line],
+) -> Result<AV<B>, NoMemory>
+    requires width { IsWidth w }
+    requires rest { GivenFits w rest }
+    requires lines { OfKeys field w lines.now }
+    ensures { IfOk result (λ r. abs r ≡ plain.map map (cells.with_cells B.algebra ctx.now B.CAP field lines.now (cells.map_of B.algebra ctx.now w rest))) }
+{
+    Ok(AV::Map {
+        map,
+        m: entry_map(alloc, ctx, field, w, rest, lines)?,
+    })
 }
 
 /// The value of a field.
@@ -136,13 +221,7 @@ fn entry_value<B: Base>(
     ensures { IfOk result (λ r. abs r ≡ cells.entry_value B.algebra ctx.now B.CAP lines.now number field) }
 {
     match field {
-        Field::Word { w } => {
-            let given = given_word(lines, number);
-            Ok(AV::Word {
-                w,
-                x: word_of::<B>(alloc, ctx, w, given)?,
-            })
-        }
+        Field::Word { w } => word_value(alloc, ctx, w, given_word(lines, number)),
         Field::Map {
             map,
             keys: _keys,
@@ -150,10 +229,7 @@ fn entry_value<B: Base>(
             default,
         } => {
             let rest = given_rest(lines, number, default);
-            Ok(AV::Map {
-                map,
-                m: entry_map(alloc, ctx, number, width, rest, lines)?,
-            })
+            map_value(alloc, ctx, map, number, width, rest, lines)
         }
     }
 }
@@ -171,7 +247,7 @@ pub(crate) fn entry_values<B: Base>(
 {
     let mut out = Vec::with_capacity(alloc, fields.len())?;
     for i in 0..fields.len() {
-        out.push(entry_value(alloc, ctx, i as u64 + 1, fields[i], lines)?)?;
+        out = pushed(out, entry_value(alloc, ctx, i as u64 + 1, fields[i], lines))?;
     }
     Ok(out)
 }

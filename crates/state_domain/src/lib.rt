@@ -13,6 +13,7 @@
 mod domain;
 mod entry;
 mod fields;
+mod growth;
 mod states;
 mod values;
 

@@ -6,8 +6,9 @@ ghost use Rattle.value_laws.specs.Abs.{parts};
 ghost use Rattle.cell_laws.specs.Calls.{behind_first, fields_of, made_state};
 ghost use Rattle.abs_value.specs.View.{abs, case_of};
 
-use crate::values::push_copies;
-use abs_value::AV;
+use crate::growth::pushed;
+use crate::values::{copied_behind, copies};
+use abs_value::{AV, one_case};
 use base_trait::Base;
 use std::alloc::{AllocError as NoMemory, Global};
 
@@ -21,15 +22,32 @@ pub(crate) fn opened<B: Base>(
 ) -> Result<AV<B>, NoMemory>
     ensures { IfOk result (λ r. abs r ≡ made_state number (B.algebra.words.constant ctx.now 32 pc) (parts (map abs values.now))) }
 {
-    let mut fields = Vec::with_capacity(alloc, values.len())?;
-    fields.push(AV::Word {
+    let fields = with_counter(alloc, ctx, pc, values)?;
+    let cases = one_case(alloc, 1, 0, fields)?;
+    Ok(AV::Data { ty: number, cases })
+}
+
+/// The value of a counter, and these values behind it.
+fn with_counter<B: Base>(
+    alloc: Global,
+    ctx: &B::Ctx,
+    pc: u32,
+    values: &[AV<B>],
+) -> Result<Vec<AV<B>>, NoMemory>
+    ensures { IfOk result (λ r. parts (map abs r.items) ≡ plain.part (plain.word 32 (B.algebra.words.constant ctx.now 32 pc)) (parts (map abs values.now))) }
+{
+    let room = Vec::with_capacity(alloc, values.len())?;
+    let first = pushed(room, counter(alloc, ctx, pc))?;
+    copied_behind(alloc, ctx, first, values)
+}
+
+/// The value of a counter.
+fn counter<B: Base>(alloc: Global, ctx: &B::Ctx, pc: u32) -> Result<AV<B>, NoMemory>
+    ensures { IfOk result (λ r. abs r ≡ plain.word 32 (B.algebra.words.constant ctx.now 32 pc)) }
+{
+    Ok(AV::Word {
         w: 32,
         x: B::constant(alloc, ctx, 32, u64::from(pc))?,
-    })?;
-    push_copies(alloc, ctx, &mut fields, values)?;
-    Ok(AV::Data {
-        ty: number,
-        cases: vec![in alloc; Some(fields)]?,
     })
 }
 
@@ -41,9 +59,7 @@ pub(crate) fn closed<B: Base>(
 ) -> Result<Vec<AV<B>>, NoMemory>
     ensures { IfOk result (λ r. parts (map abs r.items) ≡ fields_of (abs value.now)) }
 {
-    let mut out = Vec::new(alloc);
-    push_copies(alloc, ctx, &mut out, behind_counter(value))?;
-    Ok(out)
+    copies(alloc, ctx, behind_counter(value))
 }
 
 /// The fields of a state value behind the counter; none of another value.

@@ -1,29 +1,41 @@
 //! Lists of values, one by one.
 
-ghost use Rattle.std.specs.Prelude.{◌≡◌, ◌++◌, ◌-◌, ◌^◌, IfOk, OnOk, map, min};
+ghost use Rattle.std.specs.Prelude.{◌≡◌, ◌++◌, ◌-◌, ◌^◌, IfOk, map, min};
 ghost use Rattle.value_laws.specs.Abs.{parts};
 ghost use Rattle.value_laws.specs.Calls.{absorbs_parts, join_parts, widen_parts};
 ghost use Rattle.value_laws.specs.Fits.{PartsFit};
 ghost use Rattle.cell_laws.specs.Calls.{values_rank};
 ghost use Rattle.abs_value.specs.View.{abs};
 
+use crate::growth::pushed;
 use abs_value::AV;
 use base_trait::Base;
 use std::alloc::{AllocError as NoMemory, Global};
 
-/// The same values once more, behind others.
-pub(crate) fn push_copies<B: Base>(
+/// The same values once more.
+pub(crate) fn copies<B: Base>(
     alloc: Global,
     ctx: &B::Ctx,
-    out: &mut Vec<AV<B>>,
     values: &[AV<B>],
-) -> Result<(), NoMemory>
-    ensures { OnOk result (map abs out.new.items ≡ map abs out.old.items ++ map abs values.now) }
+) -> Result<Vec<AV<B>>, NoMemory>
+    ensures { IfOk result (λ r. map abs r.items ≡ map abs values.now) }
+{
+    copied_behind(alloc, ctx, Vec::with_capacity(alloc, values.len())?, values)
+}
+
+/// The same values once more, behind others.
+pub(crate) fn copied_behind<B: Base>(
+    alloc: Global,
+    ctx: &B::Ctx,
+    mut out: Vec<AV<B>>,
+    values: &[AV<B>],
+) -> Result<Vec<AV<B>>, NoMemory>
+    ensures { IfOk result (λ r. map abs r.items ≡ map abs out.items ++ map abs values.now) }
 {
     for value in values {
-        out.push(value.copy(alloc, ctx)?)?;
+        out = pushed(out, value.copy(alloc, ctx))?;
     }
-    Ok(())
+    Ok(out)
 }
 
 /// The joins of the values of two lists, as many as both have.
@@ -39,7 +51,7 @@ pub(crate) fn joined<B: Base>(
 {
     let mut out = Vec::with_capacity(alloc, xs.len())?;
     for i in 0..xs.len().min(ys.len()) {
-        out.push(xs[i].join(alloc, ctx, &ys[i])?)?;
+        out = pushed(out, xs[i].join(alloc, ctx, &ys[i]))?;
     }
     Ok(out)
 }
@@ -57,7 +69,7 @@ pub(crate) fn widened<B: Base>(
 {
     let mut out = Vec::with_capacity(alloc, olds.len())?;
     for i in 0..olds.len().min(news.len()) {
-        out.push(olds[i].widen(alloc, ctx, &news[i])?)?;
+        out = pushed(out, olds[i].widen(alloc, ctx, &news[i]))?;
     }
     Ok(out)
 }

@@ -1,16 +1,56 @@
-use Rattle.std.proofs.Common.{map, ap, subst, sym}
+use Rattle.std.proofs.Common.{map}
+use Rattle.std.proofs.lemmas.List.Elements.{All-nil}
 use Rattle.base_trait.specs.Uses.{uses_of}
+use Rattle.value_laws.specs.Fits.{Fits}
 use Rattle.abs_value.specs.View.{abs}
 use Rattle.call_answers.specs.Answers.{answers}
-use Rattle.reinterpretation.specs.Answers.{behind}
-use Rattle.eval_memo.specs.Given.{Gives}
-use Rattle.eval_memo.proofs.Answering.{err_is, passed}
+use Rattle.eval_memo.proofs.Growth.{grown_itself}
+use Rattle.generic_eval.proofs.Starting.{alone_failed, alone_gave, is_there, no_function, not_there}
 use Rattle.generic_eval.proofs.evaluation.alone.Goals as goal
 
-pub returns-in_err-value-clause-value : goal.returns-in_err-value-clause-value
-returns-in_err-value-clause-value g c =
+pub returns-then-function-len-clause-value : goal.returns-then-function-len-clause-value
+returns-then-function-len-clause-value g c =
     let s = c.args.setting.now in
-    let l = uses_of c.args.log.now in
-    let gave = answers g.B.Base.algebra s.ctx.now g.B.Base.CAP g.K.Specified.spec g.K.Placed.at g.K.Placed.policy c.args.function (map abs c.args.args.items) in
-    let er = c.in_err-value.field-0.0 in
-    subst (λ r. Gives (abs {X = g.row.B.Denot} {W = g.row.B-Word.Denot} {N = g.row.B-Note.Denot} {C = g.row.B-Ctx.Denot}) r l (behind l gave)) (sym (err_is c.from_residual.result er c.from_residual.ensures)) (passed (abs {X = g.row.B.Denot} {W = g.row.B-Word.Denot} {N = g.row.B-Note.Denot} {C = g.row.B-Ctx.Denot}) (abs {X = g.row.B.Denot} {W = g.row.B-Word.Denot} {N = g.row.B-Note.Denot} {C = g.row.B-Ctx.Denot}) er (uses_of c.activation.new.own) l gave (behind l gave) c.in_err-value.ensures.value (λ i e. ap (behind l) e))
+    no_function g.B.Base.algebra s.ctx.now g.B.Base.CAP g.K.Specified.spec g.K.Placed.at g.K.Placed.policy c.args.function (map abs c.args.args.items) (uses_of c.args.log.now)
+    (not_there s g.K.Specified.spec c.len.result c.args.function c.requires.ready.spec_is c.len.ensures c.if-function-len.true)
+
+pub returns-then-function-len-clause-fits : goal.returns-then-function-len-clause-fits
+returns-then-function-len-clause-fits g c = tt
+
+pub returns-then-function-len-clause-grown : goal.returns-then-function-len-clause-grown
+returns-then-function-len-clause-grown g c = grown_itself (uses_of c.args.log.now)
+
+pub activation-requires-clause-known : goal.activation-requires-clause-known
+activation-requires-clause-known g c = record { ready = c.requires.ready; fits = All-nil (λ v. Fits g.B.Base.algebra c.args.setting.now.ctx.now g.B.Base.CAP (abs v)); memo = c.requires.memo }
+
+pub activation-requires-clause-there : goal.activation-requires-clause-there
+activation-requires-clause-there g c = is_there c.args.setting.now c.len.result c.args.function c.len.ensures c.if-function-len.false
+
+pub activation-requires-clause-args : goal.activation-requires-clause-args
+activation-requires-clause-args g c = c.requires.args
+
+pub activation-requires-clause-own : goal.activation-requires-clause-own
+activation-requires-clause-own g c = c.new-own.ensures
+
+pub returns-in-Err-clause-value : goal.returns-in-Err-clause-value
+returns-in-Err-clause-value g c =
+    let gave = answers g.B.Base.algebra c.args.setting.now.ctx.now g.B.Base.CAP g.K.Specified.spec g.K.Placed.at g.K.Placed.policy c.args.function (map abs c.args.args.items) in
+    alone_failed g.row.B.Denot g.row.B-Word.Denot g.row.B-Note.Denot g.row.B-Ctx.Denot c.in-Err.error (uses_of c.args.log.now) (uses_of c.activation.new.own) gave c.in-Err.ensures.value
+
+pub returns-in-Err-clause-fits : goal.returns-in-Err-clause-fits
+returns-in-Err-clause-fits g c = tt
+
+pub returns-in-Err-clause-grown : goal.returns-in-Err-clause-grown
+returns-in-Err-clause-grown g c = grown_itself (uses_of c.args.log.now)
+
+pub returns-in_ok-read-in-Ok-clause-value : goal.returns-in_ok-read-in-Ok-clause-value
+returns-in_ok-read-in-Ok-clause-value g c =
+    let gave = answers g.B.Base.algebra c.args.setting.now.ctx.now g.B.Base.CAP g.K.Specified.spec g.K.Placed.at g.K.Placed.policy c.args.function (map abs c.args.args.items) in
+    alone_gave g.row.B.Denot g.row.B-Word.Denot g.row.B-Note.Denot g.row.B-Ctx.Denot c.in-Ok.value c.in_ok-read-in-Ok.field-0 (uses_of c.args.log.now) (uses_of c.activation.new.own) (uses_of c.read.new.log) gave
+    c.in-Ok.ensures.value c.in_ok-read-in-Ok.ensures.value c.in_ok-read-in-Ok.ensures.log
+
+pub returns-in_ok-read-in-Ok-clause-grown : goal.returns-in_ok-read-in-Ok-clause-grown
+returns-in_ok-read-in-Ok-clause-grown g c = c.read.ensures.grown
+
+pub returns-in_err-read-in-Ok-clause-grown : goal.returns-in_err-read-in-Ok-clause-grown
+returns-in_err-read-in-Ok-clause-grown g c = c.read.ensures.grown

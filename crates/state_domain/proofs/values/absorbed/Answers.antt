@@ -1,39 +1,44 @@
-use Rattle.std.proofs.Common.{sym, arith}
+use Rattle.std.proofs.Common.{◌<◌, map, subst}
+use Rattle.value_laws.specs.Abs.{parts}
+use Rattle.value_laws.specs.Calls.{absorbs_parts}
+use Rattle.abs_value.specs.View.{abs}
 use Rattle.abs_value.proofs.Absorption.{parts_both}
-use Rattle.abs_value.proofs.Both.{off, on, uneven}
-use Rattle.abs_value.proofs.Merging.{drop_here}
+use Rattle.abs_value.proofs.Both.{ended, failed, passed, uneven}
+use Rattle.abs_value.proofs.Merging.{parts_fit_here}
 use Rattle.state_domain.proofs.values.absorbed.Goals as goal
 
 pub returns-then-olds-news : goal.returns-then-olds-news
 returns-then-olds-news g c = uneven (parts_both g.B.Base.algebra c.args.ctx.now) c.args.olds.now c.args.news.now c.if-olds-news.true
 
 pub absorbs-requires-clause-old : goal.absorbs-requires-clause-old
-absorbs-requires-clause-old g c =
-    let ex = drop_here c.args.olds.now c.loop-i.i c.index-olds-i.result c.index-olds-i.is c.loop-i-test.true in
-    let h = rw ex at c.loop-i.invariant.first in
-    h.0
+absorbs-requires-clause-old g c = (parts_fit_here g.B.Base.algebra c.args.ctx.now g.B.Base.CAP c.args.olds.now c.loop-i.i c.index-olds-i.result c.index-olds-i.is c.loop-i-test.true c.loop-i.invariant.first).0
 
 pub absorbs-requires-clause-new : goal.absorbs-requires-clause-new
 absorbs-requires-clause-new g c =
-    let ey = drop_here c.args.news.now c.loop-i.i c.index-news-i.result c.index-news-i.is (omega (arith, c.loop-i.invariant.lengths, c.loop-i-test.true)) in
-    let h = rw ey at c.loop-i.invariant.second in
-    h.0
+    (parts_fit_here g.B.Base.algebra c.args.ctx.now g.B.Base.CAP c.args.news.now c.loop-i.i c.index-news-i.result c.index-news-i.is (subst (λ n. c.loop-i.i < n) c.loop-i.invariant.lengths c.loop-i-test.true) c.loop-i.invariant.second).0
 
 pub returns-then-not-absorbs : goal.returns-then-not-absorbs
 returns-then-not-absorbs g c =
-    off (parts_both g.B.Base.algebra c.args.ctx.now) c.args.olds.now c.args.news.now c.loop-i.i c.index-olds-i.result c.index-news-i.result _ c.loop-i-test.true
-    (omega (arith, c.loop-i.invariant.lengths, c.loop-i-test.true)) c.index-olds-i.is c.index-news-i.is (sym c.if-not-absorbs.ensures) c.loop-i.invariant.whole
+    let b = g.B.Base.algebra in
+    let ctx = c.args.ctx.now in
+    failed (parts_both b ctx) c.args.olds.now c.args.news.now c.loop-i.i c.index-olds-i.result c.index-news-i.result (absorbs_parts b ctx (parts (map abs c.args.olds.now)) (parts (map abs c.args.news.now))) c.loop-i.invariant.lengths c.loop-i-test.true c.index-olds-i.is c.index-news-i.is
+    c.if-not-absorbs.ensures c.loop-i.invariant.whole
 
 pub loop-i-preserved : goal.loop-i-preserved
 loop-i-preserved g c =
-    let ex = drop_here c.args.olds.now c.loop-i.i c.index-olds-i.result c.index-olds-i.is c.loop-i-test.true in
-    let ey = drop_here c.args.news.now c.loop-i.i c.index-news-i.result c.index-news-i.is (omega (arith, c.loop-i.invariant.lengths, c.loop-i-test.true)) in
-    let first = rw ex at c.loop-i.invariant.first in
-    let second = rw ey at c.loop-i.invariant.second in
+    let b = g.B.Base.algebra in
+    let ctx = c.args.ctx.now in
+    let cap = g.B.Base.CAP in
     record {
       lengths = c.loop-i.invariant.lengths;
-      whole = on (parts_both g.B.Base.algebra c.args.ctx.now) c.args.olds.now c.args.news.now c.loop-i.i c.index-olds-i.result c.index-news-i.result _ c.loop-i-test.true
-          (omega (arith, c.loop-i.invariant.lengths, c.loop-i-test.true)) c.index-olds-i.is c.index-news-i.is (sym c.if-not-absorbs.ensures) c.loop-i.invariant.whole;
-      first = first.1;
-      second = second.1;
+      whole = passed (parts_both b ctx) c.args.olds.now c.args.news.now c.loop-i.i c.index-olds-i.result c.index-news-i.result (absorbs_parts b ctx (parts (map abs c.args.olds.now)) (parts (map abs c.args.news.now))) c.loop-i.invariant.lengths c.loop-i-test.true c.index-olds-i.is c.index-news-i.is
+          c.if-not-absorbs.ensures c.loop-i.invariant.whole;
+      first = (parts_fit_here b ctx cap c.args.olds.now c.loop-i.i c.index-olds-i.result c.index-olds-i.is c.loop-i-test.true c.loop-i.invariant.first).1;
+      second = (parts_fit_here b ctx cap c.args.news.now c.loop-i.i c.index-news-i.result c.index-news-i.is (subst (λ n. c.loop-i.i < n) c.loop-i.invariant.lengths c.loop-i-test.true) c.loop-i.invariant.second).1;
     }
+
+pub returns : goal.returns
+returns g c =
+    let b = g.B.Base.algebra in
+    let ctx = c.args.ctx.now in
+    ended (parts_both b ctx) c.args.olds.now c.args.news.now c.loop-i.i (absorbs_parts b ctx (parts (map abs c.args.olds.now)) (parts (map abs c.args.news.now))) c.loop-i.invariant.lengths c.loop-i-test.false c.loop-i.invariant.whole

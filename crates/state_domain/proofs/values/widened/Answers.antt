@@ -1,22 +1,41 @@
-use Rattle.std.proofs.Common.{◌≡◌, ◌≤◌, ◌∷◌, ◌++◌, [], map, length, min, ap, sym, ◌∙◌, rules, arith}
-use Rattle.std.proofs.lemmas.List.{map-append}
-use Rattle.value_laws.specs.Abs.{parts_onto}
-use Rattle.value_laws.specs.Calls.{widen_of}
+use Rattle.std.proofs.Common.{length, map}
+use Rattle.map_laws.specs.Calls.{widen_of as widen_map}
+use Rattle.value_laws.specs.Abs.{parts}
+use Rattle.value_laws.specs.Calls.{widen_parts}
 use Rattle.abs_value.specs.View.{abs}
-use Rattle.abs_value.proofs.Merging.{drop_here, parts_onto_more}
-use Rattle.state_domain.proofs.Lists.{widen_ends}
+use Rattle.abs_value.proofs.Merging.{below_min, parts_done, parts_fit_here, parts_pushed}
 use Rattle.state_domain.proofs.values.widened.Goals as goal
+
+pub widen-requires-clause-old : goal.widen-requires-clause-old
+widen-requires-clause-old g c =
+    let below = below_min c.loop-i.i c.min-i-end.result (length c.args.olds.now) (length c.args.news.now) c.loop-i-test.true c.min-i-end.ensures in
+    (parts_fit_here g.B.Base.algebra c.args.ctx.now g.B.Base.CAP c.args.olds.now c.loop-i.i c.index-olds-i.result c.index-olds-i.is below.0 c.loop-i.invariant.first).0
+
+pub widen-requires-clause-new : goal.widen-requires-clause-new
+widen-requires-clause-new g c =
+    let below = below_min c.loop-i.i c.min-i-end.result (length c.args.olds.now) (length c.args.news.now) c.loop-i-test.true c.min-i-end.ensures in
+    (parts_fit_here g.B.Base.algebra c.args.ctx.now g.B.Base.CAP c.args.news.now c.loop-i.i c.index-news-i.result c.index-news-i.is below.1 c.loop-i.invariant.second).0
 
 pub loop-i-preserved : goal.loop-i-preserved
 loop-i-preserved g c =
-    let ex = drop_here c.args.olds.now c.loop-i.i c.index-olds-i.result c.index-olds-i.is (omega arith) in
-    let ey = drop_here c.args.news.now c.loop-i.i c.index-news-i.result c.index-news-i.is (omega arith) in
-    let h = rw ey at (rw ex at c.loop-i.invariant) in
-    let more : c.push.new.self.items ≡ c.loop-i.out.items ++ c.in_ok-widen.field-0 ∷ [] = search rules in
-    let here : abs c.in_ok-widen.field-0 ≡ widen_of g.B.Base.algebra c.args.ctx.now (abs c.index-olds-i.result) (abs c.index-news-i.result) = search rules in
-    record { whole = rw (more, map-append, parts_onto_more, here) h.whole; first = h.first.1; second = h.second.1 }
+    let b = g.B.Base.algebra in
+    let ctx = c.args.ctx.now in
+    let cap = g.B.Base.CAP in
+    let olds = c.args.olds.now in
+    let news = c.args.news.now in
+    let i = c.loop-i.i in
+    let below = below_min i c.min-i-end.result (length olds) (length news) c.loop-i-test.true c.min-i-end.ensures in
+    record {
+      whole = parts_pushed (b.words.widen ctx) (widen_map b ctx) c.widen.result olds news i c.min-i-end.result c.index-olds-i.result c.index-news-i.result c.loop-i.out.items c.in_ok-out-2.out.items (widen_parts b ctx (parts (map abs olds)) (parts (map abs news))) c.loop-i-test.true c.min-i-end.ensures c.index-olds-i.is c.index-news-i.is c.in_ok-out-2.ensures c.widen.ensures.value c.loop-i.invariant.whole;
+      first = (parts_fit_here b ctx cap olds i c.index-olds-i.result c.index-olds-i.is below.0 c.loop-i.invariant.first).1;
+      second = (parts_fit_here b ctx cap news i c.index-news-i.result c.index-news-i.is below.1 c.loop-i.invariant.second).1;
+    }
 
 pub returns : goal.returns
 returns g c =
-    let past : min (length c.args.olds.now) (length c.args.news.now) ≤ c.loop-i.i = rw (← c.min-i-end.ensures) c.loop-i-test.false in
-    ap (λ rest. parts_onto (map abs c.loop-i.out.items) rest) (sym (widen_ends g.B.Base.algebra c.args.ctx.now c.args.olds.now c.args.news.now c.loop-i.i past)) ∙ c.loop-i.invariant.whole
+    let b = g.B.Base.algebra in
+    let ctx = c.args.ctx.now in
+    let cap = g.B.Base.CAP in
+    let olds = c.args.olds.now in
+    let news = c.args.news.now in
+    parts_done (b.words.widen ctx) (widen_map b ctx) olds news c.loop-i.i c.min-i-end.result c.loop-i.out.items (widen_parts b ctx (parts (map abs olds)) (parts (map abs news))) c.loop-i-test.false c.min-i-end.ensures c.loop-i.invariant.whole
