@@ -1,6 +1,6 @@
 -- State values that are opened, and the parts of one that is closed.
-use Rattle.std.proofs.Common.{◌≡◌, ℕ, Bool, cond, ap, sym, subst, ◌∙◌, IsTrue}
-use Rattle.std.specs.Prelude.{◌^◌, ◌&&◌, max, not}
+use Rattle.std.proofs.Common.{◌≡◌, ℕ, Bool, Result, Ok, Err, cond, ap, sym, subst, ◌∙◌, IsTrue}
+use Rattle.std.specs.Prelude.{◌^◌, ◌&&◌, IfOk, IsOkAnd, max, not}
 use Rattle.base_trait.specs.Algebra.{Algebra}
 use Rattle.base_trait.proofs.Tests.{and_parts}
 use Rattle.paired_base.specs.Meaning.{paired}
@@ -14,6 +14,17 @@ use Rattle.pair_calls.proofs.Kept.{parts_are_states}
 -- the value in the context, however both came
 pub state_at : {W N C : Type 0} (B : Algebra W N C) (cap : ℕ) (t : StateType) (c k : C) (x y : Abs W N) → c ≡ k → x ≡ y → IsStateValue B k cap t y → IsStateValue B c cap t x
 state_at B cap t c k x y e d h = subst (λ z. IsStateValue B z cap t x) (sym e) (subst (λ z. IsStateValue B k cap t z) (sym d) h)
+
+-- what is known of a made one
+pub told : {X E : Type 0} (o : Result X E) (P Q : X → Type 0) (R : Type 0) → IfOk o P → ((x : X) → P x → Q x → R) → IsOkAnd o Q → R
+told (Ok x) P Q R p f h = f x p h
+told (Err k) P Q R p f h = absurd h
+
+-- what a made one is, and what an answer has of it
+pub made_of : {X Y E F : Type 0} (r : Result X E) (o : Result Y F) (P : Y → Type 0) (Q : Y → X → Type 0) (R : X → Type 0) → IfOk o P → ((y : Y) (x : X) → P y → Q y x → R x) → IfOk r (λ x. IsOkAnd o (λ y. Q y x)) → IfOk r R
+made_of (Ok x) (Ok y) P Q R p f h = f y x p h
+made_of (Ok x) (Err k) P Q R p f h = absurd h
+made_of (Err z) o P Q R p f h = h
 
 module _ {V W M N C D : Type 0} (A : Algebra V M C) (B : Algebra W N D) (m n : ℕ) (e : m ≡ cond A.joins 256 (2 ^ 32)) (d : n ≡ cond B.joins 256 (2 ^ 32)) where
   -- each part may list as many cells as the pair

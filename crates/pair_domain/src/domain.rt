@@ -1,9 +1,9 @@
 //! The domain of pairs.
 
+use crate::sides::{beside, closed_first, closed_second};
 use abs_value::AV;
 use base_trait::Base;
 use domain_trait::Domain;
-use pair_values::{first, second, zip};
 use paired_base::Paired;
 use spec_types::Spec;
 use std::alloc::{AllocError as NoMemory, Global};
@@ -60,10 +60,9 @@ impl<A: Domain, B: Domain> Domain for PairDomain<A, B> {
         x: &(A::Elem, B::Elem),
         pc: u32,
     ) -> Result<AV<Paired<A::B, B::B>>, NoMemory> {
-        let ctx = (self.first.ctx(alloc)?, self.second.ctx(alloc)?);
         let left = self.first.open(alloc, spec, &x.0, pc)?;
-        let right = self.second.open(alloc, spec, &x.1, pc)?;
-        zip(alloc, &ctx, &left, &right)
+        let right = self.second.open(alloc, spec, &x.1, pc);
+        beside(alloc, self.ctx(alloc), left, right)
     }
 
     /// Each part closed by that part of the state value.
@@ -74,12 +73,9 @@ impl<A: Domain, B: Domain> Domain for PairDomain<A, B> {
         before: &(A::Elem, B::Elem),
         value: &AV<Paired<A::B, B::B>>,
     ) -> Result<(A::Elem, B::Elem), NoMemory> {
-        let ctx = (self.first.ctx(alloc)?, self.second.ctx(alloc)?);
-        let left = first(alloc, &ctx.0, value)?;
-        let right = second(alloc, &ctx.1, value)?;
         Ok((
-            self.first.close(alloc, spec, &before.0, &left)?,
-            self.second.close(alloc, spec, &before.1, &right)?,
+            closed_first(&self.first, alloc, spec, &before.0, value)?,
+            closed_second(&self.second, alloc, spec, &before.1, value)?,
         ))
     }
 

@@ -13,5 +13,6 @@
 #![tactic(auto)]
 
 mod domain;
+mod sides;
 
 pub use domain::PairDomain;

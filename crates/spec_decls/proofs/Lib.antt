@@ -4,6 +4,7 @@ pub mod Bridge
 pub mod Rounds
 pub mod Named
 pub mod Faultless
+pub mod Fields
 pub mod Shapes
 pub mod Pushes
 pub mod Settled

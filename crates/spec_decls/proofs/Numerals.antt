@@ -1,8 +1,9 @@
 -- Numerals, one after another.
-use Rattle.std.proofs.Common.{◌≡◌, ℕ, zero, suc, ◌+◌, ◌-◌, ◌<◌, ◌≤◌, ◌^◌, true, ltb, List, [], ◌∷◌, ◌++◌, length, refl, sym, ap, ◌∙◌, arith}
+use Rattle.std.proofs.Common.{◌≡◌, ℕ, zero, suc, ◌+◌, ◌-◌, ◌<◌, ◌≤◌, ◌^◌, true, ltb, List, [], ◌∷◌, ◌++◌, Result, Ok, Err, length, refl, sym, ap, ◌∙◌, arith}
 use Rattle.std.proofs.Math.Nat.{pow-le-pow_right}
 use Rattle.std.proofs.lemmas.Bool.{lt-ltb}
 use Rattle.std.specs.Fmt.{decimal}
+use Rattle.std.specs.Prelude.{IfOk, IsOkAnd}
 use Rattle.std.proofs.lemmas.List.{append_assoc, append-nil}
 use Rattle.spec_decls.specs.TypeNames.{numerals}
 
@@ -29,6 +30,11 @@ numerals_more texts more text w l t m h =
   where
     less : suc (65 - (w + 1)) ≡ 65 - w
     less = omega arith
+
+pub numerals_pushed : {E : Type 0} (item : Result (List ℕ) E) (texts more : List (List ℕ)) (w : ℕ) → w < 65 → IfOk item (λ t. t ≡ decimal w) → IsOkAnd item (λ t. more ≡ texts ++ t ∷ [])
+    → texts ++ numerals w (65 - w) ≡ numerals 1 64 → more ++ numerals (w + 1) (65 - (w + 1)) ≡ numerals 1 64
+numerals_pushed (Ok t) texts more w l e n h = numerals_more texts more t w l e n h
+numerals_pushed (Err k) texts more w l e n h = absurd n
 
 pub numerals_all : (texts : List (List ℕ)) (w : ℕ) → 65 ≤ w → texts ++ numerals w (65 - w) ≡ numerals 1 64 → texts ≡ numerals 1 64
 numerals_all texts w l h = sym (ap (λ ts. texts ++ ts) (ap (numerals w) past ∙ numerals_none w) ∙ append-nil texts) ∙ h

@@ -7,7 +7,7 @@ use Rattle.std.proofs.lemmas.Option.{slice_get-map}
 use Rattle.tsl_parser.specs.declared.tree.Span.{Span}
 use Rattle.tsl_parser.specs.declared.tree.FieldDecl.{FieldDecl}
 use Rattle.tsl_parser.specs.Tree as e
-use Rattle.tsl_parser.specs.Tree.{Tree, Item, Datatype, Constructor, Function}
+use Rattle.tsl_parser.specs.Tree.{Item, Datatype, Constructor, Function}
 use Rattle.spec_types.specs.declared.ty.Ty.{Ty}
 use Rattle.spec_types.specs.declared.ty.Ty.TheVariants.{Bool as Flag, Word, Data as DataTy, Map as MapOf}
 use Rattle.spec_types.specs.declared.spec_error.SpecError.TheVariants.{BadState, BadInterp}

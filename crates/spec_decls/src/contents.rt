@@ -8,6 +8,7 @@ ghost use Rattle.spec_decls.specs.Leaves as leaves;
 ghost use Rattle.spec_decls.specs.Leaves.{data_number};
 ghost use Rattle.spec_decls.specs.Views.{meanings};
 
+use crate::lists::pushed;
 use crate::type_names::Meaning;
 use spec_types::{SpecError, Ty};
 use std::alloc::{AllocError, Global};
@@ -18,7 +19,7 @@ pub fn held(alloc: Global, datas: &[Vec<Vec<Meaning>>]) -> Result<Vec<Vec<u32>>,
 {
     let mut graph = Vec::new(alloc);
     for cases in datas {
-        graph.push(held_by(alloc, cases)?)?;
+        graph = pushed(graph, held_by(alloc, cases))?;
     }
     Ok(graph)
 }

@@ -6,6 +6,7 @@ ghost use Rattle.tsl_parser.specs.View as view;
 ghost use Rattle.spec_types.specs.Views.{case_of, data_of, environment, signature_of};
 ghost use Rattle.spec_decls.specs.Declarations as spec;
 
+use crate::lists::pushed;
 use crate::type_names::{Meaning, TypeNames};
 use spec_types::{Case, Data, Declarations, MapTy, Signature, Ty};
 use std::alloc::{AllocError, Global};
@@ -77,7 +78,7 @@ fn cases(alloc: Global, names: &TypeNames, cases: &[CaseDecl]) -> Result<Vec<Cas
 {
     let mut declared = Vec::new(alloc);
     for c in cases {
-        declared.push(case(alloc, names, c)?)?;
+        declared = pushed(declared, case(alloc, names, c))?;
     }
     Ok(declared)
 }
@@ -102,9 +103,16 @@ fn fields(
 {
     let mut declared = Vec::new(alloc);
     for f in fields {
-        declared.push((f.name.text.copy(alloc)?, type_in(names, &f.ty)))?;
+        declared = pushed(declared, field(alloc, names, f))?;
     }
     Ok(declared)
+}
+
+/// A field with its type.
+fn field(alloc: Global, names: &TypeNames, f: &FieldDecl) -> Result<(Text, Ty), AllocError>
+    ensures { IfOk result (λ r. r ≡ spec.field_in names.now f.now) }
+{
+    Ok((f.name.text.copy(alloc)?, type_in(names, &f.ty)))
 }
 
 /// A map type.

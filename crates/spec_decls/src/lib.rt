@@ -49,6 +49,7 @@ mod counts;
 mod declare;
 mod known;
 pub mod laws;
+mod lists;
 mod made;
 mod passes;
 mod sizes;

@@ -6,6 +6,7 @@ ghost use Rattle.spec_decls.specs.Leaves as leaves;
 ghost use Rattle.spec_decls.specs.TypeNames.{type_named};
 ghost use Rattle.spec_decls.specs.Views.{meanings};
 
+use crate::lists::pushed;
 use crate::type_names::{Meaning, TypeNames};
 use std::alloc::{AllocError, Global};
 use tsl_parser::tree::{CaseDecl, DataDecl, FieldDecl, Item};
@@ -16,11 +17,8 @@ pub fn datatypes<'a>(alloc: Global, items: &'a [Item]) -> Result<Vec<&'a DataDec
 {
     let mut datas = Vec::new(alloc);
     for item in items {
-        match item {
-            Item::Data(d) => datas.push(d)?,
-            Item::Map(_) => {}
-            Item::Fun(_) => {}
-            Item::Decode(_) => {}
+        if let Item::Data(d) = item {
+            datas.push(d)?;
         }
     }
     Ok(datas)
@@ -36,7 +34,7 @@ pub fn made(
 {
     let mut all = Vec::new(alloc);
     for d in datas {
-        all.push(made_of(alloc, names, &d.cases)?)?;
+        all = pushed(all, made_of(alloc, names, &d.cases))?;
     }
     Ok(all)
 }
@@ -51,7 +49,7 @@ fn made_of(
 {
     let mut made = Vec::new(alloc);
     for c in cases {
-        made.push(made_of_fields(alloc, names, &c.fields)?)?;
+        made = pushed(made, made_of_fields(alloc, names, &c.fields))?;
     }
     Ok(made)
 }

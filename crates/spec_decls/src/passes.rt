@@ -28,8 +28,22 @@ pub fn declarations(alloc: Global, items: &[Item]) -> Result<Declarations, SpecE
     ensures well_formed { OnOk result (HaveCases (map view.item items.now) → IsWellFormed (declared (map view.item items.now))) }
 {
     let names = TypeNames::new(alloc, items)?;
-    check_types(alloc, &names, items)?;
-    Ok(declare(alloc, &names, items)?)
+    declarations_by(alloc, &names, items)
+}
+
+/// The same, by the names of types.
+fn declarations_by(
+    alloc: Global,
+    names: &TypeNames,
+    items: &[Item],
+) -> Result<Declarations, SpecError>
+    requires { names.now ≡ types_of (map view.item items.now) }
+    ensures answer { TypesAnswer (map view.item items.now) result }
+    ensures declared { IfOk result (λ r. environment r ≡ declared (map view.item items.now)) }
+    ensures well_formed { OnOk result (HaveCases (map view.item items.now) → IsWellFormed (declared (map view.item items.now))) }
+{
+    check_types(alloc, names, items)?;
+    Ok(declare(alloc, names, items)?)
 }
 
 /// The first fault of types.
@@ -39,9 +53,24 @@ fn check_types(alloc: Global, names: &TypeNames, items: &[Item]) -> Result<(), S
     ensures well_formed { OnOk result (HaveCases (map view.item items.now) → IsWellFormed (declared (map view.item items.now))) }
 {
     let datas = datatypes(alloc, items)?;
-    check_sizes(&datas)?;
-    let facts = facts_of(alloc, names, &datas)?;
-    types_fault(alloc, names, &datas, &facts, items)
+    check_datatypes(alloc, names, &datas, items)
+}
+
+/// The same, by the datatypes among the items.
+fn check_datatypes(
+    alloc: Global,
+    names: &TypeNames,
+    datas: &[&DataDecl],
+    items: &[Item],
+) -> Result<(), SpecError>
+    requires names { names.now ≡ types_of (map view.item items.now) }
+    requires datas { map (λ d. view.datatype d.now) datas.now ≡ leaves.datatypes (map view.item items.now) }
+    ensures answer { TypesAnswer (map view.item items.now) result }
+    ensures well_formed { OnOk result (HaveCases (map view.item items.now) → IsWellFormed (declared (map view.item items.now))) }
+{
+    check_sizes(datas)?;
+    let facts = facts_of(alloc, names, datas)?;
+    types_fault(alloc, names, datas, &facts, items)
 }
 
 /// What is known of datatypes.

@@ -7,14 +7,15 @@ ghost use Rattle.tsl_parser.specs.View as view;
 ghost use Rattle.spec_types.specs.Answers.{Agrees};
 ghost use Rattle.spec_decls.specs.TypeNames.{declared_named, is_digit, is_word_name, numerals, some_digits, type_named, types_from, types_of, word_named};
 
+use crate::lists::pushed;
 use spec_types::{SpecError, Ty, number_text, same};
 use std::alloc::{AllocError, Global};
 use std::marker::Model;
 use tsl_lexer::Text;
-use tsl_parser::tree::Item;
+use tsl_parser::tree::{DataDecl, Item, MapDecl};
 
 /// What the name of a type means: a type, `INT` and digits that are no width, or nothing.
-#[derive(Clone, Copy, Debug, PartialEq, Eq, Drop)]
+#[derive(Clone, Copy, Drop)]
 pub enum Meaning {
     Known(Ty),
     BadWidth,
@@ -72,7 +73,7 @@ fn widths(alloc: Global) -> Result<Vec<Text>, AllocError>
 {
     let mut texts = Vec::new(alloc);
     for w in 1..65u32 {
-        texts.push(number_text(alloc, u64::from(w))?)?;
+        texts = pushed(texts, number_text(alloc, u64::from(w)))?;
     }
     Ok(texts)
 }
@@ -102,24 +103,42 @@ struct Declared<'a> {
 }
 
 /// An item declares a type behind those before it.
-#[tactic(auto, using(std::proofs::lemmas::List::append_assoc, std::proofs::lemmas::List::map_push))]
 fn declare<'a>(before: &mut Declared<'a>, item: &'a Item) -> Result<(), SpecError>
     ensures answer { Agrees result None }
     ensures types { OnOk result ((rest : List t.Item) → map (λ t. (t.0.now, t.1)) before.new.types.items ++ types_from before.new.datas before.new.maps rest
         ≡ map (λ t. (t.0.now, t.1)) before.old.types.items ++ types_from before.old.datas before.old.maps (view.item item.now ∷ rest)) }
 {
     match item {
-        Item::Data(d) => {
-            before.types.push((&d.name.text, Ty::Data(before.datas)))?;
-            before.datas = next(before.datas)?;
-        }
-        Item::Map(m) => {
-            before.types.push((&m.name.text, Ty::Map(before.maps)))?;
-            before.maps = next(before.maps)?;
-        }
-        Item::Fun(_) => {}
-        Item::Decode(_) => {}
+        Item::Data(d) => declare_data(before, d),
+        Item::Map(m) => declare_map(before, m),
+        Item::Fun(_) => Ok(()),
+        Item::Decode(_) => Ok(()),
     }
+}
+
+/// A datatype joins the types before it.
+#[tactic(auto, using(std::proofs::lemmas::List::append_assoc, std::proofs::lemmas::List::map_push))]
+fn declare_data<'a>(before: &mut Declared<'a>, decl: &'a DataDecl) -> Result<(), SpecError>
+    ensures answer { Agrees result None }
+    ensures types { OnOk result ((rest : List t.Item) → map (λ t. (t.0.now, t.1)) before.new.types.items ++ types_from before.new.datas before.new.maps rest
+        ≡ map (λ t. (t.0.now, t.1)) before.old.types.items ++ types_from before.old.datas before.old.maps (t.datatype (view.datatype decl.now) ∷ rest)) }
+{
+    before
+        .types
+        .push((&decl.name.text, Ty::Data(before.datas)))?;
+    before.datas = next(before.datas)?;
+    Ok(())
+}
+
+/// A map type joins the types before it.
+#[tactic(auto, using(std::proofs::lemmas::List::append_assoc, std::proofs::lemmas::List::map_push))]
+fn declare_map<'a>(before: &mut Declared<'a>, decl: &'a MapDecl) -> Result<(), SpecError>
+    ensures answer { Agrees result None }
+    ensures types { OnOk result ((rest : List t.Item) → map (λ t. (t.0.now, t.1)) before.new.types.items ++ types_from before.new.datas before.new.maps rest
+        ≡ map (λ t. (t.0.now, t.1)) before.old.types.items ++ types_from before.old.datas before.old.maps (t.map_type decl.now ∷ rest)) }
+{
+    before.types.push((&decl.name.text, Ty::Map(before.maps)))?;
+    before.maps = next(before.maps)?;
     Ok(())
 }
 

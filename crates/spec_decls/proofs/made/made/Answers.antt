@@ -1,13 +1,18 @@
-use Rattle.std.proofs.Common.{map, ap, ◌∙◌, arith}
+use Rattle.std.proofs.Common.{◌≡◌, IfOk, map, subst}
 use Rattle.tsl_parser.specs.View.{constructor, datatype}
 use Rattle.spec_decls.specs.Leaves as leaves
 use Rattle.spec_decls.specs.TypeNames.{type_named}
-use Rattle.spec_decls.proofs.Pushes.{push_more}
+use Rattle.spec_decls.proofs.Pushes.{pushed_all, pushed_more}
 use Rattle.spec_decls.proofs.made.made.Goals as goal
 
 pub loop-d-preserved : goal.loop-d-preserved
 loop-d-preserved c =
     let names = c.args.names.now in
-    push_more (λ d. map (λ k. k.items) d.items) (leaves.made names) (λ d. datatype d.now) c.loop-d.all.items c.push.new.self.items c.in_ok-made_of.field-0
-    c.args.datas.now c.loop-d.d-index c.d-item.result _ (omega arith) c.d-item.is c.in_ok-push.ensures.items
-    (c.in_ok-made_of.ensures ∙ ap (λ cs. map (λ k. map (λ f. type_named names f.ty.text) k.fields) (map constructor cs)) c.deref.ensures.value) c.loop-d.invariant
+    let here = subst (λ cs. IfOk c.made_of.result (λ r. map (λ k. k.items) r.items ≡ map (λ k. map (λ f. type_named names f.ty.text) k.fields) (map constructor cs))) c.deref.ensures.value c.made_of.ensures in
+    pushed_more (λ d. map (λ k. k.items) d.items) (leaves.made names) (λ d. datatype d.now) c.made_of.result c.loop-d.all.items c.in_ok-all.all.items c.args.datas.now c.loop-d.d-index c.d-item.result
+    (map (leaves.made names) (map (λ d. datatype d.now) c.args.datas.now)) c.loop-d-test.true c.d-item.is c.in_ok-all.ensures here c.loop-d.invariant
+
+pub returns : goal.returns
+returns c =
+    let names = c.args.names.now in
+    pushed_all (λ d. map (λ k. k.items) d.items) (leaves.made names) (λ d. datatype d.now) c.loop-d.all.items c.args.datas.now c.loop-d.d-index (map (leaves.made names) (map (λ d. datatype d.now) c.args.datas.now)) c.loop-d-test.false c.loop-d.invariant

@@ -1,9 +1,12 @@
-use Rattle.std.proofs.Common.{arith, rules}
-use Rattle.spec_decls.proofs.Numerals.{numerals_more, numerals_all}
+use Rattle.std.proofs.Common.{◌≡◌, subst}
+use Rattle.std.specs.Fmt.{decimal}
+use Rattle.std.specs.Prelude.{IfOk}
+use Rattle.spec_decls.proofs.Numerals.{numerals_pushed, numerals_all}
 use Rattle.spec_decls.proofs.type_names.widths.Goals as goal
 
 pub loop-w-preserved : goal.loop-w-preserved
-loop-w-preserved c = numerals_more c.loop-w.texts.items c.push.new.self.items _ c.loop-w.w (omega arith) (search rules) c.in_ok-push.ensures.items c.loop-w.invariant
+loop-w-preserved c =
+    numerals_pushed c.number_text.result c.loop-w.texts.items c.in_ok-texts.texts.items c.loop-w.w c.loop-w-test.true (subst (λ n. IfOk c.number_text.result (λ t. t ≡ decimal n)) c.from.ensures c.number_text.ensures) c.in_ok-texts.ensures c.loop-w.invariant
 
 pub returns : goal.returns
-returns c = numerals_all c.loop-w.texts.items c.loop-w.w (omega arith) c.loop-w.invariant
+returns c = numerals_all c.loop-w.texts.items c.loop-w.w c.loop-w-test.false c.loop-w.invariant

@@ -1,51 +1,41 @@
-use Rattle.std.proofs.Common.{refl}
+use Rattle.std.specs.Prelude.{◌&&◌}
+use Rattle.base_trait.proofs.Tests.{and_parts}
 use Rattle.spec_types.specs.Views.{specification}
 use Rattle.domain_laws.specs.States.{state_type}
 use Rattle.abs_value.specs.View.{abs}
-use Rattle.pair_calls.specs.Calls.{first_value, second_value}
-use Rattle.pair_domain.proofs.Parts.{closed_parts, state_at}
+use Rattle.pair_calls.specs.Domain.{may_pair}
+use Rattle.pair_domain.proofs.Parts.{closed_parts}
 use Rattle.pair_domain.proofs.domain.PairDomainDomain.close.Goals as goal
 
-pub first-requires : goal.first-requires
-first-requires g c =
+pub closed_first-requires-clause-state : goal.closed_first-requires-clause-state
+closed_first-requires-clause-state g c =
     let first = g.A.Domain.meaning c.args.self.now.first in
     let second = g.B.Domain.meaning c.args.self.now.second in
     let spec = specification c.args.spec.now in
-    let t = state_type spec in
-    let value = abs c.args.value.now in
-    let parts = closed_parts g.A.B.Base.algebra g.B.B.Base.algebra g.A.B.Base.CAP g.B.B.Base.CAP g.met.A.B.Base.capacity g.met.B.B.Base.capacity
-    (g.A.Domain.is_for c.args.self.now.first spec) (g.B.Domain.is_for c.args.self.now.second spec) c.requires.made (first.context, second.context) t value c.requires.state in
-    record { fits = (state_at g.A.B.Base.algebra g.A.B.Base.CAP t c.in_ok-ctx.field-0 first.context (first_value value) (first_value value) c.in_ok-ctx.ensures.value refl parts.0).1 }
+    (closed_parts g.A.B.Base.algebra g.B.B.Base.algebra g.A.B.Base.CAP g.B.B.Base.CAP g.met.A.B.Base.capacity g.met.B.B.Base.capacity (g.A.Domain.is_for c.args.self.now.first spec) (g.B.Domain.is_for c.args.self.now.second spec) c.requires.made
+    (first.context, second.context) (state_type spec) (abs c.args.value.now) c.requires.state).0
 
-pub second-requires : goal.second-requires
-second-requires g c =
+pub closed_second-requires-clause-state : goal.closed_second-requires-clause-state
+closed_second-requires-clause-state g c =
     let first = g.A.Domain.meaning c.args.self.now.first in
     let second = g.B.Domain.meaning c.args.self.now.second in
     let spec = specification c.args.spec.now in
-    let t = state_type spec in
-    let value = abs c.args.value.now in
-    let parts = closed_parts g.A.B.Base.algebra g.B.B.Base.algebra g.A.B.Base.CAP g.B.B.Base.CAP g.met.A.B.Base.capacity g.met.B.B.Base.capacity
-    (g.A.Domain.is_for c.args.self.now.first spec) (g.B.Domain.is_for c.args.self.now.second spec) c.requires.made (first.context, second.context) t value c.requires.state in
-    record { fits = (state_at g.B.B.Base.algebra g.B.B.Base.CAP t c.in_ok-ctx-2.field-0 second.context (second_value value) (second_value value) c.in_ok-ctx-2.ensures.value refl parts.1).1 }
+    (closed_parts g.A.B.Base.algebra g.B.B.Base.algebra g.A.B.Base.CAP g.B.B.Base.CAP g.met.A.B.Base.capacity g.met.B.B.Base.capacity (g.A.Domain.is_for c.args.self.now.first spec) (g.B.Domain.is_for c.args.self.now.second spec) c.requires.made
+    (first.context, second.context) (state_type spec) (abs c.args.value.now) c.requires.state).1
 
-pub close-requires-clause-state : goal.close-requires-clause-state
-close-requires-clause-state g c =
-    let first = g.A.Domain.meaning c.args.self.now.first in
-    let second = g.B.Domain.meaning c.args.self.now.second in
-    let spec = specification c.args.spec.now in
-    let t = state_type spec in
-    let value = abs c.args.value.now in
-    let parts = closed_parts g.A.B.Base.algebra g.B.B.Base.algebra g.A.B.Base.CAP g.B.B.Base.CAP g.met.A.B.Base.capacity g.met.B.B.Base.capacity
-    (g.A.Domain.is_for c.args.self.now.first spec) (g.B.Domain.is_for c.args.self.now.second spec) c.requires.made (first.context, second.context) t value c.requires.state in
-    state_at g.A.B.Base.algebra g.A.B.Base.CAP t first.context first.context (abs c.in_ok-left.left) (first_value value) refl c.in_ok-left.ensures.value parts.0
+pub returns-clause-value : goal.returns-clause-value
+returns-clause-value g c = (c.in_ok-closed_first.ensures.value, c.in_ok-closed_second.ensures.value)
 
-pub close-requires-2-clause-state : goal.close-requires-2-clause-state
-close-requires-2-clause-state g c =
-    let first = g.A.Domain.meaning c.args.self.now.first in
-    let second = g.B.Domain.meaning c.args.self.now.second in
+pub returns-clause-fits : goal.returns-clause-fits
+returns-clause-fits g c = (c.in_ok-closed_first.ensures.fits, c.in_ok-closed_second.ensures.fits)
+
+pub closed_first-requires-clause-made : goal.closed_first-requires-clause-made
+closed_first-requires-clause-made g c =
     let spec = specification c.args.spec.now in
-    let t = state_type spec in
-    let value = abs c.args.value.now in
-    let parts = closed_parts g.A.B.Base.algebra g.B.B.Base.algebra g.A.B.Base.CAP g.B.B.Base.CAP g.met.A.B.Base.capacity g.met.B.B.Base.capacity
-    (g.A.Domain.is_for c.args.self.now.first spec) (g.B.Domain.is_for c.args.self.now.second spec) c.requires.made (first.context, second.context) t value c.requires.state in
-    state_at g.B.B.Base.algebra g.B.B.Base.CAP t second.context second.context (abs c.in_ok-right.right) (second_value value) refl c.in_ok-right.ensures.value parts.1
+    (and_parts (g.A.Domain.is_for c.args.self.now.first spec) (g.B.Domain.is_for c.args.self.now.second spec && may_pair g.A.B.Base.algebra g.B.B.Base.algebra) c.requires.made).0
+
+pub closed_second-requires-clause-made : goal.closed_second-requires-clause-made
+closed_second-requires-clause-made g c =
+    let spec = specification c.args.spec.now in
+    let others = (and_parts (g.A.Domain.is_for c.args.self.now.first spec) (g.B.Domain.is_for c.args.self.now.second spec && may_pair g.A.B.Base.algebra g.B.B.Base.algebra) c.requires.made).1 in
+    (and_parts (g.B.Domain.is_for c.args.self.now.second spec) (may_pair g.A.B.Base.algebra g.B.B.Base.algebra) others).0

@@ -1,29 +1,33 @@
-use Rattle.std.proofs.Common.{◌≡◌, ◌<◌, max, ap, ◌∙◌, arith}
-use Rattle.std.specs.Prelude.{◌^◌, ◌&&◌}
+use Rattle.std.proofs.Common.{◌≡◌, ◌<◌, max, refl, ap, ◌∙◌, arith}
+use Rattle.std.specs.Prelude.{◌^◌, ◌&&◌, IfOk, IsOkAnd}
 use Rattle.base_trait.proofs.Tests.{and_parts}
 use Rattle.spec_types.specs.Views.{specification}
 use Rattle.domain_laws.specs.States.{state_type}
+use Rattle.value_laws.specs.Fits.{Fits}
 use Rattle.abs_map.proofs.Whole.{if_ok}
 use Rattle.abs_value.specs.View.{abs}
 use Rattle.pair_calls.specs.Calls.{zip_value}
 use Rattle.pair_calls.specs.Domain.{may_pair}
-use Rattle.pair_calls.proofs.Values.{states_meet}
-use Rattle.pair_domain.proofs.Parts.{state_at}
+use Rattle.pair_calls.proofs.Values.{Meet, states_meet}
+use Rattle.pair_domain.proofs.Parts.{made_of, state_at, told}
 use Rattle.pair_domain.proofs.domain.PairDomainDomain.open.Goals as goal
 
-pub zip-requires-clause-left : goal.zip-requires-clause-left
-zip-requires-clause-left g c =
+pub beside-requires-clause-left : goal.beside-requires-clause-left
+beside-requires-clause-left g c =
     let first = g.A.Domain.meaning c.args.self.now.first in
+    let second = g.B.Domain.meaning c.args.self.now.second in
     let spec = specification c.args.spec.now in
     let x = g.A.Domain.view c.args.x.now.0 in
     let one = and_parts (g.A.Domain.is_for c.args.self.now.first spec) (g.B.Domain.is_for c.args.self.now.second spec && may_pair g.A.B.Base.algebra g.B.B.Base.algebra) c.requires.made in
     let laws = g.met.A.Domain.laws c.args.self.now.first spec one.0 in
     let range = c.ranges.pc.fits in
     let below : c.args.pc < 2 ^ 32 = omega (arith, range) in
-    (state_at g.A.B.Base.algebra g.A.B.Base.CAP (state_type spec) c.in_ok-ctx.field-0 first.context (abs c.in_ok-left.left) (first.opened c.args.pc x) c.in_ok-ctx.ensures.value c.in_ok-left.ensures.value (laws.open_fits c.args.pc x below c.requires.fits.0)).1
+    if_ok (λ k. k ≡ (first.context, second.context)) (λ k. Fits g.A.B.Base.algebra k.0 g.A.B.Base.CAP (abs c.in_ok-left.left)) c.ctx.result
+    (λ k e. (state_at g.A.B.Base.algebra g.A.B.Base.CAP (state_type spec) k.0 first.context (abs c.in_ok-left.left) (first.opened c.args.pc x) (ap (λ z. z.0) e) c.in_ok-left.ensures.value (laws.open_fits c.args.pc x below c.requires.fits.0)).1) c.ctx.ensures.value
 
-pub zip-requires-clause-right : goal.zip-requires-clause-right
-zip-requires-clause-right g c =
+pub beside-requires-clause-right : goal.beside-requires-clause-right
+beside-requires-clause-right g c =
+    let first = g.A.Domain.meaning c.args.self.now.first in
     let second = g.B.Domain.meaning c.args.self.now.second in
     let spec = specification c.args.spec.now in
     let y = g.B.Domain.view c.args.x.now.1 in
@@ -32,10 +36,12 @@ zip-requires-clause-right g c =
     let laws = g.met.B.Domain.laws c.args.self.now.second spec two.0 in
     let range = c.ranges.pc.fits in
     let below : c.args.pc < 2 ^ 32 = omega (arith, range) in
-    (state_at g.B.B.Base.algebra g.B.B.Base.CAP (state_type spec) c.in_ok-ctx-2.field-0 second.context (abs c.in_ok-right.right) (second.opened c.args.pc y) c.in_ok-ctx-2.ensures.value c.in_ok-right.ensures.value (laws.open_fits c.args.pc y below c.requires.fits.1)).1
+    if_ok (λ v. abs v ≡ second.opened c.args.pc y) (λ v. IfOk c.ctx.result (λ k. Fits g.B.B.Base.algebra k.1 g.B.B.Base.CAP (abs v))) c.open-right.result
+    (λ v d. if_ok (λ k. k ≡ (first.context, second.context)) (λ k. Fits g.B.B.Base.algebra k.1 g.B.B.Base.CAP (abs v)) c.ctx.result
+    (λ k e. (state_at g.B.B.Base.algebra g.B.B.Base.CAP (state_type spec) k.1 second.context (abs v) (second.opened c.args.pc y) (ap (λ z. z.1) e) d (laws.open_fits c.args.pc y below c.requires.fits.1)).1) c.ctx.ensures.value) c.open-right.ensures.value
 
-pub zip-requires-clause-widths : goal.zip-requires-clause-widths
-zip-requires-clause-widths g c =
+pub beside-requires-clause-widths : goal.beside-requires-clause-widths
+beside-requires-clause-widths g c =
     let first = g.A.Domain.meaning c.args.self.now.first in
     let second = g.B.Domain.meaning c.args.self.now.second in
     let spec = specification c.args.spec.now in
@@ -47,9 +53,10 @@ zip-requires-clause-widths g c =
     let b = g.met.B.Domain.laws c.args.self.now.second spec two.0 in
     let range = c.ranges.pc.fits in
     let below : c.args.pc < 2 ^ 32 = omega (arith, range) in
-    let left = state_at g.A.B.Base.algebra g.A.B.Base.CAP (state_type spec) c.in_ok-ctx.field-0 first.context (abs c.in_ok-left.left) (first.opened c.args.pc x) c.in_ok-ctx.ensures.value c.in_ok-left.ensures.value (a.open_fits c.args.pc x below c.requires.fits.0) in
-    let right = state_at g.B.B.Base.algebra g.B.B.Base.CAP (state_type spec) c.in_ok-ctx-2.field-0 second.context (abs c.in_ok-right.right) (second.opened c.args.pc y) c.in_ok-ctx-2.ensures.value c.in_ok-right.ensures.value (b.open_fits c.args.pc y below c.requires.fits.1) in
-    states_meet (state_type spec) (abs c.in_ok-left.left) (abs c.in_ok-right.right) left.0 right.0
+    let left = state_at g.A.B.Base.algebra g.A.B.Base.CAP (state_type spec) first.context first.context (abs c.in_ok-left.left) (first.opened c.args.pc x) refl c.in_ok-left.ensures.value (a.open_fits c.args.pc x below c.requires.fits.0) in
+    if_ok (λ v. abs v ≡ second.opened c.args.pc y) (λ v. Meet (abs c.in_ok-left.left) (abs v)) c.open-right.result
+    (λ v d. states_meet (state_type spec) (abs c.in_ok-left.left) (abs v) left.0
+    (state_at g.B.B.Base.algebra g.B.B.Base.CAP (state_type spec) second.context second.context (abs v) (second.opened c.args.pc y) refl d (b.open_fits c.args.pc y below c.requires.fits.1)).0) c.open-right.ensures.value
 
 pub returns : goal.returns
 returns g c =
@@ -58,13 +65,12 @@ returns g c =
     let cap = max g.A.B.Base.CAP g.B.B.Base.CAP in
     let first = g.A.Domain.meaning c.args.self.now.first in
     let second = g.B.Domain.meaning c.args.self.now.second in
-    let p = c.in_ok-ctx.field-0 in
-    let q = c.in_ok-ctx-2.field-0 in
     let left = abs c.in_ok-left.left in
-    let right = abs c.in_ok-right.right in
     let x = first.opened c.args.pc (g.A.Domain.view c.args.x.now.0) in
     let y = second.opened c.args.pc (g.B.Domain.view c.args.x.now.1) in
-    let same : zip_value a b (p, q) cap left right ≡ zip_value a b (first.context, second.context) cap x y =
-    ap (λ z. zip_value a b (z, q) cap left right) c.in_ok-ctx.ensures.value ∙ ap (λ z. zip_value a b (first.context, z) cap left right) c.in_ok-ctx-2.ensures.value
-    ∙ ap (λ z. zip_value a b (first.context, second.context) cap z right) c.in_ok-left.ensures.value ∙ ap (λ z. zip_value a b (first.context, second.context) cap x z) c.in_ok-right.ensures.value in
-    record { value = if_ok (λ r. abs r ≡ zip_value a b (p, q) cap left right) (λ r. abs r ≡ zip_value a b (first.context, second.context) cap x y) c.zip.result (λ r h. h ∙ same) c.zip.ensures.value }
+    let same : zip_value a b (first.context, second.context) cap left y ≡ zip_value a b (first.context, second.context) cap x y = ap (λ z. zip_value a b (first.context, second.context) cap z y) c.in_ok-left.ensures.value in
+    record {
+      value = made_of c.beside.result c.open-right.result (λ v. abs v ≡ y) (λ v r. IsOkAnd c.ctx.result (λ z. abs r ≡ zip_value a b z cap left (abs v))) (λ r. abs r ≡ zip_value a b (first.context, second.context) cap x y) c.open-right.ensures.value
+          (λ v r d h. told c.ctx.result (λ z. z ≡ (first.context, second.context)) (λ z. abs r ≡ zip_value a b z cap left (abs v)) (abs r ≡ zip_value a b (first.context, second.context) cap x y) c.ctx.ensures.value
+          (λ z e w. w ∙ ap (λ u. zip_value a b u cap left (abs v)) e ∙ ap (λ u. zip_value a b (first.context, second.context) cap left u) d ∙ same) h) c.beside.ensures;
+    }
