@@ -8,15 +8,12 @@
 //! what they are to give in stdout, which was worked out by hand from the rules.
 #![tactic(auto)]
 
-mod analysed;
-mod answer;
-mod case;
-mod cut;
-mod machine;
-mod shown;
-mod text;
+mod bases;
+mod changes;
+mod verdicts;
 
-use answer::answer;
+use analysis_cases::answer;
+use bases::Bases;
 use std::io;
 
 fn main(rt: HostRuntime) -> io::Result<()> {
@@ -24,7 +21,7 @@ fn main(rt: HostRuntime) -> io::Result<()> {
     for line in rt.lines(alloc) {
         let line = line?;
         println!(rt; "{}", line.as_str())?;
-        let found = answer(alloc, line.as_str())?;
+        let found = answer::<Bases>(alloc, line.as_str())?;
         print!(rt; "{}", found.as_str())?;
     }
     Ok(())

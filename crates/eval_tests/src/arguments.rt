@@ -1,19 +1,18 @@
 //! Functions and their arguments.
 
-ghost use Rattle.std.specs.Prelude.{All, IfOk, IfSome, map};
+ghost use Rattle.std.specs.Prelude.{All, IfOk, map};
 ghost use Rattle.value_laws.specs.Fits.{Fits};
 ghost use Rattle.abs_value.specs.View.{abs};
 ghost use Rattle.reinterpretation.specs.Calls.{AreArguments};
 ghost use Rattle.eval_memo.specs.Settings.{spec_of};
 
-use crate::values::value;
-use crate::words::Found;
 use abs_value::AV;
 use base_trait::Base;
 use eval_memo::Setting;
 use group_turns::are_typed;
 use spec_types::{Spec, Ty};
 use std::alloc::Global;
+use written_values::{Read, Unread, pushed, value};
 
 /// The function of a name, by its number.
 pub(crate) fn function(spec: &Spec, name: &str) -> Option<u32> {
@@ -25,26 +24,39 @@ pub(crate) fn function(spec: &Spec, name: &str) -> Option<u32> {
     None
 }
 
+/// The value of the parameter at a place.
+fn parameter<B: Base>(
+    alloc: Global,
+    ctx: &B::Ctx,
+    spec: &Spec,
+    params: &[Ty],
+    place: usize,
+    text: &str,
+) -> Read<AV<B>>
+    ensures { IfOk result (λ v. Fits B.algebra ctx.now B.CAP (abs v)) }
+{
+    match params.get(place) {
+        Some(ty) => value(alloc, ctx, spec, *ty, text),
+        None => Err(Unread::No),
+    }
+}
+
 /// The values of texts with ` | ` between, by the types of parameters.
 fn values<B: Base>(
     alloc: Global,
-    setting: &Setting<B>,
+    ctx: &B::Ctx,
+    spec: &Spec,
     params: &[Ty],
     texts: &str,
-) -> Found<Vec<AV<B>>>
-    ensures { IfOk result (λ o. IfSome o (λ vs. All (λ v. Fits B.algebra setting.now.ctx.now B.CAP (abs v)) vs.items)) }
+) -> Read<Vec<AV<B>>>
+    ensures { IfOk result (λ vs. All (λ v. Fits B.algebra ctx.now B.CAP (abs v)) vs.items) }
 {
     let mut out = Vec::new(alloc);
     for text in texts.split(" | ") {
-        let Some(ty) = params.get(out.len()) else {
-            return Ok(None);
-        };
-        let Some(v) = value(alloc, setting, *ty, text)? else {
-            return Ok(None);
-        };
-        out.push(v)?;
+        let next = parameter(alloc, ctx, spec, params, out.len(), text);
+        out = pushed(out, next)?;
     }
-    Ok(Some(out))
+    Ok(out)
 }
 
 /// The arguments of a function that texts with ` | ` between write.
@@ -53,18 +65,16 @@ pub(crate) fn arguments<B: Base>(
     setting: &Setting<B>,
     function: u32,
     texts: &str,
-) -> Found<Vec<AV<B>>>
-    ensures { IfOk result (λ o. IfSome o (λ xs. AreArguments B.algebra setting.now.ctx.now B.CAP (spec_of setting.now) function (map abs xs.items))) }
+) -> Read<Vec<AV<B>>>
+    ensures { IfOk result (λ xs. AreArguments B.algebra setting.now.ctx.now B.CAP (spec_of setting.now) function (map abs xs.items)) }
 {
     let Some(fun) = setting.spec.funs.get(function as usize) else {
-        return Ok(None);
+        return Err(Unread::No);
     };
-    let Some(args) = values::<B>(alloc, setting, &fun.params, texts)? else {
-        return Ok(None);
-    };
+    let args = values::<B>(alloc, setting.ctx, setting.spec, &fun.params, texts)?;
     if are_typed(setting.spec, function, &args) {
-        Ok(Some(args))
+        Ok(args)
     } else {
-        Ok(None)
+        Err(Unread::No)
     }
 }

@@ -7,12 +7,12 @@ ghost use Rattle.eval_memo.specs.Memos.{entries};
 ghost use Rattle.eval_memo.specs.Settings.{spec_of};
 ghost use Rattle.generic_eval.specs.Calls.{IsRight, MayEvaluate};
 
-use crate::shown::Shown;
-use crate::text::{push_deep, push_found, push_reads};
+use crate::text::push_given;
 use abs_value::AV;
 use base_trait::Log;
-use eval_memo::{EvalError, Memo, Setting, copy_all, memo_len, memo_new};
+use eval_memo::{Memo, Setting, copy_all, memo_len, memo_new};
 use generic_eval::eval;
+use shown_bases::Shown;
 use std::alloc::{AllocError as NoMemory, Global};
 use std::marker::Brand;
 use std::sync::ledger::{Blank, Ledger};
@@ -35,21 +35,33 @@ fn push_call<B: Shown, L: Ledger>(
     ensures { IsRight B.algebra B.CAP setting.now (entries memo.new) }
 {
     let before = memo_len(memo);
-    let mut log = Log::new(alloc);
     let args = copy_all(alloc, setting.ctx, args)?;
+    let mut log = Log::new(alloc);
     let given = eval::<B, L>(alloc, setting, function, args, memo, steps, &mut log);
     let kept = memo_len(memo);
     let ticked = kept.saturating_sub(before);
-    let counts = format!(in alloc; "    {what}: {ticked} ticked, {kept} kept, ")?;
-    out.push_str(counts.as_str())?;
-    match given {
-        Ok(value) => {
-            push_found(alloc, out, setting.spec, &value)?;
-            push_reads(alloc, out, setting.spec, &log)
-        }
-        Err(EvalError::Deep { function }) => push_deep(out, setting.spec, function),
-        Err(EvalError::NoMemory) => Err(NoMemory),
+    match write!(out, "    {what}: {ticked} ticked, {kept} kept, ") {
+        Ok(()) => push_given(out, setting.spec, &given, &log),
+        Err(error) => Err(error),
     }
+}
+
+/// Appends what a call gives twice.
+fn push_calls<B: Shown, L: Ledger>(
+    alloc: Global,
+    out: &mut String,
+    setting: &Setting<B>,
+    function: u32,
+    args: &[AV<B>],
+    memo: &mut Memo<B>,
+    steps: &mut Steps<L>,
+) -> Result<(), NoMemory>
+    requires ready { MayEvaluate B.algebra B.CAP setting.now }
+    requires args { AreArguments B.algebra setting.now.ctx.now B.CAP (spec_of setting.now) function (map abs args.now) }
+    requires memo { IsRight B.algebra B.CAP setting.now (entries memo.old) }
+{
+    push_call(alloc, out, "once", setting, function, args, memo, steps)?;
+    push_call(alloc, out, "again", setting, function, args, memo, steps)
 }
 
 /// What a call gives twice, where the counter is of this blank.
@@ -69,11 +81,8 @@ fn counted<B: Shown, L: Ledger>(
     let mut memo = memo_new(alloc);
     let mut steps: Steps<L> = Steps::new(blank);
     let mut out = String::new(alloc);
-    push_call(
-        alloc, &mut out, "once", setting, function, args, &mut memo, &mut steps,
-    )?;
-    push_call(
-        alloc, &mut out, "again", setting, function, args, &mut memo, &mut steps,
+    push_calls(
+        alloc, &mut out, setting, function, args, &mut memo, &mut steps,
     )?;
     Ok(out)
 }

@@ -1,15 +1,15 @@
 //! What cases give.
 
-ghost use Rattle.std.specs.Prelude.{◌≤◌, IfSome, IsTrue, length};
+ghost use Rattle.std.specs.Prelude.{◌≤◌, ◌&&◌, IfSome, IsTrue, length};
 ghost use Rattle.spec_types.specs.Views.{specification};
+ghost use Rattle.run_steps.specs.Sources.{source_cap};
 ghost use Rattle.meaning_laws.specs.Accepted.{IsAccepted};
 ghost use Rattle.recursion_fix.specs.Activation.{HasTurn};
 ghost use Rattle.call_answers.specs.Laws.{JoinsUnder};
+ghost use Rattle.generic_eval.specs.Calls.{MayEvaluate};
 
 use crate::arguments::{arguments, function};
 use crate::called::called;
-use crate::shown::Shown;
-use accepted_specs::laws::checked_are_accepted;
 use cir_lower::lower;
 use concrete_base::Concrete;
 use defuse_base::DefUse;
@@ -18,30 +18,23 @@ use interval_base::Interval;
 use kset_base::KSet;
 use paired_base::Paired;
 use recursion_fix::Policy;
+use run_steps::specified;
+use shown_bases::Shown;
 use spec_types::{Spec, Use};
 use std::alloc::{AllocError as NoMemory, Global};
-use tsl_lexer::lex;
-use tsl_parser::parse;
-use tsl_types::check;
+use written_values::Unread;
 
 /// The address of the instruction.
 const AT: u32 = 4096;
 
 /// The specification of a text that is a library without a fault, where memory lasts.
 fn library(alloc: Global, source: &[u8]) -> Option<Spec>
-    requires { length source.now ≤ 262144 }
+    requires { length source.now ≤ source_cap }
     ensures { IfSome result (λ spec. IsAccepted (specification spec)) }
 {
-    checked_are_accepted();
-    let Ok(tokens) = lex(alloc, source) else {
-        return None;
-    };
-    let Ok(tree) = parse(alloc, &tokens, source.len() as u32) else {
-        return None;
-    };
-    match check(alloc, &tree, Use::Library) {
+    match specified(alloc, source, Use::Library) {
         Ok(spec) => Some(spec),
-        Err(_fault) => None,
+        Err(_halt) => None,
     }
 }
 
@@ -64,10 +57,27 @@ fn no_case(alloc: Global) -> Result<String, NoMemory> {
     String::from_str(alloc, "    no case\n")
 }
 
+/// What a call gives in a setting.
+fn answered<B: Shown>(alloc: Global, setting: &Setting<B>, call: &str) -> Result<String, NoMemory>
+    requires { MayEvaluate B.algebra B.CAP setting.now }
+{
+    let Some((name, texts)) = call.split_once(" | ") else {
+        return no_case(alloc);
+    };
+    let Some(function) = function(setting.spec, name) else {
+        return no_case(alloc);
+    };
+    match arguments::<B>(alloc, setting, function, texts) {
+        Ok(args) => called::<B>(alloc, setting, function, &args),
+        Err(Unread::No) => no_case(alloc),
+        Err(Unread::NoMemory) => Err(NoMemory),
+    }
+}
+
 /// What a call gives over a base.
 fn over<B: Shown>(
     alloc: Global,
-    ctx: B::Ctx,
+    ctx: &B::Ctx,
     spec: &Spec,
     policy: Policy,
     call: &str,
@@ -76,30 +86,21 @@ fn over<B: Shown>(
     requires turn { HasTurn policy }
     requires joins { JoinsUnder B.algebra policy }
 {
-    let Some((name, texts)) = call.split_once(" | ") else {
-        return no_case(alloc);
-    };
-    let Some(function) = function(spec, name) else {
-        return no_case(alloc);
-    };
     let cir = lower(alloc, spec)?;
     let setting: Setting<B> = Setting {
         spec,
         cir: &cir,
-        ctx: &ctx,
+        ctx,
         at: AT,
         policy,
     };
-    match arguments::<B>(alloc, &setting, function, texts)? {
-        Some(args) => called::<B>(alloc, &setting, function, &args),
-        None => no_case(alloc),
-    }
+    answered(alloc, &setting, call)
 }
 
 /// The same over a base that joins.
 fn over_joining<B: Shown>(
     alloc: Global,
-    ctx: B::Ctx,
+    ctx: &B::Ctx,
     spec: &Spec,
     policy: Policy,
     call: &str,
@@ -109,6 +110,21 @@ fn over_joining<B: Shown>(
     requires joins { IsTrue B.algebra.joins }
 {
     over::<B>(alloc, ctx, spec, policy, call)
+}
+
+/// The same over two bases side by side.
+fn over_both<A: Shown, B: Shown>(
+    alloc: Global,
+    ctx: &(A::Ctx, B::Ctx),
+    spec: &Spec,
+    policy: Policy,
+    call: &str,
+) -> Result<String, NoMemory>
+    requires accepted { IsAccepted (specification spec.now) }
+    requires turn { HasTurn policy }
+    requires joins { IsTrue (A.algebra.joins && B.algebra.joins) }
+{
+    over_joining::<Paired<A, B>>(alloc, ctx, spec, policy, call)
 }
 
 /// What a call gives over the base of a name.
@@ -124,12 +140,12 @@ fn over_named(
 {
     match (base, policy) {
         ("concrete", Policy::Stop { turns }) => {
-            over::<Concrete>(alloc, (), spec, Policy::Stop { turns }, call)
+            over::<Concrete>(alloc, &(), spec, Policy::Stop { turns }, call)
         }
-        ("kset", _) => over_joining::<KSet<16>>(alloc, (), spec, policy, call),
-        ("interval", _) => over_joining::<Interval>(alloc, (), spec, policy, call),
+        ("kset", _) => over_joining::<KSet<16>>(alloc, &(), spec, policy, call),
+        ("interval", _) => over_joining::<Interval>(alloc, &(), spec, policy, call),
         ("kset+defuse", _) => {
-            over_joining::<Paired<KSet<16>, DefUse>>(alloc, ((), ()), spec, policy, call)
+            over_both::<KSet<16>, DefUse>(alloc, &((), ()), spec, policy, call)
         }
         _ => no_case(alloc),
     }

@@ -20,10 +20,7 @@
 mod arguments;
 mod called;
 mod cases;
-mod shown;
 mod text;
-mod values;
-mod words;
 
 use cases::answer;
 use std::io;

@@ -1,15 +1,8 @@
-use Rattle.std.proofs.Common.{◌≡◌, [], ◌∷◌, ◌++◌, sym, subst, rules}
-use Rattle.std.specs.Prelude.{All, IfSome}
-use Rattle.std.proofs.lemmas.List.Elements.{All-push}
 use Rattle.value_laws.specs.Fits.{Fits}
 use Rattle.abs_value.specs.View.{abs}
+use Rattle.written_values.proofs.Lists.{with_next}
 use Rattle.eval_tests.proofs.arguments.values.Goals as goal
 
 pub loop-text-preserved : goal.loop-text-preserved
 loop-text-preserved g c =
-    let B = g.B.Base.algebra in
-    let ctx = c.args.setting.now.ctx.now in
-    let cap = g.B.Base.CAP in
-    let fits = subst (λ o. IfSome o (λ v. Fits B ctx cap (abs v))) c.in-Some-2.is c.in_ok-v.ensures in
-    let out : c.push.new.self.items ≡ c.loop-text.out.items ++ c.in-Some-2.v ∷ [] = search rules in
-    (tt, tt, subst (λ vs. All (λ v. Fits B ctx cap (abs v)) vs) (sym out) (All-push (λ v. Fits B ctx cap (abs v)) c.loop-text.out.items c.in-Some-2.v c.loop-text.invariant.2 fits))
+    (tt, tt, with_next (λ v. Fits g.B.Base.algebra c.args.ctx.now g.B.Base.CAP (abs v)) c.loop-text.out.items c.in_ok-out.out.items c.parameter-next.result c.parameter-next.ensures c.in_ok-out.ensures c.loop-text.invariant.2)

@@ -7,4 +7,4 @@ abbrev pub invariant-loop-text : goal.invariant-loop-text
 invariant-loop-text g l =
     (goal.iterator-loop-text g).can_next l.text-iterator ×
     (goal.iterator-loop-text g).is_finite l.text-iterator ×
-    All (λ v. Fits g.B.Base.algebra l.setting.ctx.now g.B.Base.CAP (abs v)) l.out.items
+    All (λ v. Fits g.B.Base.algebra l.ctx g.B.Base.CAP (abs v)) l.out.items

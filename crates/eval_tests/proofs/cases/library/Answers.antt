@@ -1,10 +1,9 @@
-use Rattle.std.proofs.Common.{length}
-use Rattle.tsl_parser.specs.View.{tree}
-use Rattle.spec_types.specs.declared.spec.Use.TheVariants.{Library}
+use Rattle.std.proofs.Common.{subst}
+use Rattle.std.specs.Prelude.{IfOk}
 use Rattle.spec_types.specs.Views.{specification}
+use Rattle.meaning_laws.specs.Accepted.{IsAccepted}
+use Rattle.eval_tests.proofs.Libraries.{given_accepted}
 use Rattle.eval_tests.proofs.cases.library.Goals as goal
 
-pub returns-in-Ok-check : goal.returns-in-Ok-check
-returns-in-Ok-check c =
-    c.checked_are_accepted.ensures Library (tree c.in-Ok-parse.tree) (specification c.in-Ok-check.spec) (c.deref.result.now, length c.args.source.now, c.in-Ok-parse.ensures.answer) c.in-Ok-check.ensures.answer.0
-    c.in-Ok-check.ensures.answer.1
+pub returns-in-Ok : goal.returns-in-Ok
+returns-in-Ok c = subst (λ r. IfOk r (λ spec. IsAccepted (specification spec))) c.in-Ok.is (given_accepted c.args.source.now c.specified.result c.specified.ensures)
