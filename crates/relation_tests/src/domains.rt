@@ -1,16 +1,17 @@
-//! Domains whose elements have texts.
+//! Domains that cases name: how they are made, and texts of their elements.
 
-ghost use Rattle.std.specs.Prelude.{IfOk, IfSome, IsTrue};
+ghost use Rattle.std.specs.Prelude.{◌≡◌, ◌<◌, ◌^◌, Bool, IfOk, IsTrue, length, true};
 ghost use Rattle.spec_types.specs.Views.{specification};
+ghost use Rattle.domain_laws.specs.States.{has_states, state_type};
 
-use crate::cells::push_cells;
 use crate::least::least;
 use crate::rows::push_rows;
-use crate::shown::{Shown, push_affine};
+use crate::words::{Named, push_affine};
 use abs_value::AV;
 use affine_base::Word;
 use affine_domain::AffineDomain;
 use affine_rows::Rows;
+use analysis_cases::{Unread, push_cells};
 use base_trait::Base;
 use domain_trait::Domain;
 use pair_domain::PairDomain;
@@ -19,7 +20,17 @@ use state_domain::StateDomain;
 use std::alloc::{AllocError as NoMemory, Global};
 
 /// A domain whose elements have texts.
-pub(crate) trait ShownDomain: Domain {
+pub(crate) trait ShownDomain: Domain + Drop {
+    /// Whether its base is one that domains can be made over.
+    ghost may: { Bool };
+
+    /// The domain for a specification.
+    fn made(alloc: Global, spec: &Spec) -> Result<Self, NoMemory>
+        requires may { IsTrue may }
+        requires states { has_states (specification spec.now) ≡ true }
+        requires few { length (state_type (specification spec.now)).fields < 2 ^ 32 }
+        ensures { IfOk result (λ d. IsTrue (Self.is_for d (specification spec.now))) };
+
     /// Appends a word of its state values, of a width in bits.
     fn push_word(out: &mut String, w: u32, x: &<Self::B as Base>::Word) -> Result<(), NoMemory>;
 
@@ -31,25 +42,26 @@ pub(crate) trait ShownDomain: Domain {
         x: &Self::Elem,
     ) -> Result<(), NoMemory>;
 
-    /// The element of a text; none, where that is none.
-    fn element(
-        &self,
-        alloc: Global,
-        spec: &Spec,
-        text: &str,
-    ) -> Result<Option<Self::Elem>, NoMemory>
+    /// The element of a text.
+    fn element(&self, alloc: Global, spec: &Spec, text: &str) -> Result<Self::Elem, Unread>
         requires made { IsTrue (Self.is_for self.now (specification spec.now)) }
-        ensures { IfOk result (λ o. IfSome o (λ x. (Self.elements self.now).fits (Self.view x))) };
+        ensures { IfOk result (λ x. (Self.elements self.now).fits (Self.view x)) };
+
+    ghost joins: { IsTrue may → IsTrue Self.B.algebra.joins };
 }
 
-/// Appends the name of a part, as a line.
-fn push_part(out: &mut String, name: &str) -> Result<(), NoMemory> {
-    out.push_str("    part ")?;
-    out.push_str(name)?;
-    out.push_str("\n")
-}
+impl<B: Named> ShownDomain for StateDomain<B> {
+    ghost use Rattle.std.specs.Prelude.{◌&&◌, not};
+    ghost use Rattle.relation_tests.specs.Pairs.{cells_join};
 
-impl<B: Shown> ShownDomain for StateDomain<B> {
+    ghost may = { B.algebra.joins && not B.algebra.words.looks };
+
+    ghost joins = { λ h. cells_join B.algebra h };
+
+    fn made(alloc: Global, spec: &Spec) -> Result<StateDomain<B>, NoMemory> {
+        StateDomain::new(alloc, spec, B::context())
+    }
+
     fn push_word(out: &mut String, w: u32, x: &B::Word) -> Result<(), NoMemory> {
         B::push_word(out, w, x)
     }
@@ -60,21 +72,26 @@ impl<B: Shown> ShownDomain for StateDomain<B> {
         spec: &Spec,
         x: &Vec<AV<B>>,
     ) -> Result<(), NoMemory> {
-        push_part(out, B::name())?;
+        writeln!(out, "    part {}", B::name())?;
         push_cells::<B>(out, spec, x)
     }
 
-    fn element(
-        &self,
-        alloc: Global,
-        spec: &Spec,
-        text: &str,
-    ) -> Result<Option<Vec<AV<B>>>, NoMemory> {
+    fn element(&self, alloc: Global, spec: &Spec, text: &str) -> Result<Vec<AV<B>>, Unread> {
         least(alloc, spec, self, text)
     }
 }
 
 impl ShownDomain for AffineDomain {
+    ghost use Rattle.std.specs.Prelude.{refl};
+
+    ghost may = { true };
+
+    ghost joins = { λ _. refl };
+
+    fn made(alloc: Global, spec: &Spec) -> Result<AffineDomain, NoMemory> {
+        AffineDomain::new(alloc, spec)
+    }
+
     fn push_word(out: &mut String, w: u32, x: &Word) -> Result<(), NoMemory> {
         push_affine(out, w, x)
     }
@@ -85,16 +102,31 @@ impl ShownDomain for AffineDomain {
         _spec: &Spec,
         x: &Rows,
     ) -> Result<(), NoMemory> {
-        push_part(out, "affine")?;
+        out.push_str("    part affine\n")?;
         push_rows(alloc, out, x)
     }
 
-    fn element(&self, alloc: Global, spec: &Spec, text: &str) -> Result<Option<Rows>, NoMemory> {
+    fn element(&self, alloc: Global, spec: &Spec, text: &str) -> Result<Rows, Unread> {
         least(alloc, spec, self, text)
     }
 }
 
 impl<A: ShownDomain, B: ShownDomain> ShownDomain for PairDomain<A, B> {
+    ghost use Rattle.std.specs.Prelude.{◌&&◌};
+    ghost use Rattle.pair_calls.specs.Domain.{may_pair};
+    ghost use Rattle.relation_tests.specs.Pairs.{pairs_join};
+
+    ghost may = { A.may && (B.may && may_pair A.B.algebra B.B.algebra) };
+
+    ghost joins = { λ h. pairs_join A.may B.may A.B.algebra B.B.algebra h };
+
+    fn made(alloc: Global, spec: &Spec) -> Result<PairDomain<A, B>, NoMemory> {
+        Ok(PairDomain {
+            first: A::made(alloc, spec)?,
+            second: B::made(alloc, spec)?,
+        })
+    }
+
     /// Both parts.
     fn push_word(
         out: &mut String,
@@ -122,16 +154,14 @@ impl<A: ShownDomain, B: ShownDomain> ShownDomain for PairDomain<A, B> {
         alloc: Global,
         spec: &Spec,
         text: &str,
-    ) -> Result<Option<(A::Elem, B::Elem)>, NoMemory> {
+    ) -> Result<(A::Elem, B::Elem), Unread> {
         let Some((left, right)) = text.split_once(" & ") else {
-            return Ok(None);
+            return Err(Unread::No("element"));
         };
-        let Some(first) = self.first.element(alloc, spec, left)? else {
-            return Ok(None);
-        };
-        match self.second.element(alloc, spec, right)? {
-            Some(second) => Ok(Some((first, second))),
-            None => Ok(None),
+        let first = self.first.element(alloc, spec, left)?;
+        match self.second.element(alloc, spec, right) {
+            Ok(second) => Ok((first, second)),
+            Err(error) => Err(error),
         }
     }
 }

@@ -15,20 +15,15 @@
 //! The folder has the cases in stdin and what they are to give in stdout, which was worked out by hand from the rules.
 #![tactic(auto)]
 
-mod analysed;
-mod answer;
-mod case;
-mod cells;
-mod cut;
 mod domains;
 mod least;
-mod machine;
-mod replaced;
+mod named;
 mod rows;
-mod shown;
-mod text;
+mod verdicts;
+mod words;
 
-use answer::answer;
+use analysis_cases::answer;
+use named::Domains;
 use std::io;
 
 fn main(rt: HostRuntime) -> io::Result<()> {
@@ -36,7 +31,7 @@ fn main(rt: HostRuntime) -> io::Result<()> {
     for line in rt.lines(alloc) {
         let line = line?;
         println!(rt; "{}", line.as_str())?;
-        let found = answer(alloc, line.as_str())?;
+        let found = answer::<Domains>(alloc, line.as_str())?;
         print!(rt; "{}", found.as_str())?;
     }
     Ok(())

@@ -3,7 +3,6 @@
 ghost use Rattle.std.specs.Prelude.{◌<◌, length};
 
 use affine_rows::Rows;
-use cell_text::push_hex;
 use std::alloc::{AllocError as NoMemory, Global};
 
 /// Takes so many times a row from another.
@@ -40,8 +39,7 @@ pub(crate) fn push_rows(alloc: Global, out: &mut String, rows: &Rows) -> Result<
     for i in 0..rows.len() {
         out.push_str("    row")?;
         for n in &reduced(alloc, rows, i)? {
-            out.push_str(" ")?;
-            push_hex(out, 8, u64::from(*n))?;
+            write!(out, " {n:08x}")?;
         }
         out.push_str("\n")?;
     }

@@ -1,6 +1,7 @@
-use Rattle.std.specs.Prelude.{IfSome}
 use Rattle.relation_tests.proofs.least.least.Given as goal
 
 abbrev pub invariant-loop-part : goal.invariant-loop-part
-invariant-loop-part g l = (goal.iterator-loop-part g).can_next l.part-iterator × (goal.iterator-loop-part g).is_finite l.part-iterator
-    × IfSome l.all (λ x. (g.D.Domain.elements l.domain).fits (g.D.Domain.view x))
+invariant-loop-part g l =
+    (goal.iterator-loop-part g).can_next l.part-iterator ×
+    (goal.iterator-loop-part g).is_finite l.part-iterator ×
+    (g.D.Domain.elements l.domain).fits (g.D.Domain.view l.all)
