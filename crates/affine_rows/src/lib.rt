@@ -77,6 +77,3 @@ mod vector;
 
 pub use forms::Form;
 pub use rows::Rows;
-
-#[cfg(test)]
-mod tests;

@@ -13,6 +13,3 @@ mod lowering;
 
 pub use code::Cir;
 pub use lowering::lower;
-
-#[cfg(test)]
-mod tests;

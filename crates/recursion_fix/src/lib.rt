@@ -124,6 +124,3 @@ pub use laws::{
 };
 pub use policy::Policy;
 pub use turn::Turn;
-
-#[cfg(test)]
-mod tests;

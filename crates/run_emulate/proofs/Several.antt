@@ -3,6 +3,7 @@ use Rattle.std.proofs.Common.{◌≡◌, ◌⊎◌, ℕ, List, ◌∷◌, IsTrue
 use Rattle.std.specs.Prelude.{Result, Ok, Err}
 use Rattle.command_words.specs.Code.{Code, CodePart}
 use Rattle.command_words.specs.Requests.{EmulateRequest, ListRequest}
+use Rattle.command_words.specs.SpecNames.{SpecName}
 use Rattle.insn_decode.specs.Image.{Image, Segment}
 use Rattle.insn_decode.specs.Listing.{listing}
 use Rattle.spec_types.specs.Specification.{Spec}
@@ -52,7 +53,7 @@ module _ (old mid new : InputState) (kept : InputsKept old mid) (calm : mid.faul
       all_parts (Gave old new) part parts bytes segments all (gave_still old mid new code_cap part.name bytes read)
       (segments_wider (Gave mid new) (Gave old new) (gave_later old mid new kept calm) parts (Ok segments) rest) is
 
-  code_stop : (code : Code) (halt : Halt) → Stops (CodeOf (Gave mid new) code) halt → Stops (CodeOf (Gave old new) code) halt
+  pub code_stop : (code : Code) (halt : Halt) → Stops (CodeOf (Gave mid new) code) halt → Stops (CodeOf (Gave old new) code) halt
   code_stop code halt stops = stops_too (CodeOf (Gave mid new) code) (CodeOf (Gave old new) code) (code_wider (Gave mid new) (Gave old new) (gave_later old mid new kept calm) code) halt stops
 
   pub emulate_no_image : (request : EmulateRequest) (spec : Spec) (halt : Halt) → MachineOf (Gave old mid) request.spec (Ok spec) → Stops (CodeOf (Gave mid new) request.code) halt
@@ -73,23 +74,25 @@ module _ (old mid new : InputState) (kept : InputsKept old mid) (calm : mid.faul
 
 -- ---- three inputs
 
-module _ (old one mid new : InputState) (kept : InputsKept old one) (calm : one.faults ≡ old.faults) (kept_on : InputsKept one mid) (calm_on : mid.faults ≡ one.faults)
-    (request : EmulateRequest) (spec : Spec) (image : Image) (specified : MachineOf (Gave old one) request.spec (Ok spec)) (imaged : CodeOf (Gave one mid) request.code (Ok image)) where
-  machine_given : MachineOf (Gave old new) request.spec (Ok spec)
-  machine_given = machine_still (Gave old one) (Gave old new) (gave_still old one new) request.spec spec specified
+module _ (old one mid new : InputState) (kept : InputsKept old one) (calm : one.faults ≡ old.faults) (kept_on : InputsKept one mid) (calm_on : mid.faults ≡ one.faults) where
+  pub machine_given : (name : SpecName) (spec : Spec) → MachineOf (Gave old one) name (Ok spec) → MachineOf (Gave old new) name (Ok spec)
+  machine_given name spec specified = machine_still (Gave old one) (Gave old new) (gave_still old one new) name spec specified
 
-  code_given : CodeOf (Gave old new) request.code (Ok image)
-  code_given =
-      code_still (Gave old mid) (Gave old new) (gave_still old mid new) request.code image
-      (code_wider (Gave one mid) (Gave old mid) (gave_later old one mid kept calm) request.code (Ok image) imaged)
+  pub code_given : (code : Code) (image : Image) → CodeOf (Gave one mid) code (Ok image) → CodeOf (Gave old new) code (Ok image)
+  code_given code image imaged =
+      code_still (Gave old mid) (Gave old new) (gave_still old mid new) code image
+      (code_wider (Gave one mid) (Gave old mid) (gave_later old one mid kept calm) code (Ok image) imaged)
 
-  start_given : (found : Result State Refusal) → StartOf (Gave mid new) spec request.entry found → StartOf (Gave old new) spec request.entry found
-  start_given found started = start_wider (Gave mid new) (Gave old new) (gave_later old mid new (kept_both old one mid kept kept_on) (calm_on ∙ calm)) spec request.entry found started
+  module _ (request : EmulateRequest) (spec : Spec) (image : Image) (specified : MachineOf (Gave old one) request.spec (Ok spec)) (imaged : CodeOf (Gave one mid) request.code (Ok image)) where
+    start_given : (found : Result State Refusal) → StartOf (Gave mid new) spec request.entry found → StartOf (Gave old new) spec request.entry found
+    start_given found started = start_wider (Gave mid new) (Gave old new) (gave_later old mid new (kept_both old one mid kept kept_on) (calm_on ∙ calm)) spec request.entry found started
 
-  pub emulate_no_start : (halt : Halt) → Stops (StartOf (Gave mid new) spec request.entry) halt → Stops (EmulateSteps (Gave old new) request) halt
-  emulate_no_start halt stops =
-      no_start (Gave old new) request spec machine_given image code_given halt (stops_too (StartOf (Gave mid new) spec request.entry) (StartOf (Gave old new) spec request.entry) start_given halt stops)
+    pub emulate_no_start : (halt : Halt) → Stops (StartOf (Gave mid new) spec request.entry) halt → Stops (EmulateSteps (Gave old new) request) halt
+    emulate_no_start halt stops =
+        no_start (Gave old new) request spec (machine_given request.spec spec specified) image (code_given request.code image imaged) halt
+        (stops_too (StartOf (Gave mid new) spec request.entry) (StartOf (Gave old new) spec request.entry) start_given halt stops)
 
-  pub emulate_given : (start : State) (answer : Answer) → StartOf (Gave mid new) spec request.entry (Ok start) → IsRunOf spec image request.calls request.steps start answer
-      → EmulateSteps (Gave old new) request (Ok answer)
-  emulate_given start answer started runs = some_run (Gave old new) request spec machine_given image code_given start (start_given (Ok start) started) answer runs
+    pub emulate_given : (start : State) (answer : Answer) → StartOf (Gave mid new) spec request.entry (Ok start) → IsRunOf spec image request.calls request.steps start answer
+        → EmulateSteps (Gave old new) request (Ok answer)
+    emulate_given start answer started runs =
+        some_run (Gave old new) request spec (machine_given request.spec spec specified) image (code_given request.code image imaged) start (start_given (Ok start) started) answer runs

@@ -44,7 +44,7 @@ one_run spec image turns bound start (Ok answer) (Err refusal) p q = absurd q
 one_run spec image turns bound start (Err refusal) other p q = absurd p
 
 module _ (held : Held) where
-  one_machine : (name : SpecName) → IsOne (MachineOf (Holds held) name)
+  pub one_machine : (name : SpecName) → IsOne (MachineOf (Holds held) name)
   one_machine name = one (SourceOf (Holds held) name) (Specifies Machine) (one_source held name) (λ source. one_specified Machine source)
 
   one_segments : (parts : List CodePart) → IsOne (SegmentsOf (Holds held) parts)
@@ -53,7 +53,7 @@ module _ (held : Held) where
       one (Holds held code_cap part.name) (Rest (Holds held) part parts) (one_held held code_cap part.name)
       (λ bytes. one (SegmentsOf (Holds held) parts) (Joins part.base bytes) (one_segments parts) (λ segments found other p q. p ∙ sym q)) found other p q
 
-  one_code : (code : Code) → IsOne (CodeOf (Holds held) code)
+  pub one_code : (code : Code) → IsOne (CodeOf (Holds held) code)
   one_code code = one (SegmentsOf (Holds held) code.parts) (Images (order_of code.order)) (one_segments code.parts) (λ segments found other p q. p ∙ sym q)
 
   one_start : (spec : Spec) (name : List ℕ) → IsOne (StartOf (Holds held) spec name)

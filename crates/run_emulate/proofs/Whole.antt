@@ -56,7 +56,7 @@ some_run spec image turns bound start ok some typed =
     (Ok told.0, record { machine = m.0; is_machine = m.1; tells = told.1 })
 
 module _ (held : Held) where
-  machine_some : (name : SpecName) → IsTotal (MachineOf (Holds held) name)
+  pub machine_some : (name : SpecName) → IsTotal (MachineOf (Holds held) name)
   machine_some name = total (SourceOf (Holds held) name) (Specifies Machine) (some_source held name) (λ source read. some_specified Machine source)
 
   segments_some : (parts : List CodePart) → IsTotal (SegmentsOf (Holds held) parts)
@@ -65,7 +65,7 @@ module _ (held : Held) where
       total (Holds held code_cap part.name) (Rest (Holds held) part parts) (some_held held code_cap part.name (held part.name) refl)
       (λ bytes read. total (SegmentsOf (Holds held) parts) (Joins part.base bytes) (segments_some parts) (λ segments further. (Ok (record { base = part.base; bytes = bytes } ∷ segments), refl)))
 
-  code_some : (code : Code) → IsTotal (CodeOf (Holds held) code)
+  pub code_some : (code : Code) → IsTotal (CodeOf (Holds held) code)
   code_some code =
       total (SegmentsOf (Holds held) code.parts) (Images (order_of code.order)) (segments_some code.parts)
       (λ segments read. (imaged (order_of code.order) segments (image_fault segments), refl))

@@ -17,7 +17,7 @@ use tsl_types::Spec;
 use tsl_values::State;
 
 /// How many bytes an entry may have.
-const ENTRY_CAP: u32 = 65_536;
+pub const ENTRY_CAP: u32 = 65_536;
 
 /// The one state of the entry that the input of a name holds.
 pub fn start_of<'a, I: Inputs>(

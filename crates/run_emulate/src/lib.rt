@@ -3,7 +3,8 @@
 //! Each is a chain of steps (specs/Steps): the specification of a machine, its code, and for `emulate` the entry are read and
 //! examined one after another, each whole before the next input is opened; then the machine runs, or its code is listed. A refusal
 //! of a step is that of the command, and nothing more is read. `emulated` and `listed` give what these chains may give, over any
-//! inputs. The laws of src/laws.rt say that over the bytes that names hold there is one outcome at most.
+//! inputs, as do `machine_of` and `image_of`, the first two steps of every analysis too. The laws of src/laws.rt say that over the
+//! bytes that names hold there is one outcome at most.
 #![tactic(auto)]
 
 mod code;
@@ -13,4 +14,7 @@ pub mod laws;
 mod machine;
 mod running;
 
+pub use code::image_of;
 pub use commands::{emulated, listed};
+pub use entry::ENTRY_CAP;
+pub use machine::machine_of;

@@ -9,8 +9,6 @@ mod marks;
 mod numbers;
 mod scan;
 mod separators;
-#[cfg(test)]
-mod tests;
 mod text;
 mod token;
 mod words;

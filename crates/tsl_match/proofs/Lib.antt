@@ -16,7 +16,6 @@ pub mod Filled
 pub mod Failing
 pub mod Granted
 pub mod Answering
-pub mod Checked
 pub mod OneAnswer
 pub mod Decided
 pub mod Enough

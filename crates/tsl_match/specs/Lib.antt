@@ -13,5 +13,4 @@ pub mod Refusals
 pub mod Steps
 pub mod Answers
 pub mod Compiled
-pub mod Premises
 pub mod Laws

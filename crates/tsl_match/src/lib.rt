@@ -108,8 +108,3 @@ pub use decision::{Decision, Path};
 pub use match_error::MatchError;
 pub use pattern::Pattern;
 pub use shape::{Shape, Sig};
-
-#[cfg(test)]
-mod premises;
-#[cfg(test)]
-mod tests;

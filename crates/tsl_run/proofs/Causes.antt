@@ -4,7 +4,7 @@ use Rattle.std.specs.Prelude.{Contains, Result, Ok, Err}
 use Rattle.std.proofs.lemmas.List.Elements.{All-cons, All-contains, All-nil, Contains-append_left, Contains-append_right}
 use Rattle.tsl_io.specs.InputState.{InputState}
 use Rattle.command_words.specs.Code.{Code, CodePart}
-use Rattle.command_words.specs.Requests.{CallRequest, EmulateRequest, ListRequest, Request, call, emulate, list}
+use Rattle.command_words.specs.Requests.{AnalyseRequest, CallRequest, EmulateRequest, ListRequest, Request, call, emulate, analyse, list}
 use Rattle.command_words.specs.SpecNames.{SpecName, input, power_pc, risc_v}
 use Rattle.function_calls.specs.Calls as calls
 use Rattle.function_calls.specs.Calls.{call_end, spent, value, value_line}
@@ -17,13 +17,16 @@ use Rattle.spec_types.specs.declared.spec.Use.{Use}
 use Rattle.spec_types.specs.declared.spec.Use.TheVariants.{Library, Machine}
 use Rattle.spec_types.specs.Specification.{Spec}
 use Rattle.state_text.specs.declared.entry_error.EntryError.{EntryError}
-use Rattle.state_text.specs.Reading.{read}
+use Rattle.state_text.specs.Reading.{Entry, read}
 use Rattle.tsl_values.specs.States.{State}
 use Rattle.run_steps.specs.Outcome.{Answer, Outcome, Refusal, bad_words, not_built, cannot_read, too_long, spec_refused, code_refused, entry_refused, calls_spent, text}
 use Rattle.run_steps.specs.Reading as reading
 use Rattle.run_steps.specs.Reading.{Capped, CouldNotRead, Gave}
 use Rattle.run_steps.specs.Sources.{IsSpecification, SourceOf, Specifies, source_cap, source_inputs}
 use Rattle.run_steps.specs.Steps.{Then, refused, goes_on}
+use Rattle.run_analyse.specs.Entry.{Enters, EntryOf}
+use Rattle.run_analyse.specs.Steps.{AnalyseSteps}
+use Rattle.run_analyse.proofs.Chain as analysis
 use Rattle.run_emulate.specs.Code.{CodeOf, Images, Joins, SegmentsOf, code_cap, imaged, order_of, part_inputs}
 use Rattle.run_emulate.specs.Entry.{StartOf, StartsFrom, entered, entry_cap, state_in}
 use Rattle.run_emulate.specs.Machines.{MachineOf}
@@ -137,8 +140,8 @@ module _ (old new : InputState) (what : Option Request) where
   code_known has code among found steps =
       both_know (SegmentsOf (Gave old new) code.parts) (Images (order_of code.order)) Cause Anything (segments_known code.parts among) (λ segments given found further. images_known has code segments found further) found steps
 
-  entered_known : IsTrue (has_entry what) → (state : Result State EntryError) → KnowsCause (entered state)
-  entered_known has (Ok state) = tt
+  entered_known : {A : Type 0} → IsTrue (has_entry what) → (found : Result A EntryError) → KnowsCause (entered found)
+  entered_known has (Ok found) = tt
   entered_known has (Err fault) = has
 
   starts_known : IsTrue (has_entry what) → (spec : Spec) (bytes : List ℕ) (found : Result State Refusal) → StartsFrom spec bytes found → KnowsCause found
@@ -148,11 +151,21 @@ module _ (old new : InputState) (what : Option Request) where
   start_known has spec name among found steps =
       both_know (Gave old new entry_cap name) (StartsFrom spec) Cause Anything (reading_known entry_cap name (among (name, entry_cap) (only (name, entry_cap)))) (λ bytes gave found further. starts_known has spec bytes found further) found steps
 
+  enters_known : IsTrue (has_entry what) → (spec : Spec) (bytes : List ℕ) (found : Result Entry Refusal) → Enters spec bytes found → KnowsCause found
+  enters_known has spec bytes found is = subst (λ (f : Result Entry Refusal). KnowsCause f) (sym is) (entered_known has (read spec bytes))
+
+  entry_known : IsTrue (has_entry what) → (spec : Spec) (name : List ℕ) → Among ((name, entry_cap) ∷ []) → (found : Result Entry Refusal) → EntryOf (Gave old new) spec name found → KnowsCause found
+  entry_known has spec name among found steps =
+      both_know (Gave old new entry_cap name) (Enters spec) Cause Anything (reading_known entry_cap name (among (name, entry_cap) (only (name, entry_cap)))) (λ bytes gave found further. enters_known has spec bytes found further) found steps
+
 -- ---- the commands
 
 module _ (old new : InputState) where
   abbrev pub Caused : Option Request → Outcome → Type 0
   Caused what outcome = Knows (Cause old new what) (Answers what) outcome
+
+  unbuilt_known : (what : Option Request) (outcome : Outcome) → outcome ≡ Err not_built → Caused what outcome
+  unbuilt_known what outcome is = subst (λ (o : Outcome). Caused what o) (sym is) tt
 
   ended_known : (request : CallRequest) (source : List ℕ) (spec : Spec) → IsSpecification Library source spec
       → (end : calls.End) → call_end spec request.calls request.fun request.numbers ≡ end → Caused (Some (call request)) (answered end)
@@ -186,6 +199,20 @@ module _ (old new : InputState) where
       (start_known old new what refl spec request.entry (behind_among old new what (sources ++ parts) entry (λ x named. named))) (λ start started found further.
       run_known request spec image start found further))) outcome steps
 
+  analyse_known : (request : AnalyseRequest) (outcome : Outcome) → AnalyseSteps (Gave old new) request outcome → Caused (Some (analyse request)) outcome
+  analyse_known request outcome steps =
+      let what = Some (analyse request) in
+      let sources = source_inputs request.spec in
+      let parts = part_inputs request.code.parts in
+      let entry = (request.entry, entry_cap) ∷ [] in
+      both_know (MachineOf (Gave old new) request.spec) (analysis.AfterMachine (Gave old new) request) (Cause old new what) (Answers what)
+      (machine_known old new what request.spec (first_among old new what sources parts (first_among old new what (sources ++ parts) entry (λ x named. named)))) (λ spec specified.
+      both_know (CodeOf (Gave old new) request.code) (analysis.AfterCode (Gave old new) request spec) (Cause old new what) (Answers what)
+      (code_known old new what refl request.code (behind_among old new what sources parts (first_among old new what (sources ++ parts) entry (λ x named. named)))) (λ image is_image.
+      both_know (EntryOf (Gave old new) spec request.entry) (analysis.AfterEntry (Gave old new) request) (Cause old new what) (Answers what)
+      (entry_known old new what refl spec request.entry (behind_among old new what (sources ++ parts) entry (λ x named. named))) (λ entry entered found is.
+      unbuilt_known what found is))) outcome steps
+
   list_known : (request : ListRequest) (outcome : Outcome) → ListSteps (Gave old new) request outcome → Caused (Some (list request)) outcome
   list_known request outcome steps =
       let what = Some (list request) in
@@ -197,12 +224,10 @@ module _ (old new : InputState) where
       (code_known old new what refl request.code (behind_among old new what sources parts (λ x named. named))) (λ image is_image found is.
       subst (λ (o : Outcome). Caused what o) (sym is) (record { spec = spec; image = image; lists = refl }))) outcome steps
 
-  unbuilt_known : (what : Option Request) (outcome : Outcome) → outcome ≡ Err not_built → Caused what outcome
-  unbuilt_known what outcome is = subst (λ (o : Outcome). Caused what o) (sym is) tt
-
   pub asked_known : (what : Option Request) (outcome : Outcome) → Steps (Gave old new) what outcome → Caused what outcome
   asked_known None outcome is = subst (λ (o : Outcome). Caused None o) (sym is) tt
   asked_known (Some (call request)) outcome steps = call_known request outcome steps
   asked_known (Some (emulate request)) outcome steps = emulate_known request outcome steps
+  asked_known (Some (analyse request)) outcome steps = analyse_known request outcome steps
   asked_known (Some (list request)) outcome steps = list_known request outcome steps
   asked_known (Some other) outcome is = unbuilt_known (Some other) outcome is

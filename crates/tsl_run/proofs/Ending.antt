@@ -14,7 +14,7 @@ use Rattle.run_steps.specs.Reading as owing
 use Rattle.run_steps.specs.Reading.{CouldNotRead, Gave, Holds}
 use Rattle.run_steps.specs.Statuses.{IsAnswer}
 use Rattle.run_steps.proofs.Steps.{Fails}
-use Rattle.command_words.specs.Requests.{Request, call, emulate, list}
+use Rattle.command_words.specs.Requests.{Request, call, emulate, analyse, list}
 use Rattle.command_words.specs.Words.{asked}
 use Rattle.tsl_run.specs.Follows.{Due, EndsWith, Finishes, IsCut, Unread, owed, unread}
 use Rattle.tsl_run.specs.Laws.{EndsFollow}
@@ -172,6 +172,7 @@ not_built_by : (old new : InputState) (what : Option Request) → IsUnbuilt what
 not_built_by old new None unbuilt outcome is = absurd unbuilt
 not_built_by old new (Some (call request)) unbuilt outcome steps = absurd (cc)
 not_built_by old new (Some (emulate request)) unbuilt outcome steps = absurd (cc)
+not_built_by old new (Some (analyse request)) unbuilt outcome steps = absurd (cc)
 not_built_by old new (Some (list request)) unbuilt outcome steps = absurd (cc)
 not_built_by old new (Some _) unbuilt outcome is = is
 

@@ -1,7 +1,7 @@
 -- Something is owed for all words.
 use Rattle.std.proofs.Common.{◌≡◌, ℕ, List, Option, Some, None, refl}
 use Rattle.std.specs.Prelude.{Ok, Err}
-use Rattle.command_words.specs.Requests.{Request, call, emulate, list}
+use Rattle.command_words.specs.Requests.{Request, call, emulate, analyse, list}
 use Rattle.command_words.specs.Words.{asked}
 use Rattle.function_calls.specs.Calls.{call_end}
 use Rattle.spec_types.specs.declared.spec.Use.TheVariants.{Library}
@@ -10,6 +10,7 @@ use Rattle.run_steps.specs.Reading.{Held, Holds}
 use Rattle.run_steps.specs.Sources.{SourceOf, Specifies}
 use Rattle.run_steps.proofs.OneSource.{some_source, some_specified}
 use Rattle.run_steps.proofs.Steps.{IsTotal, total}
+use Rattle.run_analyse.proofs.One.{analyse_has_some}
 use Rattle.run_emulate.proofs.Whole.{emulate_has_some, list_has_some}
 use Rattle.tsl_run.specs.Laws.{SomeAnswer}
 use Rattle.tsl_run.specs.Steps.{Steps, answered}
@@ -22,6 +23,7 @@ some_asked held (Some (call request)) =
     total (Specifies Library source) (Ended request) (some_specified Library source) (λ spec specified.
     (answered (call_end spec request.calls request.fun request.numbers), refl)))
 some_asked held (Some (emulate request)) = emulate_has_some held request
+some_asked held (Some (analyse request)) = analyse_has_some held request
 some_asked held (Some (list request)) = list_has_some held request
 some_asked held (Some _) = (Err not_built, refl)
 

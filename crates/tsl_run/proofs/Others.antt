@@ -3,16 +3,20 @@ use Rattle.std.proofs.Common.{◌≡◌, ◌⊎◌, inl, inr, ℕ, List, [], ◌
 use Rattle.std.specs.Prelude.{Contains, Result, Ok, Err}
 use Rattle.std.proofs.lemmas.List.Elements.{Contains-append_left, Contains-append_right}
 use Rattle.command_words.specs.Code.{Code, CodePart}
-use Rattle.command_words.specs.Requests.{CallRequest, EmulateRequest, ListRequest, Request, call, emulate, list}
+use Rattle.command_words.specs.Requests.{AnalyseRequest, CallRequest, EmulateRequest, ListRequest, Request, call, emulate, analyse, list}
 use Rattle.command_words.specs.SpecNames.{SpecName, input, power_pc, risc_v}
 use Rattle.insn_decode.specs.Image.{Image, Segment}
 use Rattle.spec_types.specs.declared.spec.Use.TheVariants.{Machine}
 use Rattle.spec_types.specs.Specification.{Spec}
+use Rattle.state_text.specs.Reading.{Entry}
 use Rattle.tsl_values.specs.States.{State}
 use Rattle.run_steps.specs.Outcome.{Outcome, Refusal}
 use Rattle.run_steps.specs.Reading.{Capped, Reading}
 use Rattle.run_steps.specs.Sources.{SourceOf, Specifies, source_cap, source_inputs}
 use Rattle.run_steps.proofs.Steps.{Fails, either}
+use Rattle.run_analyse.specs.Entry.{Enters, EntryOf}
+use Rattle.run_analyse.specs.Steps.{AnalyseSteps, analyse_inputs}
+use Rattle.run_analyse.proofs.Chain as analysis
 use Rattle.run_emulate.specs.Code.{CodeOf, Images, Joins, SegmentsOf, code_cap, order_of, part_inputs}
 use Rattle.run_emulate.specs.Entry.{StartOf, StartsFrom, entry_cap}
 use Rattle.run_emulate.specs.Machines.{MachineOf}
@@ -79,6 +83,21 @@ module _ (reads other : Reading) (fault : Refusal → Type 0) where
       either (StartOf reads spec request.entry) (StartOf other spec request.entry) (AfterStart reads request spec image) (AfterStart other request spec image) fault (start_either spec request.entry (behind (sources ++ parts) entry by))
       (λ start found further. inl further))) outcome steps
 
+  entry_either : (spec : Spec) (name : List ℕ) → Either ((name, entry_cap) ∷ []) → (found : Result Entry Refusal) → EntryOf reads spec name found → EntryOf other spec name found ⊎ Fails fault found
+  entry_either spec name by found steps =
+      either (reads entry_cap name) (other entry_cap name) (Enters spec) (Enters spec) fault (by entry_cap name (only (name, entry_cap))) (λ bytes found further. inl further) found steps
+
+  analyse_either : (request : AnalyseRequest) → Either (analyse_inputs request) → (outcome : Outcome) → AnalyseSteps reads request outcome → AnalyseSteps other request outcome ⊎ Fails fault outcome
+  analyse_either request by outcome steps =
+      let sources = source_inputs request.spec in
+      let parts = part_inputs request.code.parts in
+      let entry = (request.entry, entry_cap) ∷ [] in
+      let front = first (sources ++ parts) entry by in
+      either (MachineOf reads request.spec) (MachineOf other request.spec) (analysis.AfterMachine reads request) (analysis.AfterMachine other request) fault (machine_either request.spec (first sources parts front)) (λ spec.
+      either (CodeOf reads request.code) (CodeOf other request.code) (analysis.AfterCode reads request spec) (analysis.AfterCode other request spec) fault (code_either request.code (behind sources parts front)) (λ image.
+      either (EntryOf reads spec request.entry) (EntryOf other spec request.entry) (analysis.AfterEntry reads request) (analysis.AfterEntry other request) fault (entry_either spec request.entry (behind (sources ++ parts) entry by))
+      (λ entry found further. inl further))) outcome steps
+
   list_either : (request : ListRequest) → Either (list_inputs request) → (outcome : Outcome) → ListSteps reads request outcome → ListSteps other request outcome ⊎ Fails fault outcome
   list_either request by outcome steps =
       let sources = source_inputs request.spec in
@@ -91,5 +110,6 @@ module _ (reads other : Reading) (fault : Refusal → Type 0) where
   asked_either None by outcome is = inl is
   asked_either (Some (call request)) by outcome steps = call_either request by outcome steps
   asked_either (Some (emulate request)) by outcome steps = emulate_either request by outcome steps
+  asked_either (Some (analyse request)) by outcome steps = analyse_either request by outcome steps
   asked_either (Some (list request)) by outcome steps = list_either request by outcome steps
   asked_either (Some _) by outcome is = inl is

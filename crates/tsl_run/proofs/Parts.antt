@@ -6,18 +6,19 @@ use Rattle.std.proofs.lemmas.List.{length-map}
 use Rattle.command_words.specs.declared.commands.CommandName.{CommandName}
 use Rattle.command_words.specs.declared.commands.CommandName.TheVariants as c
 use Rattle.command_words.specs.declared.code_word.CodePart as code-part
+use Rattle.command_words.specs.declared.requests.AnalyseRequest as code-analyse
 use Rattle.command_words.specs.declared.requests.EmulateRequest as code-emulate
 use Rattle.command_words.specs.declared.requests.ListRequest as code-list
 use Rattle.command_words.specs.Code.{Code, CodePart, code_parts, is_comma, part_at, part_in, parts_from, parts_in}
 use Rattle.command_words.specs.CommandLine.{Given, given_in}
 use Rattle.command_words.specs.Commands.{command_named}
-use Rattle.command_words.specs.OptionValues.{address_of, calls_of, order_of, steps_of}
+use Rattle.command_words.specs.OptionValues.{address_of, base_of, calls_of, limit_of, order_of, steps_of}
 use Rattle.command_words.specs.Requests.{AnalyseRequest, CallRequest, CheckRequest, ClaimsRequest, ConvertRequest, EmulateRequest, ListRequest, Request, SliceRequest, StressRequest, call, emulate, analyse, check, convert, list, slice, claims, stress}
 use Rattle.command_words.specs.SpecNames.{spec_in}
 use Rattle.command_words.specs.Views as view
 use Rattle.command_words.specs.Views.{part_of}
 use Rattle.command_words.specs.Words as w
-use Rattle.command_words.specs.Words.{asked, asked_by, code_of, emulate_of, list_of, request_of, takes_all}
+use Rattle.command_words.specs.Words.{analyse_of, analysis_of, asked, asked_by, code_of, emulate_of, list_of, request_of, takes_all}
 
 -- ---- steps that give something
 
@@ -75,6 +76,7 @@ few_in_code given word code is =
 -- its code has few parts
 abbrev pub IsFew : Request → Type 0
 IsFew (emulate request) = length request.code.parts ≤ 16
+IsFew (analyse request) = length request.code.parts ≤ 16
 IsFew (list request) = length request.code.parts ≤ 16
 IsFew _ = Unit {0}
 
@@ -92,6 +94,24 @@ few_in_emulate given (spec ∷ []) request is = absurd (cc)
 few_in_emulate given (spec ∷ word ∷ []) request is = absurd (cc)
 few_in_emulate given (spec ∷ word ∷ entry ∷ more ∷ rest) request is = absurd (cc)
 
+few_in_analysis : (given : Given) (spec word entry : List ℕ) (request : AnalyseRequest) → analysis_of given spec word entry ≡ Some request → length request.code.parts ≤ 16
+unfolding analysis_of
+few_in_analysis given spec word entry request is =
+    let code = bound (code_of given word) (λ code. option_and_then (λ base. option_and_then (λ limit. Some (record { spec = spec_in spec; code = code; entry = entry; base = base; limit = limit })) (limit_of given)) (base_of given)) request is in
+    let base = bound (base_of given) (λ base. option_and_then (λ limit. Some (record { spec = spec_in spec; code = code.0; entry = entry; base = base; limit = limit })) (limit_of given)) request code.2 in
+    let limit = bound (limit_of given) (λ limit. Some (record { spec = spec_in spec; code = code.0; entry = entry; base = base.0; limit = limit })) request base.2 in
+    let made : Some (record { spec = spec_in spec; code = code.0; entry = entry; base = base.0; limit = limit.0 }) ≡ Some request = limit.2 in
+    let same : record { spec = spec_in spec; code = code.0; entry = entry; base = base.0; limit = limit.0 } ≡ request = cc in
+    subst (λ (r : AnalyseRequest). length r.code.parts ≤ 16) same (few_in_code given word code.0 code.1)
+
+few_in_analyse : (given : Given) (words : List (List ℕ)) (request : AnalyseRequest) → analyse_of given words ≡ Some request → length request.code.parts ≤ 16
+unfolding analyse_of
+few_in_analyse given (spec ∷ word ∷ entry ∷ []) request is = few_in_analysis given spec word entry request is
+few_in_analyse given [] request is = absurd (cc)
+few_in_analyse given (spec ∷ []) request is = absurd (cc)
+few_in_analyse given (spec ∷ word ∷ []) request is = absurd (cc)
+few_in_analyse given (spec ∷ word ∷ entry ∷ more ∷ rest) request is = absurd (cc)
+
 few_in_list : (given : Given) (words : List (List ℕ)) (request : ListRequest) → list_of given words ≡ Some request → length request.code.parts ≤ 16
 unfolding list_of
 few_in_list given (spec ∷ word ∷ []) request is =
@@ -106,7 +126,7 @@ few_in_list given (spec ∷ word ∷ more ∷ rest) request is = absurd (cc)
 few_by : (command : CommandName) (given : Given) (request : Request) → request_of command given ≡ Some request → IsFew request
 few_by c.Call given request is = let m = mapped call (w.call_of given given.words) request is in subst IsFew m.2 tt
 few_by c.Emulate given request is = let m = mapped emulate (emulate_of given given.words) request is in subst IsFew m.2 (few_in_emulate given given.words m.0 m.1)
-few_by c.Analyse given request is = let m = mapped analyse (w.analyse_of given given.words) request is in subst IsFew m.2 tt
+few_by c.Analyse given request is = let m = mapped analyse (analyse_of given given.words) request is in subst IsFew m.2 (few_in_analyse given given.words m.0 m.1)
 few_by c.Check given request is = let m = mapped check (w.check_of given given.words) request is in subst IsFew m.2 tt
 few_by c.Convert given request is = let m = mapped convert (w.convert_of given given.words) request is in subst IsFew m.2 tt
 few_by c.List given request is = let m = mapped list (list_of given given.words) request is in subst IsFew m.2 (few_in_list given given.words m.0 m.1)
@@ -136,6 +156,9 @@ few_of parts few = subst (λ (n : ℕ). n ≤ 16) (length-map parts part_of) few
 
 pub few_emulated : (words : List (List ℕ)) (request : code-emulate.EmulateRequest) → asked words ≡ Some (emulate (view.emulate_of request)) → length request.code.parts.items ≤ 16
 few_emulated words request is = few_of request.code.parts.items (few_asked words (emulate (view.emulate_of request)) is)
+
+pub few_analysed : (words : List (List ℕ)) (request : code-analyse.AnalyseRequest) → asked words ≡ Some (analyse (view.analyse_of request)) → length request.code.parts.items ≤ 16
+few_analysed words request is = few_of request.code.parts.items (few_asked words (analyse (view.analyse_of request)) is)
 
 pub few_listed : (words : List (List ℕ)) (request : code-list.ListRequest) → asked words ≡ Some (list (view.list_of request)) → length request.code.parts.items ≤ 16
 few_listed words request is = few_of request.code.parts.items (few_asked words (list (view.list_of request)) is)

@@ -1,7 +1,7 @@
 -- What is owed is one outcome.
 use Rattle.std.proofs.Common.{◌≡◌, ℕ, List, Option, Some, None, sym, ◌∙◌, ap}
 use Rattle.std.specs.Prelude.{Result, Ok, Err}
-use Rattle.command_words.specs.Requests.{Request, call, emulate, list}
+use Rattle.command_words.specs.Requests.{Request, call, emulate, analyse, list}
 use Rattle.command_words.specs.Words.{asked}
 use Rattle.spec_types.specs.declared.spec.Use.TheVariants.{Library}
 use Rattle.run_steps.specs.Outcome.{line_of, status_of}
@@ -9,6 +9,7 @@ use Rattle.run_steps.specs.Reading.{Held, Holds}
 use Rattle.run_steps.specs.Sources.{SourceOf, Specifies}
 use Rattle.run_steps.proofs.OneSource.{one_source, one_specified}
 use Rattle.run_steps.proofs.Steps.{IsOne, one}
+use Rattle.run_analyse.proofs.One.{analyse_has_one}
 use Rattle.run_emulate.proofs.Single.{emulate_has_one, list_has_one}
 use Rattle.tsl_run.specs.Laws.{OneAnswer}
 use Rattle.tsl_run.specs.Owed.{IsOwed}
@@ -21,6 +22,7 @@ one_asked held (Some (call request)) found other p q =
     one (SourceOf (Holds held) request.spec) (Called request) (one_source held request.spec) (λ source.
     one (Specifies Library source) (Ended request) (one_specified Library source) (λ spec found other p q. p ∙ sym q)) found other p q
 one_asked held (Some (emulate request)) found other p q = emulate_has_one held request found other p q
+one_asked held (Some (analyse request)) found other p q = analyse_has_one held request found other p q
 one_asked held (Some (list request)) found other p q = list_has_one held request found other p q
 one_asked held (Some _) found other p q = p ∙ sym q
 

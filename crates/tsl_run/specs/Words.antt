@@ -1,19 +1,21 @@
 -- What the words ask for of this program, and the inputs that they name.
 use Rattle.std.specs.Prelude.{◌≡◌, ℕ, Bool, true, false, List, [], map, Option, Some, None}
-use Rattle.command_words.specs.Requests.{Request, call, emulate, list}
+use Rattle.command_words.specs.Requests.{Request, call, emulate, analyse, list}
 use Rattle.command_words.specs.Words.{asked}
 use Rattle.run_steps.specs.Reading.{Capped}
 use Rattle.run_steps.specs.Sources.{source_inputs}
+use Rattle.run_analyse.specs.Steps.{analyse_inputs}
 use Rattle.run_emulate.specs.Steps.{emulate_inputs, list_inputs}
 
--- what is asked for is built
+-- what is asked for is built, or at least its inputs are read and examined
 abbrev pub is_built : Request → Bool
 is_built (call request) = true
 is_built (emulate request) = true
+is_built (analyse request) = true
 is_built (list request) = true
 is_built _ = false
 
--- Words ask for something, and it is not built.
+-- Words ask for something, and nothing of it is built.
 abbrev pub IsUnbuilt : Option Request → Type 0
 IsUnbuilt None = ⊥
 IsUnbuilt (Some request) = is_built request ≡ false
@@ -23,6 +25,7 @@ abbrev pub capped_in : Option Request → List Capped
 capped_in None = []
 capped_in (Some (call request)) = source_inputs request.spec
 capped_in (Some (emulate request)) = emulate_inputs request
+capped_in (Some (analyse request)) = analyse_inputs request
 capped_in (Some (list request)) = list_inputs request
 capped_in (Some _) = []
 
@@ -43,6 +46,7 @@ input_names words = names_in (asked words)
 abbrev pub has_code : Option Request → Bool
 has_code None = false
 has_code (Some (emulate request)) = true
+has_code (Some (analyse request)) = true
 has_code (Some (list request)) = true
 has_code (Some _) = false
 
@@ -50,4 +54,5 @@ has_code (Some _) = false
 abbrev pub has_entry : Option Request → Bool
 has_entry None = false
 has_entry (Some (emulate request)) = true
+has_entry (Some (analyse request)) = true
 has_entry (Some _) = false

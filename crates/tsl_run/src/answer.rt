@@ -17,6 +17,7 @@ ghost use Rattle.tsl_run.specs.Words.{IsUnbuilt, capped_inputs};
 
 use command_words::{CallRequest, Request, read_words};
 use function_calls::{CallEnd, call_by_words, value_line};
+use run_analyse::analysed;
 use run_emulate::{emulated, listed};
 use run_steps::{Answer, Halt, Outcome, Refusal, source_of, specified};
 use std::alloc::{AllocError, Global};
@@ -68,6 +69,7 @@ fn answer<'a, I: Inputs>(
     match read_words(alloc, words)? {
         Request::Call(request) => answer_call(alloc, inputs, &request),
         Request::Emulate(request) => emulated(alloc, inputs, &request),
+        Request::Analyse(request) => analysed(alloc, inputs, &request),
         Request::List(request) => listed(alloc, inputs, &request),
         _ => Err(Halt::Refused(Refusal::NotBuilt)),
     }

@@ -6,7 +6,7 @@
 //!
 //! `answer` shows the chain from words to answer. It is the chain of the definition, specs/Steps: each step gives something to the
 //! next one, or refuses, and then that is what the run comes to. The chain of `call` is here; those of `emulate` and `list` are
-//! those of `run_emulate`. Over the bytes that the names hold (`Holds`) these steps have one outcome, which is *owed* (`Owes`).
+//! those of `run_emulate`, and that of `analyse`, as far as it is built, is that of `run_analyse`. Over the bytes that the names hold (`Holds`) these steps have one outcome, which is *owed* (`Owes`).
 //! Over inputs that may fail (`Gave`) they have the same one, or that an input could not be read; the code gives just that (`Gives`,
 //! for each of its steps), and so the whole is proved step by step.
 //!

@@ -43,6 +43,4 @@ pub use casts::{sext, trunc, zext};
 pub use compare::cmp;
 pub use kinds::{Cmp, Op1, Op2};
 pub use operations::{op1, op2};
-
-#[cfg(test)]
-mod tests;
+pub use width::greatest;

@@ -4,7 +4,7 @@ ghost use Rattle.std.specs.Prelude.{◌≡◌, ◌+◌, ◌%◌, ◌^◌};
 ghost use Rattle.word_ops.specs.Width.{IsWidth};
 
 /// The greatest number of w bits.
-pub(crate) fn greatest(w: u32) -> u64
+pub fn greatest(w: u32) -> u64
     requires { IsWidth w }
     ensures { result + 1 ≡ 2 ^ w }
 {

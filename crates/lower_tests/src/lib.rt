@@ -1,0 +1,5 @@
+//! Tests of the code of a specification. They stand apart, since a crate with tests is proved a second time with them.
+#![tactic(auto)]
+
+#[cfg(test)]
+mod tests;

@@ -1,0 +1,4 @@
+pub mod Chain
+pub mod Giving
+pub mod One
+pub mod Several

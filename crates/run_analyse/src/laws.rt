@@ -1,0 +1,13 @@
+//! What holds of the outcome of the command. These functions do nothing: their contracts are laws.
+
+ghost use Rattle.run_analyse.specs.Laws.{AnalyseHasOne, AnalyseHasSome};
+
+/// Over the bytes that names hold, `analyse` has one outcome at most.
+pub fn analyse_has_one()
+    ensures { AnalyseHasOne }
+{}
+
+/// It has an outcome.
+pub fn analyse_has_some()
+    ensures { AnalyseHasSome }
+{}
