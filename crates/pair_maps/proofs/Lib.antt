@@ -1,2 +1,3 @@
+pub mod Growing
+pub mod Union
 pub mod Maps
-pub mod Merging

@@ -1,10 +1,15 @@
 //! The cells of two maps side by side.
 
-ghost use Rattle.std.specs.Prelude.{◌≡◌, IfOk};
-ghost use Rattle.map_laws.specs.Maps.{Fits, cell, cells_at};
+ghost use Rattle.std.specs.Prelude.{◌≡◌, IfOk, IsOkAnd};
+ghost use Rattle.map_laws.specs.Calls.{access_of, folded};
+ghost use Rattle.map_laws.specs.Keys.{either_key};
+ghost use Rattle.map_laws.specs.Maps.{Fits, cell, cells_at, keys};
+ghost use Rattle.abs_map.specs.Unfolded.{FitsUnfolded};
+ghost use Rattle.abs_map.specs.View.{keys_of};
 ghost use Rattle.pair_calls.specs.Calls.{zip_cells};
 
-use crate::lists::pushed;
+use crate::keys::either_key;
+use crate::lists::{keyed, pushed};
 use abs_map::{AMap, KeySet};
 use base_trait::Base;
 use map_laws::Cell;
@@ -19,28 +24,96 @@ pub(crate) type PairOf<A, B> = Cell<
     (<A as Base>::Note, <B as Base>::Note),
 >;
 
-/// Two cells side by side.
-fn zip_cells<A: Base, B: Base>(x: CellOf<A>, y: CellOf<B>) -> PairOf<A, B>
-    ensures { result ≡ zip_cells x y }
+/// The map of a rest and of listed cells, if there are both.
+pub(crate) fn made<B: Base>(
+    alloc: Global,
+    ctx: &B::Ctx,
+    width: u32,
+    rest: Result<CellOf<B>, NoMemory>,
+    cells: Result<Vec<(u64, CellOf<B>)>, NoMemory>,
+) -> Result<AMap<B>, NoMemory>
+    requires map { IfOk rest (λ x. IfOk cells (λ es. FitsUnfolded B.algebra ctx.now (record { width = width; rest = x; cells = es.items }))) }
+    ensures value { IfOk result (λ r. IsOkAnd rest (λ x. IsOkAnd cells (λ es. r ≡ folded B.algebra ctx.now B.CAP (record { width = width; rest = x; cells = es.items })))) }
+    ensures fits { IfOk result (λ r. Fits B.algebra ctx.now B.CAP r) }
 {
-    Cell {
-        word: (x.word, y.word),
-        note: (x.note, y.note),
+    let rest = match rest {
+        Ok(rest) => rest,
+        Err(error) => {
+            drop(cells);
+            return Err(error);
+        }
+    };
+    match cells {
+        Ok(cells) => AMap::of_cells(alloc, ctx, width, rest, cells),
+        Err(error) => {
+            drop(rest);
+            Err(error)
+        }
     }
 }
 
-/// A copy of the rest of a map.
-fn rest_of<B: Base>(alloc: Global, ctx: &B::Ctx, m: &AMap<B>) -> Result<CellOf<B>, NoMemory>
-    ensures { IfOk result (λ r. r ≡ m.now.rest) }
+/// A word with its note, if there is a note.
+pub(crate) fn with_note<W: Drop, N>(
+    word: W,
+    note: Result<N, NoMemory>,
+) -> Result<Cell<W, N>, NoMemory>
+    ensures { IfOk result (λ r. IsOkAnd note (λ n. r ≡ record { word = word; note = n })) }
 {
-    let (word, note) = m.rest();
-    Ok(Cell {
-        word: B::copy(alloc, ctx, word)?,
-        note: B::copy_note(alloc, note)?,
-    })
+    match note {
+        Ok(note) => Ok(Cell { word, note }),
+        Err(error) => {
+            drop(word);
+            Err(error)
+        }
+    }
 }
 
-/// The rests of both maps, side by side.
+/// Two words and two notes side by side, if there are both.
+fn beside<V: Drop, M: Drop, W: Drop, N: Drop>(
+    left: Result<(V, M), NoMemory>,
+    right: Result<(W, N), NoMemory>,
+) -> Result<Cell<(V, W), (M, N)>, NoMemory>
+    ensures { IfOk result (λ r. IsOkAnd left (λ x. IsOkAnd right (λ y. r ≡ record { word = (x.0, y.0); note = (x.1, y.1) }))) }
+{
+    let left = match left {
+        Ok(left) => left,
+        Err(error) => {
+            drop(right);
+            return Err(error);
+        }
+    };
+    match right {
+        Ok(right) => Ok(Cell {
+            word: (left.0, right.0),
+            note: (left.1, right.1),
+        }),
+        Err(error) => {
+            drop(left);
+            Err(error)
+        }
+    }
+}
+
+/// What a read of both gives, side by side.
+fn zipped_at<A: Base, B: Base>(
+    alloc: Global,
+    left: &A::Ctx,
+    right: &B::Ctx,
+    x: &AMap<A>,
+    y: &AMap<B>,
+    keys: KeySet,
+) -> Result<PairOf<A, B>, NoMemory>
+    requires first { Fits A.algebra left.now A.CAP x.now }
+    requires second { Fits B.algebra right.now B.CAP y.now }
+    ensures { IfOk result (λ r. r ≡ zip_cells (access_of A.algebra left.now x.now (keys_of keys)) (access_of B.algebra right.now y.now (keys_of keys))) }
+{
+    let first = x.access(alloc, left, &keys);
+    let second = y.access(alloc, right, &keys);
+    drop(keys);
+    beside(first, second)
+}
+
+/// The rests of both maps, side by side: what a read at a key gives that neither lists.
 pub(crate) fn zipped_rest<A: Base, B: Base>(
     alloc: Global,
     left: &A::Ctx,
@@ -48,25 +121,15 @@ pub(crate) fn zipped_rest<A: Base, B: Base>(
     x: &AMap<A>,
     y: &AMap<B>,
 ) -> Result<PairOf<A, B>, NoMemory>
+    requires first { Fits A.algebra left.now A.CAP x.now }
+    requires second { Fits B.algebra right.now B.CAP y.now }
     ensures { IfOk result (λ r. r ≡ zip_cells x.now.rest y.now.rest) }
 {
-    let x = rest_of(alloc, left, x)?;
-    let y = rest_of(alloc, right, y)?;
-    Ok(zip_cells::<A, B>(x, y))
-}
-
-/// A copy of the cell of a map at a key.
-fn cell_of<B: Base>(
-    alloc: Global,
-    ctx: &B::Ctx,
-    m: &AMap<B>,
-    key: u64,
-) -> Result<CellOf<B>, NoMemory>
-    requires map { Fits B.algebra ctx.now B.CAP m.now }
-    ensures { IfOk result (λ r. r ≡ cell m.now key) }
-{
-    let (word, note) = m.access(alloc, ctx, &KeySet::One(key))?;
-    Ok(Cell { word, note })
+    let unlisted = KeySet::Some {
+        listed: Vec::new(alloc),
+        all_listed: false,
+    };
+    zipped_at(alloc, left, right, x, y, unlisted)
 }
 
 /// The cells of both at a key, side by side.
@@ -81,13 +144,12 @@ fn zipped_cell<A: Base, B: Base>(
     requires right { Fits B.algebra ctx.now.1 B.CAP y.now }
     ensures { IfOk result (λ r. r ≡ (key, zip_cells (cell x.now key) (cell y.now key))) }
 {
-    let left = cell_of(alloc, &ctx.0, x, key)?;
-    let right = cell_of(alloc, &ctx.1, y, key)?;
-    Ok((key, zip_cells::<A, B>(left, right)))
+    let keys = KeySet::One(key);
+    keyed(key, zipped_at(alloc, &ctx.0, &ctx.1, x, y, keys))
 }
 
 /// The cells of both at these keys, side by side.
-pub(crate) fn zipped_cells<A: Base, B: Base>(
+fn cells_at<A: Base, B: Base>(
     alloc: Global,
     ctx: &(A::Ctx, B::Ctx),
     x: &AMap<A>,
@@ -98,9 +160,26 @@ pub(crate) fn zipped_cells<A: Base, B: Base>(
     requires right { Fits B.algebra ctx.now.1 B.CAP y.now }
     ensures { IfOk result (λ r. r.items ≡ cells_at keys.now (λ k. zip_cells (cell x.now k) (cell y.now k))) }
 {
-    let mut cells = Vec::with_capacity(alloc, keys.len())?;
+    let mut cells = Vec::new(alloc);
     for key in keys {
         cells = pushed(cells, zipped_cell(alloc, ctx, x, y, *key))?;
     }
     Ok(cells)
+}
+
+/// The cells of both at each key that either lists, side by side.
+pub(crate) fn zipped_cells<A: Base, B: Base>(
+    alloc: Global,
+    ctx: &(A::Ctx, B::Ctx),
+    x: &AMap<A>,
+    y: &AMap<B>,
+) -> Result<Vec<(u64, PairOf<A, B>)>, NoMemory>
+    requires left { Fits A.algebra ctx.now.0 A.CAP x.now }
+    requires right { Fits B.algebra ctx.now.1 B.CAP y.now }
+    ensures { IfOk result (λ r. r.items ≡ cells_at (either_key (keys x.now) (keys y.now)) (λ k. zip_cells (cell x.now k) (cell y.now k))) }
+{
+    let keys = either_key(alloc, x, y)?;
+    let cells = cells_at(alloc, ctx, x, y, &keys);
+    drop(keys);
+    cells
 }

@@ -1,6 +1,6 @@
-//! Lists that grow by one.
+//! Lists that grow by one, and values with keys.
 
-ghost use Rattle.std.specs.Prelude.{◌≡◌, ◌++◌, ◌∷◌, [], IfOk, MatchResult};
+ghost use Rattle.std.specs.Prelude.{◌≡◌, ◌++◌, ◌∷◌, [], IfOk, IsOkAnd, MatchResult};
 
 use std::alloc::AllocError as NoMemory;
 
@@ -12,4 +12,14 @@ pub fn pushed<T: Drop>(mut values: Vec<T>, next: Result<T, NoMemory>) -> Result<
 {
     values.push(next?)?;
     Ok(values)
+}
+
+/// A value with its key, if there is a value.
+pub(crate) fn keyed<T>(key: u64, value: Result<T, NoMemory>) -> Result<(u64, T), NoMemory>
+    ensures { IfOk result (λ r. IsOkAnd value (λ x. r ≡ (key, x))) }
+{
+    match value {
+        Ok(value) => Ok((key, value)),
+        Err(error) => Err(error),
+    }
 }

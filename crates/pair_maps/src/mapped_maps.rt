@@ -4,12 +4,11 @@ ghost use Rattle.std.specs.Prelude.{◌≡◌, ◌<◌, IfOk, Some, length, slic
 ghost use Rattle.map_laws.specs.Maps.{Fits};
 ghost use Rattle.pair_calls.specs.Calls.{mapped_cell, mapped_cells, mapped_map};
 
-use crate::cells::CellOf;
-use crate::lists::pushed;
+use crate::cells::{CellOf, made, with_note};
+use crate::lists::{keyed, pushed};
 use crate::part::Part;
 use abs_map::AMap;
 use base_trait::Base;
-use map_laws::Cell;
 use std::alloc::{AllocError as NoMemory, Global};
 
 /// The part of a cell.
@@ -21,10 +20,8 @@ fn mapped_cell<P: Part>(
 ) -> Result<CellOf<P::To>, NoMemory>
     ensures { IfOk result (λ r. r ≡ mapped_cell P.word_of P.note_of (record { word = word.now; note = note.now })) }
 {
-    Ok(Cell {
-        word: P::word(alloc, ctx, word)?,
-        note: P::note(alloc, note)?,
-    })
+    let word = P::word(alloc, ctx, word)?;
+    with_note(word, P::note(alloc, note))
 }
 
 /// The part of the listed cell at a place, with its key.
@@ -38,8 +35,7 @@ fn mapped_entry<P: Part>(
     ensures { IfOk result (λ r. slice_get (mapped_cells P.word_of P.note_of m.now.cells) place ≡ Some r) }
 {
     let (word, note) = m.cell_at(place);
-    let cell = mapped_cell::<P>(alloc, ctx, word, note)?;
-    Ok((m.key_at(place), cell))
+    keyed(m.key_at(place), mapped_cell::<P>(alloc, ctx, word, note))
 }
 
 /// The parts of the listed cells.
@@ -66,8 +62,12 @@ pub fn mapped_map<P: Part>(
     requires fits { Fits P.To.algebra ctx.now P.To.CAP (mapped_map P.word_of P.note_of m.now) }
     ensures { IfOk result (λ r. r ≡ mapped_map P.word_of P.note_of m.now) }
 {
-    let cells = mapped_cells::<P>(alloc, ctx, m)?;
     let (word, note) = m.rest();
-    let rest = mapped_cell::<P>(alloc, ctx, word, note)?;
-    AMap::of_cells(alloc, ctx, m.width(), rest, cells)
+    made::<P::To>(
+        alloc,
+        ctx,
+        m.width(),
+        mapped_cell::<P>(alloc, ctx, word, note),
+        mapped_cells::<P>(alloc, ctx, m),
+    )
 }

@@ -5,8 +5,7 @@ ghost use Rattle.map_laws.specs.Maps.{Fits};
 ghost use Rattle.paired_base.specs.Meaning.{paired};
 ghost use Rattle.pair_calls.specs.Calls.{zip_map};
 
-use crate::cells::{zipped_cells, zipped_rest};
-use crate::keys::either_key;
+use crate::cells::{made, zipped_cells, zipped_rest};
 use abs_map::AMap;
 use base_trait::Base;
 use paired_base::Paired;
@@ -27,8 +26,11 @@ pub fn zip_map<A: Base, B: Base>(
     ensures value { IfOk result (λ r. r ≡ zip_map A.algebra B.algebra ctx.now (max A.CAP B.CAP) x.now y.now) }
     ensures fits { IfOk result (λ r. Fits (paired A.algebra B.algebra) ctx.now (max A.CAP B.CAP) r) }
 {
-    let keys = either_key(alloc, x, y)?;
-    let cells = zipped_cells(alloc, ctx, x, y, &keys)?;
-    let rest = zipped_rest(alloc, &ctx.0, &ctx.1, x, y)?;
-    AMap::of_cells(alloc, ctx, x.width(), rest, cells)
+    made::<Paired<A, B>>(
+        alloc,
+        ctx,
+        x.width(),
+        zipped_rest(alloc, &ctx.0, &ctx.1, x, y),
+        zipped_cells(alloc, ctx, x, y),
+    )
 }

@@ -1,14 +1,17 @@
 -- One more element of lists of parts or cases.
 use Rattle.std.proofs.Common.{◌≡◌, ℕ, ◌+◌, ◌≤◌, List, [], ◌∷◌, ◌++◌, length, drop, min, Option, Some, None, Result, Ok, Err, refl, sym, ap, subst, ◌∙◌, arith, length-drop}
-use Rattle.std.specs.Prelude.{map as map_of, IfOk, MatchResult}
+use Rattle.std.specs.Prelude.{map as map_of, IfOk, IsOkAnd, MatchResult, Vec}
+use Rattle.std.specs.declared.alloc.Global.{Global}
 use Rattle.std.proofs.lemmas.List.{map_push}
 use Rattle.base_trait.specs.Algebra.{Algebra}
 use Rattle.map_laws.proofs.Joining.{drop_all}
 use Rattle.value_laws.specs.Abs.{Abs, Cases, Parts, flag, word, made, map, no_case, absent, present, no_part, part, case_onto, cases, cases_onto, parts, parts_onto}
 use Rattle.value_laws.specs.Fits.{CaseFits, CasesFit, Fits, PartsFit}
-use Rattle.map_laws.specs.Maps.{Map}
+use Rattle.abs_value.specs.View.{abs, case_of}
+use Rattle.abs_value.specs.declared.value.AV.{AV, Data}
 use Rattle.abs_value.proofs.Merging.{cases_onto_more, parts_onto_more}
-use Rattle.pair_calls.specs.Calls.{mapped_cases, mapped_map, mapped_parts, mapped_value, zip_cases, zip_parts, zip_value}
+use Rattle.abs_value.proofs.Views.{abs_Data}
+use Rattle.pair_calls.specs.Calls.{mapped_cases, mapped_parts, mapped_value, zip_cases, zip_parts, zip_value}
 use Rattle.pair_calls.proofs.Values.{CasesMeet, Meet, PartsMeet}
 use Rattle.pair_values.specs.Cases.{CaseMeets, mapped_case, zip_case}
 use Rattle.pair_maps.proofs.Maps.{fits_more}
@@ -36,6 +39,19 @@ module _ {S D E : Type 0} (h : S → D) where
   pub pushed_view : (out out' : List S) (next : Result S E) (v : D) → MatchResult next (λ z. out' ≡ out ++ z ∷ []) (λ e. ⊥) → IfOk next (λ z. h z ≡ v) → map_of h out' ≡ map_of h out ++ v ∷ []
   pushed_view out out' (Ok z) v more is = ap (map_of h) more ∙ map_push h out z ∙ ap (λ t. map_of h out ++ t ∷ []) is
   pushed_view out out' (Err e) v more is = absurd more
+
+-- ---- what a constructor has that is there
+module _ {X W N C E : Type 0} where
+  pub case_is : (v : Result (Vec (AV X W N C) Global) E) (r : Result (Option (Vec (AV X W N C) Global)) E) (p : Parts W N) (o : Option (Parts W N)) → o ≡ Some p → IfOk v (λ xs. parts (map_of abs xs.items) ≡ p)
+      → IfOk r (λ t. IsOkAnd v (λ xs. t ≡ Some xs)) → IfOk r (λ t. case_of t ≡ o)
+  case_is (Ok xs) (Ok t) p o e d h = ap case_of h ∙ ap (λ q. Some q) d ∙ sym e
+  case_is (Err f) (Ok t) p o e d h = absurd h
+  case_is v (Err f) p o e d h = tt
+
+-- ---- a constructor value that is made, where its fields are
+module _ {X W N C E : Type 0} where
+  pub data_is : (ty : ℕ) (o : Result (Vec (Option (Vec (AV X W N C) Global)) Global) E) (v : Vec (Option (Vec (AV X W N C) Global)) Global) → o ≡ Ok v → IsOkAnd o (λ cs. abs (Data ty v) ≡ made ty (cases (map_of case_of cs.items)))
+  data_is ty o v e = subst (λ o. IsOkAnd o (λ cs. abs (Data ty v) ≡ made ty (cases (map_of case_of cs.items)))) (sym e) (abs_Data ty v)
 
 -- ---- the first of what is left, and the others
 module _ {W N C : Type 0} (B : Algebra W N C) (c : C) (cap : ℕ) where
@@ -133,10 +149,22 @@ module _ {T U V W M N C D : Type 0} (A : Algebra V M C) (B : Algebra W N D) (c :
 
 module _ {V W M N C D : Type 0} (A : Algebra V M C) (B : Algebra W N D) (c : C × D) (cap : ℕ) where
   -- the value that the code makes of two constructor values
-  pub zipped_made : (ty tz : ℕ) (a : Abs V M) (b : Abs W N) (r : Abs (V × W) (M × N)) (cs cs' : Cases V M) (ds ds' : Cases W N) (out : Cases (V × W) (M × N))
+  zipped_made : (ty tz : ℕ) (a : Abs V M) (b : Abs W N) (r : Abs (V × W) (M × N)) (cs cs' : Cases V M) (ds ds' : Cases W N) (out : Cases (V × W) (M × N))
       → a ≡ made ty cs → b ≡ made tz ds → r ≡ made ty out → out ≡ zip_cases A B c cap cs' ds' → cs' ≡ cs → ds' ≡ ds → r ≡ zip_value A B c cap a b
   zipped_made ty tz a b r cs cs' ds ds' out ea eb er is e f =
       er ∙ ap (λ t. made ty t) (is ∙ ap (λ t. zip_cases A B c cap t ds') e ∙ ap (λ t. zip_cases A B c cap cs t) f) ∙ sym (ap (λ t. zip_value A B c cap t b) ea ∙ ap (λ t. zip_value A B c cap (made ty cs) t) eb)
+
+  -- the same, where there are such cases
+  pub zipped_data : {S T E : Type 0} (g : T → Cases (V × W) (M × N)) (h : S → Abs (V × W) (M × N)) (out : Result T E) (r : Result S E) (ty tz : ℕ) (a : Abs V M) (b : Abs W N) (cs cs' : Cases V M) (ds ds' : Cases W N)
+      → a ≡ made ty cs → b ≡ made tz ds → cs' ≡ cs → ds' ≡ ds → IfOk out (λ v. g v ≡ zip_cases A B c cap cs' ds') → IfOk r (λ t. IsOkAnd out (λ v. h t ≡ made ty (g v))) → IfOk r (λ t. h t ≡ zip_value A B c cap a b)
+  zipped_data g h (Ok v) (Ok t) ty tz a b cs cs' ds ds' ea eb e f is er = zipped_made ty tz a b (h t) cs cs' ds ds' (g v) ea eb er is e f
+  zipped_data g h (Err x) (Ok t) ty tz a b cs cs' ds ds' ea eb e f is er = absurd er
+  zipped_data g h out (Err x) ty tz a b cs cs' ds ds' ea eb e f is er = tt
+
+  -- what is made of a value of another form
+  pub zipped_as : {S E : Type 0} (h : S → Abs (V × W) (M × N)) (r : Result S E) (a z : Abs V M) (b : Abs W N) → a ≡ z → IfOk r (λ t. h t ≡ zip_value A B c cap z b) → IfOk r (λ t. h t ≡ zip_value A B c cap a b)
+  zipped_as h (Ok t) a z b e is = is ∙ sym (ap (λ u. zip_value A B c cap u b) e)
+  zipped_as h (Err x) a z b e is = tt
 
 -- ---- the parts of a list
 module _ {V W M N : Type 0} (word : V → W) (note : M → N) where
@@ -180,9 +208,17 @@ module _ {T V W M N : Type 0} (word : V → W) (note : M → N) (xs : List T) (i
   mapped_cases_done f out whole is = sym (ap (λ t. cases_onto out (mapped_cases word note (cases (map_of f t)))) (drop_all i xs l)) ∙ is
 
 module _ {V W M N : Type 0} (word : V → W) (note : M → N) where
-  -- the value that the code makes of a constructor value, and of a map
-  pub mapped_made : (ty : ℕ) (a : Abs V M) (r : Abs W N) (cs cs' : Cases V M) (out : Cases W N) → a ≡ made ty cs → r ≡ made ty out → out ≡ mapped_cases word note cs' → cs' ≡ cs → r ≡ mapped_value word note a
+  -- the value that the code makes of a constructor value
+  mapped_made : (ty : ℕ) (a : Abs V M) (r : Abs W N) (cs cs' : Cases V M) (out : Cases W N) → a ≡ made ty cs → r ≡ made ty out → out ≡ mapped_cases word note cs' → cs' ≡ cs → r ≡ mapped_value word note a
   mapped_made ty a r cs cs' out ea er is e = er ∙ ap (λ t. made ty t) (is ∙ ap (λ t. mapped_cases word note t) e) ∙ sym (ap (λ t. mapped_value word note t) ea)
 
-  pub mapped_as_map : (n : ℕ) (a : Abs V M) (r : Abs W N) (m : Map V M) → a ≡ map n m → r ≡ map n (mapped_map word note m) → r ≡ mapped_value word note a
-  mapped_as_map n a r m ea er = er ∙ sym (ap (λ t. mapped_value word note t) ea)
+  pub mapped_data_is : {S T E : Type 0} (g : T → Cases W N) (h : S → Abs W N) (out : Result T E) (r : Result S E) (ty : ℕ) (a : Abs V M) (cs cs' : Cases V M) → a ≡ made ty cs → cs' ≡ cs
+      → IfOk out (λ v. g v ≡ mapped_cases word note cs') → IfOk r (λ t. IsOkAnd out (λ v. h t ≡ made ty (g v))) → IfOk r (λ t. h t ≡ mapped_value word note a)
+  mapped_data_is g h (Ok v) (Ok t) ty a cs cs' ea e is er = mapped_made ty a (h t) cs cs' (g v) ea er is e
+  mapped_data_is g h (Err x) (Ok t) ty a cs cs' ea e is er = absurd er
+  mapped_data_is g h out (Err x) ty a cs cs' ea e is er = tt
+
+  -- what is made as the part of a value of another form
+  pub mapped_as : {S E : Type 0} (h : S → Abs W N) (r : Result S E) (a b : Abs V M) (t : Abs W N) → a ≡ b → mapped_value word note b ≡ t → IfOk r (λ s. h s ≡ t) → IfOk r (λ s. h s ≡ mapped_value word note a)
+  mapped_as h (Ok s) a b t e d is = is ∙ sym d ∙ sym (ap (λ z. mapped_value word note z) e)
+  mapped_as h (Err x) a b t e d is = tt

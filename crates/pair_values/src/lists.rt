@@ -1,6 +1,6 @@
-//! Lists that grow by one.
+//! Lists that grow by one, and what a constructor has.
 
-ghost use Rattle.std.specs.Prelude.{◌≡◌, ◌++◌, ◌∷◌, [], IfOk, MatchResult};
+ghost use Rattle.std.specs.Prelude.{◌≡◌, ◌++◌, ◌∷◌, [], IfOk, IsOkAnd, MatchResult, Some};
 
 use abs_value::AV;
 use base_trait::Base;
@@ -25,4 +25,14 @@ pub(crate) fn pushed_case<B: Base>(
     ensures { IfOk result (λ r. MatchResult next (λ x. r.items ≡ cases.items ++ x ∷ []) (λ _e. ⊥)) }
 {
     pushed(cases, next)
+}
+
+/// What a constructor has that is there, if it could be made.
+pub(crate) fn present<T>(fields: Result<T, NoMemory>) -> Result<Option<T>, NoMemory>
+    ensures { IfOk result (λ r. IsOkAnd fields (λ x. r ≡ Some x)) }
+{
+    match fields {
+        Ok(fields) => Ok(Some(fields)),
+        Err(error) => Err(error),
+    }
 }

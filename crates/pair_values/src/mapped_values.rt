@@ -1,6 +1,6 @@
 //! The part of each word and of each note of a value.
 
-ghost use Rattle.std.specs.Prelude.{◌≡◌, IfOk, map};
+ghost use Rattle.std.specs.Prelude.{◌≡◌, IfOk, IsOkAnd, map};
 ghost use Rattle.map_laws.specs.Maps.{Fits as MapFits};
 ghost use Rattle.value_laws.specs.Abs as plain;
 ghost use Rattle.value_laws.specs.Abs.{cases, parts};
@@ -9,7 +9,7 @@ ghost use Rattle.abs_value.specs.View.{abs, case_of};
 ghost use Rattle.pair_calls.specs.Calls.{mapped_cases, mapped_map, mapped_parts, mapped_value};
 ghost use Rattle.pair_values.specs.Cases.{mapped_case};
 
-use crate::lists::{pushed_case, pushed_field};
+use crate::lists::{present, pushed_case, pushed_field};
 use abs_map::AMap;
 use abs_value::AV;
 use base_trait::Base;
@@ -41,10 +41,23 @@ fn mapped_cells_of<P: Part>(
     requires fits { MapFits P.To.algebra ctx.now P.To.CAP (mapped_map P.word_of P.note_of m.now) }
     ensures { IfOk result (λ r. abs r ≡ plain.map map (mapped_map P.word_of P.note_of m.now)) }
 {
-    Ok(AV::Map {
-        map,
-        m: mapped_map::<P>(alloc, ctx, m)?,
-    })
+    match mapped_map::<P>(alloc, ctx, m) {
+        Ok(m) => Ok(AV::Map { map, m }),
+        Err(error) => Err(error),
+    }
+}
+
+/// The value with these fields of constructors, if there are such.
+fn mapped_data<B: Base>(
+    ty: u32,
+    cases: Result<Vec<Option<Vec<AV<B>>>>, NoMemory>,
+) -> Result<AV<B>, NoMemory>
+    ensures { IfOk result (λ r. IsOkAnd cases (λ cs. abs r ≡ plain.made ty (plain.cases (map case_of cs.items)))) }
+{
+    match cases {
+        Ok(cases) => Ok(AV::Data { ty, cases }),
+        Err(error) => Err(error),
+    }
 }
 
 /// The part of a value.
@@ -60,10 +73,7 @@ pub(crate) fn mapped_value<P: Part>(
     match x {
         AV::Flag(t) => Ok(AV::Flag(*t)),
         AV::Word { w, x } => mapped_word::<P>(alloc, ctx, *w, x),
-        AV::Data { ty, cases } => Ok(AV::Data {
-            ty: *ty,
-            cases: mapped_cases::<P>(alloc, ctx, cases)?,
-        }),
+        AV::Data { ty, cases } => mapped_data(*ty, mapped_cases::<P>(alloc, ctx, cases)),
         AV::Map { map, m } => mapped_cells_of::<P>(alloc, ctx, *map, m),
     }
 }
@@ -94,7 +104,7 @@ fn mapped_case<P: Part>(
     ensures { IfOk result (λ r. case_of r ≡ mapped_case P.word_of P.note_of (case_of x.now)) }
 {
     match x {
-        Some(xs) => Ok(Some(mapped_parts::<P>(alloc, ctx, xs)?)),
+        Some(xs) => present(mapped_parts::<P>(alloc, ctx, xs)),
         None => Ok(None),
     }
 }

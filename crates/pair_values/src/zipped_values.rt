@@ -1,6 +1,6 @@
 //! Values side by side.
 
-ghost use Rattle.std.specs.Prelude.{◌≡◌, ◌++◌, ◌∷◌, [], IfOk, MatchResult, map, max};
+ghost use Rattle.std.specs.Prelude.{◌≡◌, ◌++◌, ◌∷◌, [], IfOk, IsOkAnd, MatchResult, map, max};
 ghost use Rattle.paired_base.specs.Meaning.{both_allow, paired};
 ghost use Rattle.map_laws.specs.Maps.{Fits as MapFits};
 ghost use Rattle.value_laws.specs.Abs as plain;
@@ -11,7 +11,7 @@ ghost use Rattle.pair_calls.specs.Calls.{nothing, zip_cases, zip_parts, zip_valu
 ghost use Rattle.pair_calls.proofs.Values.{CasesMeet, Meet, PartsMeet};
 ghost use Rattle.pair_values.specs.Cases.{CaseMeets, zip_case};
 
-use crate::lists::{pushed_case, pushed_field};
+use crate::lists::{present, pushed_case, pushed_field};
 use abs_map::AMap;
 use abs_value::AV;
 use base_trait::{Base, Tri};
@@ -107,10 +107,10 @@ fn zip_map_and<A: Base, B: Base>(
         AV::Map {
             map: _map,
             m: other,
-        } => Ok(AV::Map {
-            map,
-            m: zip_map(alloc, ctx, m, other)?,
-        }),
+        } => match zip_map(alloc, ctx, m, other) {
+            Ok(m) => Ok(AV::Map { map, m }),
+            Err(error) => Err(error),
+        },
         _ => Ok(nothing::<A, B>()),
     }
 }
@@ -135,6 +135,19 @@ fn with_case<A: Base, B: Base>(
     pushed_case(cases, next)
 }
 
+/// The value with these fields of constructors, if there are such.
+fn zip_data<A: Base, B: Base>(
+    ty: u32,
+    cases: Result<PairCases<A, B>, NoMemory>,
+) -> Result<AV<Paired<A, B>>, NoMemory>
+    ensures { IfOk result (λ r. IsOkAnd cases (λ cs. abs r ≡ plain.made ty (plain.cases (map case_of cs.items)))) }
+{
+    match cases {
+        Ok(cases) => Ok(AV::Data { ty, cases }),
+        Err(error) => Err(error),
+    }
+}
+
 #[cycle(zip)]
 fn zip_value<A: Base, B: Base>(
     alloc: Global,
@@ -154,10 +167,7 @@ fn zip_value<A: Base, B: Base>(
             AV::Data {
                 ty: _ty,
                 cases: others,
-            } => Ok(AV::Data {
-                ty: *ty,
-                cases: zip_cases(alloc, ctx, cases, others)?,
-            }),
+            } => zip_data(*ty, zip_cases(alloc, ctx, cases, others)),
             _ => Ok(nothing::<A, B>()),
         },
         AV::Map { map, m } => zip_map_and(alloc, ctx, *map, m, y),
@@ -196,7 +206,7 @@ fn zip_case<A: Base, B: Base>(
     ensures { IfOk result (λ r. case_of r ≡ zip_case A.algebra B.algebra ctx.now (max A.CAP B.CAP) (case_of x.now) (case_of y.now)) }
 {
     match (x, y) {
-        (Some(x), Some(y)) => Ok(Some(zip_parts(alloc, ctx, x, y)?)),
+        (Some(x), Some(y)) => present(zip_parts(alloc, ctx, x, y)),
         _ => Ok(None),
     }
 }

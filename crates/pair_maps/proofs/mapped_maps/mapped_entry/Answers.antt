@@ -1,7 +1,10 @@
-use Rattle.std.proofs.Common.{ap, Some, sym, ◌∙◌}
-use Rattle.pair_maps.proofs.Maps.{mapped_at}
+use Rattle.std.specs.Prelude.{slice_index}
+use Rattle.map_laws.specs.Maps.{keys}
+use Rattle.pair_maps.proofs.Maps.{entry_is}
 use Rattle.pair_maps.proofs.mapped_maps.mapped_entry.Goals as goal
 
 pub returns : goal.returns
 returns g c =
-    mapped_at g.P.Part.word_of g.P.Part.note_of c.args.m.now.cells c.args.place c.key_at.result _ _ c.cell_at.ensures c.key_at.ensures ∙ ap (λ x. Some (c.key_at.result, x)) (sym c.in_ok-cell.ensures)
+    let m = c.args.m.now in
+    entry_is g.P.Part.word_of g.P.Part.note_of m.cells c.args.place c.key_at.result (slice_index (keys m) c.args.place) (record { word = c.cell_at.result.0.now; note = c.cell_at.result.1.now }) c.mapped_cell.result c.keyed.result
+    c.cell_at.ensures c.key_at.ensures c.mapped_cell.ensures c.keyed.ensures

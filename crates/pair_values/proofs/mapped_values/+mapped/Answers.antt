@@ -1,14 +1,13 @@
-use Rattle.std.proofs.Common.{◌≡◌, map, suc, ap, sym, subst, ◌∙◌, arith}
+use Rattle.std.proofs.Common.{◌≡◌, map, suc, Some, ap, sym, subst, refl, ◌∙◌, arith}
 use Rattle.value_laws.specs.Abs as v
-use Rattle.value_laws.specs.Abs.{cases, made, parts}
+use Rattle.value_laws.specs.Abs.{cases, cases_onto, made, parts, parts_onto}
 use Rattle.value_laws.specs.Fits.{CaseFits, CasesFit, Fits, PartsFit}
-use Rattle.abs_map.proofs.Whole.{if_ok}
 use Rattle.abs_value.specs.View.{abs, case_of}
 use Rattle.abs_value.proofs.Merging.{drop_here}
-use Rattle.abs_value.proofs.Views.{abs_Data, abs_Map}
+use Rattle.abs_value.proofs.Views.{abs_Data, abs_Flag, abs_Map, abs_Word}
 use Rattle.pair_calls.specs.Calls.{mapped_cases, mapped_map, mapped_parts, mapped_value}
 use Rattle.pair_values.specs.Cases.{mapped_case}
-use Rattle.pair_values.proofs.Values.{mapped_as_map, mapped_cases_done, mapped_cases_fit_on, mapped_cases_more, mapped_made, mapped_parts_done, mapped_parts_fit_on, mapped_parts_more, pushed_view}
+use Rattle.pair_values.proofs.Values.{case_is, mapped_as, mapped_cases_done, mapped_cases_fit_on, mapped_cases_more, mapped_data_is, mapped_parts_done, mapped_parts_fit_on, mapped_parts_more, pushed_view}
 use Rattle.pair_values.proofs.Weights.{case_weighs, case_weight, cases_weight, part_weighs, parts_weight, weight}
 use Rattle.pair_values.proofs.mapped_values.+mapped.Goals as goal
 
@@ -104,12 +103,18 @@ mapped_value-mapped_cases-requires g t c κs within =
     let here = ap (λ l. cases_weight (cases (map case_of l))) vs in
     (omega (arith, whole, here, c.decreases), (within.0, (within.1.0, (within.1.1.0, (within.1.1.1.0, (within.1.1.1.1.0, (within.1.1.1.1.1.0, (within.1.1.1.1.1.1.0, (within.1.1.1.1.1.1.1.0, (within.1.1.1.1.1.1.1.1, subst (λ l. CasesFit to ctx cap (mapped_cases word note (cases (map case_of l)))) (sym vs) fits))))))))))
 
-pub mapped_value-returns-in_ok-mapped_cases-in-Data : goal.mapped_value-returns-in_ok-mapped_cases-in-Data
-mapped_value-returns-in_ok-mapped_cases-in-Data g t c =
-    let r = c.in_ok-mapped_cases-in-Data.field-0 in
+pub mapped_case-returns-in-Some : goal.mapped_case-returns-in-Some
+mapped_case-returns-in-Some g t c =
+    let word = g.P.Part.word_of in
+    let note = g.P.Part.note_of in
+    case_is c.mapped_parts.result c.present.result (mapped_parts word note (parts (map abs c.deref.result.now))) (mapped_case word note (case_of c.args.x.now))
+    (ap (λ o. mapped_case word note (case_of o)) c.in-Some.is ∙ sym (ap (λ l. Some (mapped_parts word note (parts (map abs l)))) c.deref.ensures.value)) c.mapped_parts.ensures c.present.ensures
+
+pub mapped_value-returns-in-Data : goal.mapped_value-returns-in-Data
+mapped_value-returns-in-Data g t c =
     let ty = c.in-Data.ty in
-    mapped_made g.P.Part.word_of g.P.Part.note_of ty (abs c.args.x.now) _ (cases (map case_of c.in-Data.cases.items)) (cases (map case_of c.deref.result.now)) (cases (map case_of r.items))
-    (ap abs c.in-Data.is ∙ abs_Data ty c.in-Data.cases) (abs_Data ty r) c.in_ok-mapped_cases-in-Data.ensures (ap (λ l. cases (map case_of l)) c.deref.ensures.value)
+    mapped_data_is g.P.Part.word_of g.P.Part.note_of (λ v. cases (map case_of v.items)) (λ v. abs v) c.mapped_cases.result c.mapped_data.result ty (abs c.args.x.now) (cases (map case_of c.in-Data.cases.items)) (cases (map case_of c.deref.result.now))
+    (ap abs c.in-Data.is ∙ abs_Data ty c.in-Data.cases) (ap (λ l. cases (map case_of l)) c.deref.ensures.value) c.mapped_cases.ensures c.mapped_data.ensures
 
 pub mapped_value-returns-in-Map : goal.mapped_value-returns-in-Map
 mapped_value-returns-in-Map g t c =
@@ -117,5 +122,31 @@ mapped_value-returns-in-Map g t c =
     let note = g.P.Part.note_of in
     let n = c.in-Map.map in
     let m = c.in-Map.m in
-    let x = abs c.args.x.now in
-    if_ok (λ r. abs r ≡ v.map n (mapped_map word note m)) (λ r. abs r ≡ mapped_value word note x) c.mapped_cells_of.result (λ r e. mapped_as_map word note n x (abs r) m (ap abs c.in-Map.is ∙ abs_Map _ _ n m) e) c.mapped_cells_of.ensures
+    mapped_as word note (λ v. abs v) c.mapped_cells_of.result (abs c.args.x.now) (v.map n m) (v.map n (mapped_map word note m)) (ap abs c.in-Map.is ∙ abs_Map _ _ n m) refl c.mapped_cells_of.ensures
+
+pub mapped_value-returns-in-Word : goal.mapped_value-returns-in-Word
+mapped_value-returns-in-Word g t c =
+    let word = g.P.Part.word_of in
+    let note = g.P.Part.note_of in
+    let w = c.in-Word.w in
+    let x = c.in-Word.x in
+    mapped_as word note (λ v. abs v) c.mapped_word.result (abs c.args.x.now) (v.word w x) (v.word w (word x)) (ap abs c.in-Word.is ∙ abs_Word _ _ _ w x) refl c.mapped_word.ensures
+
+pub mapped_value-returns-in-Flag : goal.mapped_value-returns-in-Flag
+mapped_value-returns-in-Flag g t c =
+    let word = g.P.Part.word_of in
+    let note = g.P.Part.note_of in
+    let u = c.in-Flag.t in
+    abs_Flag _ _ _ _ u ∙ sym (ap (λ z. mapped_value word note z) (ap abs c.in-Flag.is ∙ abs_Flag _ _ _ _ u))
+
+pub mapped_parts-loop-x-init : goal.mapped_parts-loop-x-init
+mapped_parts-loop-x-init g t c = record {
+  whole = ap (λ l. parts_onto (map abs l) (mapped_parts g.P.Part.word_of g.P.Part.note_of (parts (map abs c.args.xs.now)))) c.new-out.ensures.items;
+  fits = c.requires.fits;
+}
+
+pub mapped_cases-loop-x-init : goal.mapped_cases-loop-x-init
+mapped_cases-loop-x-init g t c = record {
+  whole = ap (λ l. cases_onto (map case_of l) (mapped_cases g.P.Part.word_of g.P.Part.note_of (cases (map case_of c.args.xs.now)))) c.new-out.ensures.items;
+  fits = c.requires.fits;
+}

@@ -1,23 +1,16 @@
 use Rattle.std.proofs.Common.{ap, sym, subst, ◌∙◌, ◌≡◌, max, map, suc, Some, arith}
-use Rattle.base_trait.specs.declared.tri.Tri.{Tri}
 use Rattle.value_laws.specs.Abs as v
-use Rattle.value_laws.specs.Abs.{Abs, cases, made, parts}
+use Rattle.value_laws.specs.Abs.{cases, cases_onto, made, parts, parts_onto}
 use Rattle.value_laws.specs.Fits.{CaseFits, CasesFit, Fits, PartsFit}
-use Rattle.abs_value.specs.View.{abs, abs_step, case_of}
-use Rattle.abs_value.specs.declared.value.AV.{Flag, fold-roll-AV}
-use Rattle.abs_value.specs.declared.value.AV.TheOpen.{AV-F}
-use Rattle.abs_value.specs.declared.value.AV.TheVariants.{rolls-Flag}
+use Rattle.abs_value.specs.View.{abs, case_of}
 use Rattle.abs_value.proofs.Merging.{drop_here}
-use Rattle.abs_value.proofs.Views.{abs_Data}
+use Rattle.abs_value.proofs.Views.{abs_Data, abs_Flag, abs_Map, abs_Word}
 use Rattle.pair_calls.specs.Calls.{zip_cases, zip_parts, zip_value}
 use Rattle.pair_calls.proofs.Values.{CasesMeet, Meet, PartsMeet}
 use Rattle.pair_values.specs.Cases.{CaseMeets, zip_case}
-use Rattle.pair_values.proofs.Values.{cases_fit_on, cases_meet_on, parts_fit_on, parts_meet_on, pushed_view, zip_cases_done, zip_cases_more, zip_parts_done, zip_parts_more, zipped_made}
+use Rattle.pair_values.proofs.Values.{case_is, cases_fit_on, cases_meet_on, parts_fit_on, parts_meet_on, pushed_view, zip_cases_done, zip_cases_more, zip_parts_done, zip_parts_more, zipped_as, zipped_data}
 use Rattle.pair_values.proofs.Weights.{case_weight, case_weighs, cases_weight, part_weighs, parts_weight, weight}
 use Rattle.pair_values.proofs.zipped_values.+zip.Goals as goal
-
-abs_Flag : (X W N C : Type 0) (t : Tri) → abs {X = X} {W = W} {N = N} {C = C} (Flag t) ≡ v.flag t
-abs_Flag X W N C t = ap abs (sym (rolls-Flag t)) ∙ fold-roll-AV X W N C (Abs W N) (abs_step X W N C) (AV-F.Flag t)
 
 pub zip_parts-loop-i-preserved : goal.zip_parts-loop-i-preserved
 zip_parts-loop-i-preserved g t c =
@@ -130,15 +123,13 @@ zip_value-zip_cases-requires g t c κs within =
     let here = ap (λ l. cases_weight (cases (map case_of l))) vs in
     (omega (arith, whole, here, c.decreases), (within.0, (within.1.0, (within.1.1.0, (within.1.1.1.0, (within.1.1.1.1.0, (within.1.1.1.1.1.0, (within.1.1.1.1.1.1.0, (within.1.1.1.1.1.1.1, (subst (λ l. CasesFit a ctx.0 g.A.Base.CAP (cases (map case_of l))) (sym vs) left, (subst (λ l. CasesFit b ctx.1 g.B.Base.CAP (cases (map case_of l))) (sym ws) right, subst (λ l. CasesMeet (cases (map case_of c.deref.result.now)) (cases (map case_of l))) (sym ws) (subst (λ l. CasesMeet (cases (map case_of l)) (cases (map case_of c.in-Data-y.others.items))) (sym vs) widths))))))))))))
 
-pub zip_value-returns-in_ok-zip_cases-in-Data-y : goal.zip_value-returns-in_ok-zip_cases-in-Data-y
-zip_value-returns-in_ok-zip_cases-in-Data-y g t c =
-    let r = c.in_ok-zip_cases-in-Data-y.field-0 in
+pub zip_value-returns-in-Data-y : goal.zip_value-returns-in-Data-y
+zip_value-returns-in-Data-y g t c =
     let ty = c.in-Data.ty in
     let tz = c.in-Data-y._ty in
-    zipped_made g.A.Base.algebra g.B.Base.algebra c.args.ctx.now (max g.A.Base.CAP g.B.Base.CAP) ty tz (abs c.args.x.now) (abs c.args.y.now) _ (cases (map case_of c.in-Data.cases.items)) (cases (map case_of c.deref.result.now))
-    (cases (map case_of c.in-Data-y.others.items)) (cases (map case_of c.deref-in-Data-y.result.now)) (cases (map case_of r.items)) (ap abs c.in-Data.is ∙ abs_Data ty c.in-Data.cases)
-    (ap abs c.in-Data-y.is ∙ abs_Data tz c.in-Data-y.others) (abs_Data ty r) c.in_ok-zip_cases-in-Data-y.ensures (ap (λ l. cases (map case_of l)) c.deref.ensures.value)
-    (ap (λ l. cases (map case_of l)) c.deref-in-Data-y.ensures.value)
+    zipped_data g.A.Base.algebra g.B.Base.algebra c.args.ctx.now (max g.A.Base.CAP g.B.Base.CAP) (λ v. cases (map case_of v.items)) (λ v. abs v) c.zip_cases.result c.zip_data.result ty tz (abs c.args.x.now) (abs c.args.y.now)
+    (cases (map case_of c.in-Data.cases.items)) (cases (map case_of c.deref.result.now)) (cases (map case_of c.in-Data-y.others.items)) (cases (map case_of c.deref-in-Data-y.result.now)) (ap abs c.in-Data.is ∙ abs_Data ty c.in-Data.cases)
+    (ap abs c.in-Data-y.is ∙ abs_Data tz c.in-Data-y.others) (ap (λ l. cases (map case_of l)) c.deref.ensures.value) (ap (λ l. cases (map case_of l)) c.deref-in-Data-y.ensures.value) c.zip_cases.ensures c.zip_data.ensures
 
 pub zip_value-returns-in-Flag : goal.zip_value-returns-in-Flag
 zip_value-returns-in-Flag g t c =
@@ -162,3 +153,44 @@ zip_cases-zip_case-requires g t c κs within =
     let widths = (cases_meet_on xs ys i x y ex ey (λ v. case_of v) (λ v. case_of v) c.loop-i.invariant.widths).0 in
     let less = case_weighs (λ v. case_of v) xs i x ex in
     (omega (arith, less, c.decreases), (within.0, (within.1.0, (within.1.1.0, (within.1.1.1.0, (within.1.1.1.1.0, (within.1.1.1.1.1.0, (within.1.1.1.1.1.1.0, (within.1.1.1.1.1.1.1, (left, (right, widths)))))))))))
+
+pub zip_case-returns-in-Some-Some : goal.zip_case-returns-in-Some-Some
+zip_case-returns-in-Some-Some g t c =
+    let a = g.A.Base.algebra in
+    let b = g.B.Base.algebra in
+    let ctx = c.args.ctx.now in
+    let cap = max g.A.Base.CAP g.B.Base.CAP in
+    let xs = c.in-Some-Some.x in
+    let ys = c.in-Some-Some.y in
+    let us = c.deref.result.now in
+    let ws = c.deref-in-Some-Some.result.now in
+    case_is c.zip_parts.result c.present.result (zip_parts a b ctx cap (parts (map abs us)) (parts (map abs ws))) (zip_case a b ctx cap (case_of c.args.x.now) (case_of c.args.y.now))
+    (ap (λ o. zip_case a b ctx cap (case_of o) (case_of c.args.y.now)) c.in-Some-Some.is-0 ∙ ap (λ o. zip_case a b ctx cap (case_of (Some xs)) (case_of o)) c.in-Some-Some.is-1
+    ∙ sym (ap (λ l. Some (zip_parts a b ctx cap (parts (map abs l)) (parts (map abs ws)))) c.deref.ensures.value ∙ ap (λ l. Some (zip_parts a b ctx cap (parts (map abs xs.items)) (parts (map abs l)))) c.deref-in-Some-Some.ensures.value))
+    c.zip_parts.ensures c.present.ensures
+
+pub zip_parts-loop-i-init : goal.zip_parts-loop-i-init
+zip_parts-loop-i-init g t c = record {
+  whole = ap (λ l. parts_onto (map abs l) (zip_parts g.A.Base.algebra g.B.Base.algebra c.args.ctx.now (max g.A.Base.CAP g.B.Base.CAP) (parts (map abs c.args.xs.now)) (parts (map abs c.args.ys.now)))) c.new-out.ensures.items;
+  left = c.requires.left;
+  right = c.requires.right;
+  widths = c.requires.widths;
+}
+
+pub zip_cases-loop-i-init : goal.zip_cases-loop-i-init
+zip_cases-loop-i-init g t c = record {
+  whole = ap (λ l. cases_onto (map case_of l) (zip_cases g.A.Base.algebra g.B.Base.algebra c.args.ctx.now (max g.A.Base.CAP g.B.Base.CAP) (cases (map case_of c.args.xs.now)) (cases (map case_of c.args.ys.now)))) c.new-out.ensures.items;
+  left = c.requires.left;
+  right = c.requires.right;
+  widths = c.requires.widths;
+}
+
+pub zip_value-returns-in-Word : goal.zip_value-returns-in-Word
+zip_value-returns-in-Word g t c =
+    zipped_as g.A.Base.algebra g.B.Base.algebra c.args.ctx.now (max g.A.Base.CAP g.B.Base.CAP) (λ v. abs v) c.zip_word.result (abs c.args.x.now) (v.word c.in-Word.w c.in-Word.word) (abs c.args.y.now)
+    (ap abs c.in-Word.is ∙ abs_Word _ _ _ c.in-Word.w c.in-Word.word) c.zip_word.ensures
+
+pub zip_value-returns-in-Map : goal.zip_value-returns-in-Map
+zip_value-returns-in-Map g t c =
+    zipped_as g.A.Base.algebra g.B.Base.algebra c.args.ctx.now (max g.A.Base.CAP g.B.Base.CAP) (λ v. abs v) c.zip_map_and.result (abs c.args.x.now) (v.map c.in-Map.map c.in-Map.m) (abs c.args.y.now)
+    (ap abs c.in-Map.is ∙ abs_Map _ _ c.in-Map.map c.in-Map.m) c.zip_map_and.ensures
