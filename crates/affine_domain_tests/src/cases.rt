@@ -1,137 +1,162 @@
 //! What cases give.
 
-ghost use Rattle.std.specs.Prelude.{◌≡◌, ◌≤◌, IsTrue};
+ghost use Rattle.std.specs.Prelude.{◌≡◌, ◌<◌, ◌^◌, IsTrue, length, true};
 ghost use Rattle.spec_types.specs.Views.{specification};
+ghost use Rattle.domain_laws.specs.States.{has_states, state_type};
 ghost use Rattle.affine_calls.specs.Calls.{cell_count, is_for};
-ghost use Rattle.affine_calls.specs.Tracked.{tracked_cells};
+ghost use Rattle.affine_changes.specs.Settings.{IsSetting};
 
 use crate::elements::element;
 use crate::machine::machine;
-use crate::text::{state_text, tracked_text};
 use crate::times::repeated;
-use affine_base::Tracked;
+use affine_changes::{Read, Setting, Unread, both, given, push_state, push_tracked};
 use affine_domain::AffineDomain;
+use affine_rows::Rows;
 use domain_trait::Domain;
 use spec_types::Spec;
 use std::alloc::{AllocError as NoMemory, Global};
 
-fn no_case(alloc: Global) -> Result<String, NoMemory> {
-    String::from_str(alloc, "    no case\n")
-}
-
-/// The state value of an element.
-fn opened(
+/// Appends the state value of an element at 1000.
+fn push_opened(
     alloc: Global,
-    spec: &Spec,
-    domain: &AffineDomain,
-    k: u32,
-    text: &str,
-) -> Result<String, NoMemory>
-    requires made { IsTrue (is_for domain.now (specification spec.now)) }
-    requires cells { k ≡ cell_count domain.now }
-    requires few { k ≤ 64 }
+    out: &mut String,
+    setting: &Setting<'_>,
+    x: &Rows,
+) -> Result<(), NoMemory>
+    requires ready { IsSetting setting.now }
+    requires fits { x.now.k ≡ cell_count setting.now.domain.now }
 {
-    match element(alloc, spec, domain, k, text)? {
-        Some(x) => state_text(alloc, &domain.open(alloc, spec, &x, 4096)?),
-        None => no_case(alloc),
-    }
+    let value = setting.domain.open(alloc, setting.spec, x, 4096)?;
+    push_state(out, &value)
 }
 
-/// Whether each of two elements absorbs the other, and their ranks.
+/// Appends the state value of the element of a text.
+fn opened(alloc: Global, out: &mut String, setting: &Setting<'_>, text: &str) -> Read<()>
+    requires { IsSetting setting.now }
+{
+    let x = element(alloc, setting, text)?;
+    given(push_opened(alloc, out, setting, &x))
+}
+
+/// Appends whether each of two elements absorbs the other, and their ranks.
+fn push_compared(
+    out: &mut String,
+    domain: &AffineDomain,
+    x: &Rows,
+    y: &Rows,
+) -> Result<(), NoMemory>
+    requires first { x.now.k ≡ cell_count domain.now }
+    requires second { y.now.k ≡ cell_count domain.now }
+{
+    let (more, less) = (domain.absorbs(x, y), domain.absorbs(y, x));
+    write!(out, "    absorbs {more} {less}")?;
+    let (first, second) = (domain.rank(x), domain.rank(y));
+    writeln!(out, " ranks {first} {second}")
+}
+
+/// The same of the elements of two texts.
 fn compared(
     alloc: Global,
-    spec: &Spec,
-    domain: &AffineDomain,
-    k: u32,
+    out: &mut String,
+    setting: &Setting<'_>,
     first: &str,
     second: &str,
-) -> Result<String, NoMemory>
-    requires made { IsTrue (is_for domain.now (specification spec.now)) }
-    requires cells { k ≡ cell_count domain.now }
-    requires few { k ≤ 64 }
+) -> Read<()>
+    requires { IsSetting setting.now }
 {
-    let Some(x) = element(alloc, spec, domain, k, first)? else {
-        return no_case(alloc);
-    };
-    let Some(y) = element(alloc, spec, domain, k, second)? else {
-        return no_case(alloc);
-    };
-    let (more, less) = (domain.absorbs(&x, &y), domain.absorbs(&y, &x));
-    let mut out = format!(in alloc; "    absorbs {} {}", more, less)?;
-    let ranks = format!(in alloc; " ranks {} {}\n", domain.rank(&x), domain.rank(&y))?;
-    out.push_str(ranks.as_str())?;
-    Ok(out)
+    let x = element(alloc, setting, first)?;
+    let (x, y) = both(x, element(alloc, setting, second))?;
+    given(push_compared(out, setting.domain, &x, &y))
 }
 
-/// A call that is done many times.
+/// Appends what a call gives that is done many times.
 fn timed(
     alloc: Global,
-    spec: &Spec,
-    domain: &AffineDomain,
-    k: u32,
+    out: &mut String,
+    setting: &Setting<'_>,
     count: &str,
     call: &str,
-) -> Result<String, NoMemory>
-    requires made { IsTrue (is_for domain.now (specification spec.now)) }
-    requires cells { k ≡ cell_count domain.now }
-    requires few { k ≤ 64 }
+) -> Read<()>
+    requires { IsSetting setting.now }
 {
     let Ok(n) = count.parse::<u64>() else {
-        return no_case(alloc);
+        return Err(Unread::No);
     };
-    match repeated(alloc, spec, domain, k, n, call)? {
-        Some(done) => format!(in alloc; "    {done} times\n"),
-        None => no_case(alloc),
-    }
+    let done = repeated(alloc, setting, n, call)?;
+    given(writeln!(out, "    {done} times"))
 }
 
-/// What a case gives on a machine.
-fn told(
-    alloc: Global,
-    spec: &Spec,
-    domain: &AffineDomain,
-    ctx: &Tracked,
-    k: u32,
-    text: &str,
-) -> Result<String, NoMemory>
-    requires made { IsTrue (is_for domain.now (specification spec.now)) }
-    requires cells { k ≡ cell_count domain.now }
-    requires few { k ≤ 64 }
+/// Appends what a case gives that has two parts.
+fn told_of_two(alloc: Global, out: &mut String, setting: &Setting<'_>, text: &str) -> Read<()>
+    requires { IsSetting setting.now }
 {
-    if text == "tracked" {
-        return tracked_text(alloc, ctx);
-    }
-    if let Some(x) = text.strip_prefix("open ") {
-        return opened(alloc, spec, domain, k, x);
-    }
     if let Some((x, y)) = text.split_once(" | ") {
-        return compared(alloc, spec, domain, k, x, y);
+        return compared(alloc, out, setting, x, y);
     }
     match text.split_once(" times ") {
-        Some((count, call)) => timed(alloc, spec, domain, k, count, call),
-        None => no_case(alloc),
+        Some((count, call)) => timed(alloc, out, setting, count, call),
+        None => Err(Unread::No),
     }
 }
 
-/// How many cells are tracked.
-fn count_of(domain: &AffineDomain, ctx: &Tracked) -> u32
-    requires context { ctx.now ≡ tracked_cells domain.now }
-    ensures cells { result ≡ cell_count domain.now }
-    ensures few { result ≤ 64 }
+/// Appends what a case gives in a setting.
+fn told(alloc: Global, out: &mut String, setting: &Setting<'_>, text: &str) -> Read<()>
+    requires { IsSetting setting.now }
 {
-    ctx.cells.len() as u32
+    if text == "tracked" {
+        return given(push_tracked(out, setting.ctx));
+    }
+    match text.strip_prefix("open ") {
+        Some(x) => opened(alloc, out, setting, x),
+        None => told_of_two(alloc, out, setting, text),
+    }
 }
 
-/// What a case gives.
-pub(crate) fn answer(alloc: Global, line: &str) -> Result<String, NoMemory> {
-    let Some((fields, text)) = line.split_once(" | ") else {
-        return no_case(alloc);
-    };
-    let Some(spec) = machine(alloc, fields)? else {
-        return String::from_str(alloc, "    no machine\n");
-    };
-    let domain = AffineDomain::new(alloc, &spec)?;
+/// Appends what a case gives in a domain.
+fn in_domain(
+    alloc: Global,
+    out: &mut String,
+    spec: &Spec,
+    domain: &AffineDomain,
+    text: &str,
+) -> Read<()>
+    requires { IsTrue (is_for domain.now (specification spec.now)) }
+{
     let ctx = domain.ctx(alloc)?;
-    let k = count_of(&domain, &ctx);
-    told(alloc, &spec, &domain, &ctx, k, text)
+    let setting = Setting {
+        spec,
+        domain,
+        ctx: &ctx,
+    };
+    told(alloc, out, &setting, text)
+}
+
+/// Appends what a case gives on a machine.
+fn on_machine(alloc: Global, out: &mut String, spec: &Spec, text: &str) -> Read<()>
+    requires states { has_states (specification spec.now) ≡ true }
+    requires few { length (state_type (specification spec.now)).fields < 2 ^ 32 }
+{
+    let domain = AffineDomain::new(alloc, spec)?;
+    in_domain(alloc, out, spec, &domain, text)
+}
+
+/// Appends what a case gives, where its fields and the rest are these.
+fn push_case(alloc: Global, out: &mut String, fields: &str, text: &str) -> Result<(), NoMemory> {
+    let told = match machine(alloc, fields)? {
+        Some(spec) => on_machine(alloc, out, &spec, text),
+        None => given(out.push_str("    no machine\n")),
+    };
+    match told {
+        Ok(()) => Ok(()),
+        Err(Unread::No) => out.push_str("    no case\n"),
+        Err(Unread::NoMemory) => Err(NoMemory),
+    }
+}
+
+/// Appends what the case of a line gives.
+pub(crate) fn push_answer(alloc: Global, out: &mut String, line: &str) -> Result<(), NoMemory> {
+    match line.split_once(" | ") {
+        Some((fields, text)) => push_case(alloc, out, fields, text),
+        None => out.push_str("    no case\n"),
+    }
 }

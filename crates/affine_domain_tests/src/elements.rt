@@ -1,202 +1,151 @@
 //! Elements as text.
 
-ghost use Rattle.std.specs.Prelude.{◌≡◌, ◌≤◌, IfOk, IfSome, IsTrue};
+ghost use Rattle.std.specs.Prelude.{◌≡◌, IfOk};
 ghost use Rattle.spec_types.specs.Views.{specification};
-ghost use Rattle.affine_calls.specs.Calls.{cell_count, is_for};
+ghost use Rattle.domain_laws.specs.States.{state_type};
+ghost use Rattle.domain_laws.specs.Values.{IsStateValue};
+ghost use Rattle.affine_base.specs.Meaning.{affine};
+ghost use Rattle.affine_calls.specs.Calls.{cell_count};
+ghost use Rattle.affine_calls.specs.Tracked.{tracked_cells};
+ghost use Rattle.abs_value.specs.View.{abs};
+ghost use Rattle.affine_changes.specs.Settings.{IsSetting};
 
-use crate::changes::changed_state;
 use crate::rows::rows_of;
+use abs_value::AV;
 use accepted_states::laws::read_entries_fit;
-use affine_domain::AffineDomain;
+use affine_base::Affine;
+use affine_changes::{Read, Setting, Unread, both, changed_state, given};
 use affine_rows::Rows;
 use domain_trait::Domain;
-use spec_types::Spec;
-use state_text::read_entry;
+use state_text::{EntryError, read_entry};
 use std::alloc::{AllocError as NoMemory, Global};
 
 /// The lines of an entry at the counter 1000, with a `;` for each line end.
 fn lines_of(alloc: Global, text: &str) -> Result<String, NoMemory> {
-    let mut lines = String::new(alloc);
-    lines.push_str("pc 1000\n")?;
+    let mut lines = String::from_str(alloc, "pc 1000\n")?;
     for line in text.split(';') {
-        lines.push_str(line)?;
-        lines.push('\n')?;
+        writeln!(lines, "{line}")?;
     }
     Ok(lines)
 }
 
-/// The element of an entry; none, where that has a fault.
-fn entered(
-    alloc: Global,
-    spec: &Spec,
-    domain: &AffineDomain,
-    text: &str,
-) -> Result<Option<Rows>, NoMemory>
-    requires made { IsTrue (is_for domain.now (specification spec.now)) }
-    ensures { IfOk result (λ o. IfSome o (λ x. x.k ≡ cell_count domain.now)) }
+/// The element of an entry.
+fn entered(alloc: Global, setting: &Setting<'_>, text: &str) -> Read<Rows>
+    requires { IsSetting setting.now }
+    ensures { IfOk result (λ x. x.k ≡ cell_count setting.now.domain.now) }
 {
     read_entries_fit();
     let lines = lines_of(alloc, text)?;
     if lines.len() > 65_536 {
-        return Ok(None);
+        return Err(Unread::No);
     }
-    match read_entry(alloc, spec, lines.as_bytes()) {
-        Ok(entry) => Ok(Some(domain.entry(alloc, spec, &entry)?)),
-        Err(_fault) => Ok(None),
+    match read_entry(alloc, setting.spec, lines.as_bytes()) {
+        Ok(entry) => given(setting.domain.entry(alloc, setting.spec, &entry)),
+        Err(EntryError::NoMemory) => Err(Unread::NoMemory),
+        Err(_fault) => Err(Unread::No),
     }
 }
 
 /// An entry's element, or rows.
-pub(crate) fn operand(
-    alloc: Global,
-    spec: &Spec,
-    domain: &AffineDomain,
-    k: u32,
-    text: &str,
-) -> Result<Option<Rows>, NoMemory>
-    requires made { IsTrue (is_for domain.now (specification spec.now)) }
-    requires cells { k ≡ cell_count domain.now }
-    requires few { k ≤ 64 }
-    ensures { IfOk result (λ o. IfSome o (λ x. x.k ≡ cell_count domain.now)) }
+pub(crate) fn operand(alloc: Global, setting: &Setting<'_>, text: &str) -> Read<Rows>
+    requires { IsSetting setting.now }
+    ensures { IfOk result (λ x. x.k ≡ cell_count setting.now.domain.now) }
 {
     match text.strip_prefix("entry ") {
-        Some(lines) => entered(alloc, spec, domain, lines),
-        None => rows_of(alloc, k, text),
+        Some(lines) => entered(alloc, setting, lines),
+        None => {
+            let ctx = setting.ctx;
+            rows_of(alloc, ctx.cells.len() as u32, text)
+        }
     }
 }
 
 /// Two operands with a word between them.
 pub(crate) fn operands(
     alloc: Global,
-    spec: &Spec,
-    domain: &AffineDomain,
-    k: u32,
+    setting: &Setting<'_>,
     text: &str,
     between: &str,
-) -> Result<Option<(Rows, Rows)>, NoMemory>
-    requires made { IsTrue (is_for domain.now (specification spec.now)) }
-    requires cells { k ≡ cell_count domain.now }
-    requires few { k ≤ 64 }
-    ensures { IfOk result (λ o. IfSome o (λ p. (p.0.k ≡ cell_count domain.now) × (p.1.k ≡ cell_count domain.now))) }
+) -> Read<(Rows, Rows)>
+    requires { IsSetting setting.now }
+    ensures { IfOk result (λ p. (p.0.k ≡ cell_count setting.now.domain.now) × (p.1.k ≡ cell_count setting.now.domain.now)) }
 {
     let Some((first, second)) = text.split_once(between) else {
-        return Ok(None);
+        return Err(Unread::No);
     };
-    let Some(x) = operand(alloc, spec, domain, k, first)? else {
-        return Ok(None);
+    let x = operand(alloc, setting, first)?;
+    both(x, operand(alloc, setting, second))
+}
+
+/// An operand, and its state value with changes.
+pub(crate) fn with_changes(
+    alloc: Global,
+    setting: &Setting<'_>,
+    text: &str,
+) -> Read<(Rows, AV<Affine>)>
+    requires { IsSetting setting.now }
+    ensures { IfOk result (λ p. (p.0.k ≡ cell_count setting.now.domain.now) × IsStateValue affine (tracked_cells setting.now.domain.now) 256 (state_type (specification setting.now.spec.now)) (abs p.1)) }
+{
+    let Some((from, changes)) = text.split_once(" with ") else {
+        return Err(Unread::No);
     };
-    let Some(y) = operand(alloc, spec, domain, k, second)? else {
-        return Ok(None);
-    };
-    Ok(Some((x, y)))
+    let before = operand(alloc, setting, from)?;
+    let value = changed_state(alloc, setting, &before, changes);
+    both(before, value)
 }
 
 /// The join of two operands.
-fn joined(
-    alloc: Global,
-    spec: &Spec,
-    domain: &AffineDomain,
-    k: u32,
-    text: &str,
-) -> Result<Option<Rows>, NoMemory>
-    requires made { IsTrue (is_for domain.now (specification spec.now)) }
-    requires cells { k ≡ cell_count domain.now }
-    requires few { k ≤ 64 }
-    ensures { IfOk result (λ o. IfSome o (λ x. x.k ≡ cell_count domain.now)) }
+fn joined(alloc: Global, setting: &Setting<'_>, text: &str) -> Read<Rows>
+    requires { IsSetting setting.now }
+    ensures { IfOk result (λ x. x.k ≡ cell_count setting.now.domain.now) }
 {
-    match operands(alloc, spec, domain, k, text, " and ")? {
-        Some((x, y)) => Ok(Some(domain.join(alloc, &x, &y)?)),
-        None => Ok(None),
-    }
+    let (x, y) = operands(alloc, setting, text, " and ")?;
+    given(setting.domain.join(alloc, &x, &y))
 }
 
 /// An operand widened by another.
-fn widened(
-    alloc: Global,
-    spec: &Spec,
-    domain: &AffineDomain,
-    k: u32,
-    text: &str,
-) -> Result<Option<Rows>, NoMemory>
-    requires made { IsTrue (is_for domain.now (specification spec.now)) }
-    requires cells { k ≡ cell_count domain.now }
-    requires few { k ≤ 64 }
-    ensures { IfOk result (λ o. IfSome o (λ x. x.k ≡ cell_count domain.now)) }
+fn widened(alloc: Global, setting: &Setting<'_>, text: &str) -> Read<Rows>
+    requires { IsSetting setting.now }
+    ensures { IfOk result (λ x. x.k ≡ cell_count setting.now.domain.now) }
 {
-    match operands(alloc, spec, domain, k, text, " by ")? {
-        Some((old, new)) => Ok(Some(domain.widen(alloc, &old, &new)?)),
-        None => Ok(None),
-    }
+    let (old, new) = operands(alloc, setting, text, " by ")?;
+    given(setting.domain.widen(alloc, &old, &new))
 }
 
 /// A copy of an operand.
-fn copied(
-    alloc: Global,
-    spec: &Spec,
-    domain: &AffineDomain,
-    k: u32,
-    text: &str,
-) -> Result<Option<Rows>, NoMemory>
-    requires made { IsTrue (is_for domain.now (specification spec.now)) }
-    requires cells { k ≡ cell_count domain.now }
-    requires few { k ≤ 64 }
-    ensures { IfOk result (λ o. IfSome o (λ x. x.k ≡ cell_count domain.now)) }
+fn copied(alloc: Global, setting: &Setting<'_>, text: &str) -> Read<Rows>
+    requires { IsSetting setting.now }
+    ensures { IfOk result (λ x. x.k ≡ cell_count setting.now.domain.now) }
 {
-    match operand(alloc, spec, domain, k, text)? {
-        Some(x) => Ok(Some(domain.copy(alloc, &x)?)),
-        None => Ok(None),
-    }
+    let x = operand(alloc, setting, text)?;
+    given(setting.domain.copy(alloc, &x))
 }
 
 /// What the state value of an operand closes to, with changes.
-fn closed(
-    alloc: Global,
-    spec: &Spec,
-    domain: &AffineDomain,
-    k: u32,
-    text: &str,
-) -> Result<Option<Rows>, NoMemory>
-    requires made { IsTrue (is_for domain.now (specification spec.now)) }
-    requires cells { k ≡ cell_count domain.now }
-    requires few { k ≤ 64 }
-    ensures { IfOk result (λ o. IfSome o (λ x. x.k ≡ cell_count domain.now)) }
+fn closed(alloc: Global, setting: &Setting<'_>, text: &str) -> Read<Rows>
+    requires { IsSetting setting.now }
+    ensures { IfOk result (λ x. x.k ≡ cell_count setting.now.domain.now) }
 {
-    let Some((from, changes)) = text.split_once(" with ") else {
-        return Ok(None);
-    };
-    let Some(before) = operand(alloc, spec, domain, k, from)? else {
-        return Ok(None);
-    };
-    match changed_state(alloc, spec, domain, &before, changes)? {
-        Some(value) => Ok(Some(domain.close(alloc, spec, &before, &value)?)),
-        None => Ok(None),
-    }
+    let (before, value) = with_changes(alloc, setting, text)?;
+    given(setting.domain.close(alloc, setting.spec, &before, &value))
 }
 
-/// The element of a text; none, where that is none.
-pub(crate) fn element(
-    alloc: Global,
-    spec: &Spec,
-    domain: &AffineDomain,
-    k: u32,
-    text: &str,
-) -> Result<Option<Rows>, NoMemory>
-    requires made { IsTrue (is_for domain.now (specification spec.now)) }
-    requires cells { k ≡ cell_count domain.now }
-    requires few { k ≤ 64 }
-    ensures { IfOk result (λ o. IfSome o (λ x. x.k ≡ cell_count domain.now)) }
+/// The element of a text.
+pub(crate) fn element(alloc: Global, setting: &Setting<'_>, text: &str) -> Read<Rows>
+    requires { IsSetting setting.now }
+    ensures { IfOk result (λ x. x.k ≡ cell_count setting.now.domain.now) }
 {
     if let Some(rest) = text.strip_prefix("join ") {
-        return joined(alloc, spec, domain, k, rest);
+        return joined(alloc, setting, rest);
     }
     if let Some(rest) = text.strip_prefix("widen ") {
-        return widened(alloc, spec, domain, k, rest);
+        return widened(alloc, setting, rest);
     }
     if let Some(rest) = text.strip_prefix("copy ") {
-        return copied(alloc, spec, domain, k, rest);
+        return copied(alloc, setting, rest);
     }
     if let Some(rest) = text.strip_prefix("close ") {
-        return closed(alloc, spec, domain, k, rest);
+        return closed(alloc, setting, rest);
     }
-    operand(alloc, spec, domain, k, text)
+    operand(alloc, setting, text)
 }

@@ -31,7 +31,10 @@ fn checked(alloc: Global, source: &[u8]) -> Option<Spec>
 {
     match specified(alloc, source, Use::Machine) {
         Ok(spec) => Some(spec),
-        Err(_halt) => None,
+        Err(halt) => {
+            drop(halt);
+            None
+        }
     }
 }
 
@@ -40,12 +43,8 @@ pub(crate) fn machine(alloc: Global, fields: &str) -> Result<Option<Spec>, NoMem
     ensures states { IfOk result (λ o. IfSome o (λ spec. has_states (specification spec) ≡ true)) }
     ensures few { IfOk result (λ o. IfSome o (λ spec. length (state_type (specification spec)).fields < 2 ^ 32)) }
 {
-    let mut source = String::from_str(alloc, TYPES)?;
-    if !fields.is_empty() {
-        source.push_str(", ")?;
-        source.push_str(fields)?;
-    }
-    source.push_str(");\n")?;
+    let comma = if fields.is_empty() { "" } else { ", " };
+    let source = format!(in alloc; "{}{}{});\n", TYPES, comma, fields)?;
     if source.len() > 262_144 {
         return Ok(None);
     }

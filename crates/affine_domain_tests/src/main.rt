@@ -4,30 +4,24 @@
 //! The map types are in `machine`. Then comes one of these:
 //!
 //! - `tracked`: the tracked cells, each its field, numbered from 1, and its key, if any.
-//! - `open X`: the state value of an element at 1000. A word is `any`, a constant in hex, or the numbers of a form, the constant
-//!   first; a map is its rest behind a `*` and then its listed keys.
+//! - `open X`: the state value of an element at 1000.
 //! - `X | Y`: whether X absorbs Y and Y absorbs X, so twice `true` where both are the same, and the ranks of both.
 //! - `N times CALL`: does a call N times, to take its time.
 //!
 //! An element is a list of rows in hex, `1 5 7;0 1 1`, or `entry E` with a `;` for each line end, or `join X and Y`, `widen X by
-//! Y` or `copy X`, or `close X with CHANGES`: the state value of X with the changes, closed. A change is `CELL := WORD`, where a
-//! cell is `1` or `2[0]`, as tracked cells are printed, and a word is `any`, a constant `=5` in hex, a cell, or the sum or product
-//! of two such, as `2[0] + =5`.
+//! Y` or `copy X`, or `close X with CHANGES`: the state value of X with the changes, closed. How changes and state values are
+//! written, says the head of `affine_changes`.
 //!
 //! The folder has the cases in stdin and what they are to give in stdout, which was worked out by hand from the rules.
 #![tactic(auto)]
 
 mod cases;
-mod changes;
 mod elements;
-mod forms;
 mod machine;
 mod rows;
-mod text;
 mod times;
-mod values;
 
-use cases::answer;
+use cases::push_answer;
 use std::io;
 
 fn main(rt: HostRuntime) -> io::Result<()> {
@@ -35,7 +29,8 @@ fn main(rt: HostRuntime) -> io::Result<()> {
     for line in rt.lines(alloc) {
         let line = line?;
         println!(rt; "{}", line.as_str())?;
-        let found = answer(alloc, line.as_str())?;
+        let mut found = String::new(alloc);
+        push_answer(alloc, &mut found, line.as_str())?;
         print!(rt; "{}", found.as_str())?;
     }
     Ok(())

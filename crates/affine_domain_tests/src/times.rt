@@ -1,75 +1,71 @@
 //! Calls that are done many times, to take their time.
 
-ghost use Rattle.std.specs.Prelude.{◌≡◌, ◌≤◌, IsTrue};
+ghost use Rattle.std.specs.Prelude.{◌≡◌};
 ghost use Rattle.spec_types.specs.Views.{specification};
 ghost use Rattle.domain_laws.specs.States.{state_type};
 ghost use Rattle.domain_laws.specs.Values.{IsStateValue};
 ghost use Rattle.affine_base.specs.Meaning.{affine};
-ghost use Rattle.affine_calls.specs.Calls.{cell_count, is_for};
+ghost use Rattle.affine_calls.specs.Calls.{cell_count};
 ghost use Rattle.affine_calls.specs.Tracked.{tracked_cells};
 ghost use Rattle.abs_value.specs.View.{abs};
+ghost use Rattle.affine_changes.specs.Settings.{IsSetting};
 
-use crate::changes::changed_state;
-use crate::elements::{operand, operands};
+use crate::elements::{operand, operands, with_changes};
 use abs_value::AV;
 use affine_base::Affine;
+use affine_changes::{Read, Setting, Unread, given};
 use affine_domain::AffineDomain;
 use affine_rows::Rows;
 use domain_trait::Domain;
-use spec_types::Spec;
 use std::alloc::{AllocError as NoMemory, Global};
 
-fn open_often(
-    alloc: Global,
-    spec: &Spec,
-    domain: &AffineDomain,
-    n: u64,
-    x: &Rows,
-) -> Result<(), NoMemory>
-    requires made { IsTrue (is_for domain.now (specification spec.now)) }
-    requires fits { x.now.k ≡ cell_count domain.now }
+/// Opens an element n times, and says how often.
+fn open_often(alloc: Global, setting: &Setting<'_>, n: u64, x: &Rows) -> Result<u64, NoMemory>
+    requires ready { IsSetting setting.now }
+    requires fits { x.now.k ≡ cell_count setting.now.domain.now }
 {
     for _ in 0..n {
-        let _value = domain.open(alloc, spec, x, 4096)?;
+        let _value = setting.domain.open(alloc, setting.spec, x, 4096)?;
     }
-    Ok(())
+    Ok(n)
 }
 
+/// Closes a state value n times, and says how often.
 fn close_often(
     alloc: Global,
-    spec: &Spec,
-    domain: &AffineDomain,
+    setting: &Setting<'_>,
     n: u64,
     x: &Rows,
     value: &AV<Affine>,
-) -> Result<(), NoMemory>
-    requires made { IsTrue (is_for domain.now (specification spec.now)) }
-    requires fits { x.now.k ≡ cell_count domain.now }
-    requires state { IsStateValue affine (tracked_cells domain.now) 256 (state_type (specification spec.now)) (abs value.now) }
+) -> Result<u64, NoMemory>
+    requires ready { IsSetting setting.now }
+    requires fits { x.now.k ≡ cell_count setting.now.domain.now }
+    requires state { IsStateValue affine (tracked_cells setting.now.domain.now) 256 (state_type (specification setting.now.spec.now)) (abs value.now) }
 {
     for _ in 0..n {
-        let _closed = domain.close(alloc, spec, x, value)?;
+        let _closed = setting.domain.close(alloc, setting.spec, x, value)?;
     }
-    Ok(())
+    Ok(n)
 }
 
+/// Joins two elements n times, and says how often.
 fn join_often(
     alloc: Global,
     domain: &AffineDomain,
     n: u64,
     x: &Rows,
     y: &Rows,
-) -> Result<(), NoMemory>
+) -> Result<u64, NoMemory>
     requires left { x.now.k ≡ cell_count domain.now }
     requires right { y.now.k ≡ cell_count domain.now }
 {
     for _ in 0..n {
         let _joined = domain.join(alloc, x, y)?;
     }
-    Ok(())
+    Ok(n)
 }
 
-/// How many times the first absorbs the second.
+/// How many times of n the first absorbs the second.
 fn absorb_often(domain: &AffineDomain, n: u64, x: &Rows, y: &Rows) -> u64
     requires old { x.now.k ≡ cell_count domain.now }
     requires new { y.now.k ≡ cell_count domain.now }
@@ -84,115 +80,53 @@ fn absorb_often(domain: &AffineDomain, n: u64, x: &Rows, y: &Rows) -> u64
 }
 
 /// Opens an element n times.
-fn opened(
-    alloc: Global,
-    spec: &Spec,
-    domain: &AffineDomain,
-    k: u32,
-    n: u64,
-    text: &str,
-) -> Result<Option<u64>, NoMemory>
-    requires made { IsTrue (is_for domain.now (specification spec.now)) }
-    requires cells { k ≡ cell_count domain.now }
-    requires few { k ≤ 64 }
+fn opened(alloc: Global, setting: &Setting<'_>, n: u64, text: &str) -> Read<u64>
+    requires { IsSetting setting.now }
 {
-    let Some(x) = operand(alloc, spec, domain, k, text)? else {
-        return Ok(None);
-    };
-    open_often(alloc, spec, domain, n, &x)?;
-    Ok(Some(n))
+    let x = operand(alloc, setting, text)?;
+    given(open_often(alloc, setting, n, &x))
 }
 
 /// Closes the state value of an element with changes n times.
-fn closed(
-    alloc: Global,
-    spec: &Spec,
-    domain: &AffineDomain,
-    k: u32,
-    n: u64,
-    text: &str,
-) -> Result<Option<u64>, NoMemory>
-    requires made { IsTrue (is_for domain.now (specification spec.now)) }
-    requires cells { k ≡ cell_count domain.now }
-    requires few { k ≤ 64 }
+fn closed(alloc: Global, setting: &Setting<'_>, n: u64, text: &str) -> Read<u64>
+    requires { IsSetting setting.now }
 {
-    let Some((from, changes)) = text.split_once(" with ") else {
-        return Ok(None);
-    };
-    let Some(x) = operand(alloc, spec, domain, k, from)? else {
-        return Ok(None);
-    };
-    let Some(value) = changed_state(alloc, spec, domain, &x, changes)? else {
-        return Ok(None);
-    };
-    close_often(alloc, spec, domain, n, &x, &value)?;
-    Ok(Some(n))
+    let (x, value) = with_changes(alloc, setting, text)?;
+    given(close_often(alloc, setting, n, &x, &value))
 }
 
 /// Joins two elements n times.
-fn joined(
-    alloc: Global,
-    spec: &Spec,
-    domain: &AffineDomain,
-    k: u32,
-    n: u64,
-    text: &str,
-) -> Result<Option<u64>, NoMemory>
-    requires made { IsTrue (is_for domain.now (specification spec.now)) }
-    requires cells { k ≡ cell_count domain.now }
-    requires few { k ≤ 64 }
+fn joined(alloc: Global, setting: &Setting<'_>, n: u64, text: &str) -> Read<u64>
+    requires { IsSetting setting.now }
 {
-    let Some((x, y)) = operands(alloc, spec, domain, k, text, " and ")? else {
-        return Ok(None);
-    };
-    join_often(alloc, domain, n, &x, &y)?;
-    Ok(Some(n))
+    let (x, y) = operands(alloc, setting, text, " and ")?;
+    given(join_often(alloc, setting.domain, n, &x, &y))
 }
 
 /// How many times of n an element absorbs another.
-fn absorbed(
-    alloc: Global,
-    spec: &Spec,
-    domain: &AffineDomain,
-    k: u32,
-    n: u64,
-    text: &str,
-) -> Result<Option<u64>, NoMemory>
-    requires made { IsTrue (is_for domain.now (specification spec.now)) }
-    requires cells { k ≡ cell_count domain.now }
-    requires few { k ≤ 64 }
+fn absorbed(alloc: Global, setting: &Setting<'_>, n: u64, text: &str) -> Read<u64>
+    requires { IsSetting setting.now }
 {
-    match operands(alloc, spec, domain, k, text, " and ")? {
-        Some((x, y)) => Ok(Some(absorb_often(domain, n, &x, &y))),
-        None => Ok(None),
-    }
+    let (x, y) = operands(alloc, setting, text, " and ")?;
+    Ok(absorb_often(setting.domain, n, &x, &y))
 }
 
 /// Does a call n times: `open X`, `close X with CHANGES`, `join X and Y`, or `absorb X and Y`, and says how many times it did it
-/// or, of the last, how many times the answer was yes; none, where the text is none.
-pub(crate) fn repeated(
-    alloc: Global,
-    spec: &Spec,
-    domain: &AffineDomain,
-    k: u32,
-    n: u64,
-    text: &str,
-) -> Result<Option<u64>, NoMemory>
-    requires made { IsTrue (is_for domain.now (specification spec.now)) }
-    requires cells { k ≡ cell_count domain.now }
-    requires few { k ≤ 64 }
+/// or, of the last, how many times the answer was yes.
+pub(crate) fn repeated(alloc: Global, setting: &Setting<'_>, n: u64, text: &str) -> Read<u64>
+    requires { IsSetting setting.now }
 {
     if let Some(rest) = text.strip_prefix("open ") {
-        return opened(alloc, spec, domain, k, n, rest);
+        return opened(alloc, setting, n, rest);
     }
     if let Some(rest) = text.strip_prefix("close ") {
-        return closed(alloc, spec, domain, k, n, rest);
+        return closed(alloc, setting, n, rest);
     }
     if let Some(rest) = text.strip_prefix("join ") {
-        return joined(alloc, spec, domain, k, n, rest);
+        return joined(alloc, setting, n, rest);
     }
     if let Some(rest) = text.strip_prefix("absorb ") {
-        return absorbed(alloc, spec, domain, k, n, rest);
+        return absorbed(alloc, setting, n, rest);
     }
-    Ok(None)
+    Err(Unread::No)
 }

@@ -3,10 +3,10 @@ use Rattle.domain_laws.specs.declared.field.Field.TheVariants.{Map}
 use Rattle.domain_laws.specs.Values.{IsOf}
 use Rattle.abs_value.specs.View.{abs}
 use Rattle.abs_value.proofs.Views.{abs_Map}
-use Rattle.affine_domain_tests.proofs.forms.is_of.Goals as goal
+use Rattle.affine_changes.proofs.forms.is_of.Goals as goal
 
 pub returns-else-width : goal.returns-else-width
-returns-else-width g c h =
+returns-else-width c h =
     let of = c.in-Map-Map in
     let same : of.n ≡ of.map = search rules in
     let wide : of.m.width ≡ of.width = search rules in

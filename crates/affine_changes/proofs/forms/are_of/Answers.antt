@@ -2,12 +2,11 @@ use Rattle.std.proofs.Common.{◌<◌, IsTrue, length, rules}
 use Rattle.domain_laws.specs.declared.field.Field.TheVariants.{Word}
 use Rattle.abs_value.specs.View.{abs}
 use Rattle.abs_value.proofs.Merging.{drop_here}
-use Rattle.abs_steps.proofs.Steps.{item_itself}
-use Rattle.affine_domain_tests.proofs.Fields.{are_step}
-use Rattle.affine_domain_tests.proofs.forms.are_of.Goals as goal
+use Rattle.affine_changes.proofs.Fields.{are_step, item_itself}
+use Rattle.affine_changes.proofs.forms.are_of.Goals as goal
 
 pub loop-i-preserved : goal.loop-i-preserved
-loop-i-preserved g c h =
+loop-i-preserved c h =
     let fields = c.args.fields.now in
     let values = c.args.values.now in
     let i = c.loop-i.i in

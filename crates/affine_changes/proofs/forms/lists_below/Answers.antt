@@ -1,9 +1,9 @@
 use Rattle.std.proofs.Common.{◌<◌, arith}
 use Rattle.map_laws.specs.Maps.{keys}
-use Rattle.affine_domain_tests.proofs.Fields.{drop_at, each_step}
-use Rattle.affine_domain_tests.proofs.forms.lists_below.Goals as goal
+use Rattle.affine_changes.proofs.Fields.{drop_at, each_step}
+use Rattle.affine_changes.proofs.forms.lists_below.Goals as goal
 
 pub loop-place-preserved : goal.loop-place-preserved
-loop-place-preserved g c h =
+loop-place-preserved c h =
     let all = keys c.args.m.now in
     c.loop-place.invariant (each_step (λ k. k < c.args.bound) all c.loop-place.place c.key_at.result (drop_at all c.loop-place.place c.key_at.result c.key_at.ensures) (omega (arith, c.if-key_at-bound.false)) h)

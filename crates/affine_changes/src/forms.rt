@@ -1,6 +1,6 @@
 //! Whether values are those of the fields of a state.
 
-ghost use Rattle.std.specs.Prelude.{◌≡◌, ◌∷◌, ◌<◌, IfOk, IfSome, IsTrue, map};
+ghost use Rattle.std.specs.Prelude.{◌≡◌, ◌<◌, IsTrue, map};
 ghost use Rattle.base_trait.specs.Lists.{Each};
 ghost use Rattle.map_laws.specs.Maps.{keys};
 ghost use Rattle.value_laws.specs.Abs.{parts};
@@ -9,11 +9,11 @@ ghost use Rattle.abs_value.specs.View.{abs};
 
 use abs_map::AMap;
 use abs_value::AV;
-use base_trait::Base;
+use affine_base::Affine;
 use domain_laws::Field;
 
 /// Whether each listed key is below a bound.
-fn lists_below<B: Base>(m: &AMap<B>, bound: u64) -> bool
+fn lists_below(m: &AMap<Affine>, bound: u64) -> bool
     ensures { IsTrue result → Each (λ k. k < bound) (keys m.now) }
 {
     for place in 0..m.listed() {
@@ -25,7 +25,7 @@ fn lists_below<B: Base>(m: &AMap<B>, bound: u64) -> bool
 }
 
 /// Whether a value is one of a field.
-fn is_of<B: Base>(field: Field, value: &AV<B>) -> bool
+fn is_of(field: Field, value: &AV<Affine>) -> bool
     ensures { IsTrue result → IsOf field (abs value.now) }
 {
     match (field, value) {
@@ -52,7 +52,7 @@ fn is_of<B: Base>(field: Field, value: &AV<B>) -> bool
 }
 
 /// Whether values are those of fields.
-pub(crate) fn are_of<B: Base>(fields: &[Field], values: &[AV<B>]) -> bool
+pub(crate) fn are_of(fields: &[Field], values: &[AV<Affine>]) -> bool
     ensures { IsTrue result → AreOf fields.now (parts (map abs values.now)) }
 {
     if fields.len() != values.len() {

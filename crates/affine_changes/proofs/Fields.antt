@@ -1,7 +1,7 @@
 -- Values of the fields of a state, one by one.
-use Rattle.std.proofs.Common.{◌≡◌, ℕ, ◌+◌, List, ◌∷◌, Some, drop, map, refl, sym, subst}
+use Rattle.std.proofs.Common.{◌≡◌, ℕ, ◌+◌, ◌<◌, List, ◌∷◌, Some, drop, get_or, length, map, refl, sym, subst}
 use Rattle.std.specs.Prelude.{slice_get}
-use Rattle.std.proofs.lemmas.Option.{get_or_from_slice_get, slice_get_within}
+use Rattle.std.proofs.lemmas.Option.{get_or_from_slice_get, slice_get-get_or, slice_get_within}
 use Rattle.base_trait.specs.Lists.{Each}
 use Rattle.value_laws.specs.Abs.{Abs, Parts, flag, word, made, map as map_of, no_case, present, no_part, part, parts}
 use Rattle.domain_laws.specs.declared.field.Field.{Field}
@@ -17,6 +17,10 @@ form_of t (part (word w x) xs) h = (refl, h.0, h.1)
 form_of t (part (flag x) xs) h = absurd h.0
 form_of t (part (made n cs) xs) h = absurd h.0
 form_of t (part (map_of m x) xs) h = absurd h.0
+
+-- an item, whatever stands for one past the end
+pub item_itself : {A : Type 0} (xs : List A) (i : ℕ) (d : A) → i < length xs → get_or xs i d ≡ get_or xs i (get_or xs i d)
+item_itself xs i d l = sym (get_or_from_slice_get xs i (get_or xs i d) (get_or xs i d) (slice_get-get_or xs i d l))
 
 pub drop_at : {A : Type 0} (xs : List A) (i : ℕ) (x : A) → slice_get xs i ≡ Some x → drop i xs ≡ x ∷ drop (i + 1) xs
 drop_at xs i x h = drop_here xs i x (sym (get_or_from_slice_get xs i x x h)) (slice_get_within xs i x h)
