@@ -15,7 +15,7 @@ use run_steps::{Answer, Halt, Refusal};
 use std::alloc::Global;
 use tsl_io::Inputs;
 
-/// What is answered of the analysis of a machine from an entry.
+/// Reads and examines what an analysis is of: a machine, its code and an entry. It answers nothing yet.
 pub fn analysed<'a, I: Inputs>(
     alloc: Global,
     inputs: &mut I,

@@ -3,8 +3,8 @@
 //! Each is a chain of steps (specs/Steps): the specification of a machine, its code, and for `emulate` the entry are read and
 //! examined one after another, each whole before the next input is opened; then the machine runs, or its code is listed. A refusal
 //! of a step is that of the command, and nothing more is read. `emulated` and `listed` give what these chains may give, over any
-//! inputs, as do `machine_of` and `image_of`, the first two steps of every analysis too. The laws of src/laws.rt say that over the
-//! bytes that names hold there is one outcome at most.
+//! inputs. `machine_of` and `image_of` are their first two steps, with which an analysis begins too. The laws of src/laws.rt say that
+//! over the bytes that names hold there is one outcome at most.
 #![tactic(auto)]
 
 mod code;

@@ -48,7 +48,7 @@ module _ (words : List (List ℕ)) (old new : InputState) (sink_old sink_new : S
         → (text : List ℕ) × Owes words old.held result text × Appends sink_old sink_new text
     -- Over inputs that tell: what is owed is answered, but for a fault and want of memory.
     pub owed : IsTrue old.tells → (status : Status) (text : List ℕ) → Owes words old.held status text → (result ≡ status) ⊎ ¬ IsAnswer result
-    -- Words that ask for nothing that is built are refused.
+    -- Words that ask for nothing, or for what is not even begun, are refused.
     pub bad_words : asked words ≡ None → EndsWith s.BadWords bad_words_line
     pub not_built : IsUnbuilt (asked words) → EndsWith s.NotBuilt not_built_line
     -- A fault of an input has its cause in this run, at a name that is not sure, and is written.

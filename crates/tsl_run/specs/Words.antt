@@ -7,18 +7,18 @@ use Rattle.run_steps.specs.Sources.{source_inputs}
 use Rattle.run_analyse.specs.Steps.{analyse_inputs}
 use Rattle.run_emulate.specs.Steps.{emulate_inputs, list_inputs}
 
--- what is asked for is built, or at least its inputs are read and examined
-abbrev pub is_built : Request → Bool
-is_built (call request) = true
-is_built (emulate request) = true
-is_built (analyse request) = true
-is_built (list request) = true
-is_built _ = false
+-- what is asked for is built, or at least begun: its inputs are read and examined
+abbrev pub is_begun : Request → Bool
+is_begun (call request) = true
+is_begun (emulate request) = true
+is_begun (analyse request) = true
+is_begun (list request) = true
+is_begun _ = false
 
--- Words ask for something, and nothing of it is built.
+-- Words ask for something that is not even begun.
 abbrev pub IsUnbuilt : Option Request → Type 0
 IsUnbuilt None = ⊥
-IsUnbuilt (Some request) = is_built request ≡ false
+IsUnbuilt (Some request) = is_begun request ≡ false
 
 -- the inputs of what is asked for, and how many bytes each may have
 abbrev pub capped_in : Option Request → List Capped

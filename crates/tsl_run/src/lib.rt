@@ -6,9 +6,10 @@
 //!
 //! `answer` shows the chain from words to answer. It is the chain of the definition, specs/Steps: each step gives something to the
 //! next one, or refuses, and then that is what the run comes to. The chain of `call` is here; those of `emulate` and `list` are
-//! those of `run_emulate`, and that of `analyse`, as far as it is built, is that of `run_analyse`. Over the bytes that the names hold (`Holds`) these steps have one outcome, which is *owed* (`Owes`).
-//! Over inputs that may fail (`Gave`) they have the same one, or that an input could not be read; the code gives just that (`Gives`,
-//! for each of its steps), and so the whole is proved step by step.
+//! those of `run_emulate`, and that of `analyse`, as far as it is built, is that of `run_analyse`. Over the bytes that the names
+//! hold (`Holds`) these steps have one outcome, which is *owed* (`Owes`). Over inputs that may fail (`Gave`) they have the same one,
+//! or that an input could not be read; the code gives just that (`Gives`, for each of its steps), and so the whole is proved step by
+//! step.
 //!
 //! What is proved: `run` ends with an outcome that it comes to and writes its line, or a front of it where the sink fails, or
 //! nothing for want of memory (`ends`). Over inputs that tell their bytes an answer is owed (`answered`). All else that a caller
@@ -69,7 +70,7 @@ pub fn run<I: Inputs, S: Sink>(
     ensures no_sink_fault { result ≢ Status.WriteFault
         → (S.state sink.new).faults ≡ (S.state sink.old).faults }
 
-    // Words that ask for nothing that is built are refused before any input is opened.
+    // Words that ask for nothing, or for what is not even begun, are refused before any input is opened.
     ensures bad_words { asked (texts words.now) ≡ None → inputs.new ≡ inputs.old }
     ensures not_built { IsUnbuilt (asked (texts words.now)) → inputs.new ≡ inputs.old }
 
