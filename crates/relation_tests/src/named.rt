@@ -1,48 +1,14 @@
-//! Analyses in domains.
+//! The domains that cases name.
 
-ghost use Rattle.std.specs.Prelude.{◌&&◌, IsTrue};
-ghost use Rattle.pair_calls.specs.Domain.{may_pair};
-ghost use Rattle.analysis_cases.specs.Subjects.{IsSubject};
-
-use crate::domains::ShownDomain;
-use crate::verdicts::{Relations, Replacement};
-use accepted_states::laws::accepted_have_states;
 use affine_domain::AffineDomain;
-use analysis_cases::{Case, Program, Subject, analysed, no};
-use base_trait::Base;
+use analysis_cases::{Case, Program, Subject, no};
 use defuse_base::DefUse;
-use domain_trait::Domain;
 use interval_base::Interval;
 use kset_base::KSet;
 use pair_domain::PairDomain;
+use relation_cases::{Replacement, over, over_both};
 use state_domain::StateDomain;
 use std::alloc::{AllocError as NoMemory, Global};
-
-/// What an analysis in a domain gives.
-fn over<D: ShownDomain>(
-    alloc: Global,
-    subject: &Subject,
-    by: Option<Replacement<'_>>,
-) -> Result<String, NoMemory>
-    requires may { IsTrue D.may }
-    requires subject { IsSubject subject.now }
-{
-    accepted_have_states();
-    let domain = D::made(alloc, &subject.spec)?;
-    analysed(alloc, &Relations { by }, &domain, subject, 64)
-}
-
-/// What an analysis in two domains side by side gives.
-fn over_both<A: ShownDomain, B: ShownDomain>(
-    alloc: Global,
-    subject: &Subject,
-    by: Option<Replacement<'_>>,
-) -> Result<String, NoMemory>
-    requires may { IsTrue (A.may && (B.may && may_pair A.B.algebra B.B.algebra)) }
-    requires subject { IsSubject subject.now }
-{
-    over::<PairDomain<A, B>>(alloc, subject, by)
-}
 
 type Sets = StateDomain<KSet<16>>;
 

@@ -1,5 +1,5 @@
 use Rattle.spec_types.specs.Views.{specification}
-use Rattle.relation_tests.proofs.named.over.Goals as goal
+use Rattle.relation_cases.proofs.analyses.over.Goals as goal
 
 pub made-requires-clause-states : goal.made-requires-clause-states
 made-requires-clause-states g c =

@@ -1,4 +1,4 @@
-use Rattle.relation_tests.proofs.least.least.Given as goal
+use Rattle.relation_cases.proofs.least.least.Given as goal
 
 abbrev pub invariant-loop-part : goal.invariant-loop-part
 invariant-loop-part g l =

@@ -34,14 +34,27 @@ fn reduced(alloc: Global, rows: &Rows, i: u32) -> Result<Vec<u32>, NoMemory>
     Ok(row)
 }
 
+/// Appends a row, as a line.
+fn push_row(out: &mut String, row: &[u32]) -> Result<(), NoMemory> {
+    out.push_str("    row")?;
+    for n in row {
+        write!(out, " {n:08x}")?;
+    }
+    out.push_str("\n")
+}
+
+/// Appends kept row i, reduced, as a line.
+fn push_reduced(alloc: Global, out: &mut String, rows: &Rows, i: u32) -> Result<(), NoMemory>
+    requires { i < length rows.now.rows }
+{
+    let row = reduced(alloc, rows, i)?;
+    push_row(out, &row)
+}
+
 /// Appends the kept rows, reduced, each as a line.
 pub(crate) fn push_rows(alloc: Global, out: &mut String, rows: &Rows) -> Result<(), NoMemory> {
     for i in 0..rows.len() {
-        out.push_str("    row")?;
-        for n in &reduced(alloc, rows, i)? {
-            write!(out, " {n:08x}")?;
-        }
-        out.push_str("\n")?;
+        push_reduced(alloc, out, rows, i)?;
     }
     Ok(())
 }

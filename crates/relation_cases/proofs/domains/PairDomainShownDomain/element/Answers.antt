@@ -2,7 +2,7 @@ use Rattle.std.specs.Prelude.{◌&&◌}
 use Rattle.base_trait.proofs.Tests.{and_parts}
 use Rattle.spec_types.specs.Views.{specification}
 use Rattle.pair_calls.specs.Domain.{may_pair}
-use Rattle.relation_tests.proofs.domains.PairDomainShownDomain.element.Goals as goal
+use Rattle.relation_cases.proofs.domains.PairDomainShownDomain.element.Goals as goal
 
 pub element-requires : goal.element-requires
 element-requires g c =

@@ -20,7 +20,7 @@ use state_domain::StateDomain;
 use std::alloc::{AllocError as NoMemory, Global};
 
 /// A domain whose elements have texts.
-pub(crate) trait ShownDomain: Domain + Drop {
+pub trait ShownDomain: Domain + Drop {
     /// Whether its base is one that domains can be made over.
     ghost may: { Bool };
 
@@ -52,7 +52,7 @@ pub(crate) trait ShownDomain: Domain + Drop {
 
 impl<B: Named> ShownDomain for StateDomain<B> {
     ghost use Rattle.std.specs.Prelude.{◌&&◌, not};
-    ghost use Rattle.relation_tests.specs.Pairs.{cells_join};
+    ghost use Rattle.relation_cases.specs.Pairs.{cells_join};
 
     ghost may = { B.algebra.joins && not B.algebra.words.looks };
 
@@ -114,7 +114,7 @@ impl ShownDomain for AffineDomain {
 impl<A: ShownDomain, B: ShownDomain> ShownDomain for PairDomain<A, B> {
     ghost use Rattle.std.specs.Prelude.{◌&&◌};
     ghost use Rattle.pair_calls.specs.Domain.{may_pair};
-    ghost use Rattle.relation_tests.specs.Pairs.{pairs_join};
+    ghost use Rattle.relation_cases.specs.Pairs.{pairs_join};
 
     ghost may = { A.may && (B.may && may_pair A.B.algebra B.B.algebra) };
 

@@ -20,9 +20,9 @@ use transfer::ImageAnalysis;
 
 /// An element for an address, as text.
 #[derive(Clone, Copy)]
-pub(crate) struct Replacement<'a> {
-    pub(crate) at: u32,
-    pub(crate) text: &'a str,
+pub struct Replacement<'a> {
+    pub at: u32,
+    pub text: &'a str,
 }
 
 /// A block without its last exit, or else without its last next address.
@@ -36,21 +36,11 @@ fn shorter<E>(mut block: Block<E>) -> Block<E>
 }
 
 /// A block with another element.
-fn with_element<E: Drop>(block: Block<E>, elem: E) -> Block<E>
+fn with_element<E: Drop>(mut block: Block<E>, elem: E) -> Block<E>
     ensures { result.elem ≡ elem }
 {
-    let Block {
-        elem: _old,
-        next,
-        exits,
-        uses,
-    } = block;
-    Block {
-        elem,
-        next,
-        exits,
-        uses,
-    }
+    block.elem = elem;
+    block
 }
 
 /// Appends the table and the verdicts on it, on the table without its last block, and on it without a target of that block.
@@ -72,8 +62,24 @@ fn push_verdicts<'a, D: ShownDomain, L: Ledger>(
     push_checked::<D, Relations<'_>, L>(alloc, out, "without a target: ", it, &table, steps)
 }
 
-/// Appends whether the table's element absorbs its replacement, and the other way round, and the verdict on the table with the
-/// replacement.
+/// Appends whether an element absorbs its replacement, and the other way round, and the verdict on the table with the replacement.
+fn push_compared<'a, D: ShownDomain, L: Ledger>(
+    alloc: Global,
+    out: &mut String,
+    it: &ImageAnalysis<'a, D>,
+    absorbed: (bool, bool),
+    table: &Table<D::Elem>,
+    steps: &mut Steps<L>,
+) -> Result<(), NoMemory>
+    requires ready { ⟦<ImageAnalysis<'a, D> as Analyser>⟧.IsReady it.now }
+    requires fits { TableFits (⟦<ImageAnalysis<'a, D> as Analyser>⟧.analysis it.now) (listings ⟦<ImageAnalysis<'a, D> as Analyser>⟧.view table.now) }
+{
+    let (more, less) = absorbed;
+    writeln!(out, "  absorbs {more} {less}")?;
+    push_checked::<D, Relations<'_>, L>(alloc, out, "in its place: ", it, table, steps)
+}
+
+/// Replaces the element of a block, and appends what that gives.
 fn push_replaced<'a, D: ShownDomain, L: Ledger>(
     alloc: Global,
     out: &mut String,
@@ -88,10 +94,17 @@ fn push_replaced<'a, D: ShownDomain, L: Ledger>(
 {
     let more = it.absorbs(&cut.block.elem, &elem);
     let less = it.absorbs(&elem, &cut.block.elem);
-    writeln!(out, "  absorbs {more} {less}")?;
     let Cut { table, at, block } = cut;
     let table = with_block(it, table, at, with_element(block, elem))?;
-    push_checked::<D, Relations<'_>, L>(alloc, out, "in its place: ", it, &table, steps)
+    push_compared(alloc, out, it, (more, less), &table, steps)
+}
+
+/// Appends that an element was not read, if memory sufficed.
+fn push_unread(out: &mut String, error: Unread) -> Result<(), NoMemory> {
+    match error {
+        Unread::No(_) => out.push_str("  no element\n"),
+        Unread::NoMemory => Err(NoMemory),
+    }
 }
 
 /// The same of an element's text.
@@ -111,8 +124,10 @@ fn push_replacement<'a, D: ShownDomain, L: Ledger>(
     };
     match it.domain.element(alloc, it.spec, by.text) {
         Ok(elem) => push_replaced(alloc, out, it, cut, elem, steps),
-        Err(Unread::No(_)) => out.push_str("  no element\n"),
-        Err(Unread::NoMemory) => Err(NoMemory),
+        Err(error) => {
+            drop(cut);
+            push_unread(out, error)
+        }
     }
 }
 

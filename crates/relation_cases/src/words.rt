@@ -9,7 +9,7 @@ use shown_bases::{Shown, push_number};
 use std::alloc::AllocError as NoMemory;
 
 /// A base of cells that has a name.
-pub(crate) trait Named: Shown {
+pub trait Named: Shown {
     fn name() -> &'static str;
 
     /// What its words share.
