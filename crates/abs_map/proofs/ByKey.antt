@@ -1,7 +1,7 @@
 -- What a walk along ascending cells gives, by keys.
 use Rattle.std.proofs.Common.{◌≡◌, ℕ, ◌+◌, ◌<◌, ◌≤◌, Bool, true, false, zero, suc, List, [], ◌∷◌, ◌++◌, map, length, get_or, take, drop, drop-cons, take-suc, Option, Some, None, refl, sym, ap, subst, ◌∙◌, arith, cond, eqb, append_assoc}
 use Rattle.std.specs.Prelude.{◌==◌, ◌&&◌, ◌||◌, not, is_some, option_map, nat_lt, unwrap_or, slice_get, slice_index}
-use Rattle.std.proofs.lemmas.List.{get_or-map}
+use Rattle.std.proofs.lemmas.List.{get_or-map, drop_all}
 use Rattle.std.proofs.lemmas.Option.{slice_get-get_or, slice_get-map}
 use Rattle.std.specs.List.{filter, list_all}
 use Rattle.base_trait.specs.Algebra.{Algebra}
@@ -12,7 +12,7 @@ use Rattle.map_laws.specs.Keys.{has_key, with_key, either_key}
 use Rattle.map_laws.specs.Cells.{CellFits}
 use Rattle.map_laws.specs.Maps.{Map, Fits, keys, cell, cell_in, cells_at}
 use Rattle.map_laws.specs.Calls.{news}
-use Rattle.map_laws.proofs.Joining.{drop_all, take_all}
+use Rattle.map_laws.proofs.Joining.{take_all}
 use Rattle.map_laws.proofs.Places.{cells_again, each_cell}
 use Rattle.abs_map.specs.Listed.{listed_at}
 use Rattle.abs_map.proofs.Ascending.{cell_or, each_index}

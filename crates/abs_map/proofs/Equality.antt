@@ -1,8 +1,8 @@
 -- Lists that are compared item by item.
 use Rattle.std.proofs.Common.{◌≡◌, ℕ, ◌+◌, ◌<◌, ◌≤◌, Bool, true, false, suc, List, [], ◌∷◌, length, get_or, drop, refl, sym, ap, ◌∙◌, arith, drop-cons}
 use Rattle.std.specs.Prelude.{◌&&◌, not}
+use Rattle.std.proofs.lemmas.List.{drop_all}
 use Rattle.base_trait.specs.Identity.{same_list}
-use Rattle.map_laws.proofs.Joining.{drop_all}
 
 module _ {A : Type 0} (eq : A → A → Bool) where
   -- lists of two lengths differ

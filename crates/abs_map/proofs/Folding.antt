@@ -1,5 +1,6 @@
 -- Cells past what may be listed.
 use Rattle.std.proofs.Common.{◌≡◌, ℕ, ◌^◌, ◌<◌, ◌≤◌, Bool, true, false, zero, suc, List, [], ◌∷◌, ◌++◌, length, take, drop, refl, sym, ap, subst, ◌∙◌, arith, IsTrue, cond, ◌⊎◌, inl, inr}
+use Rattle.std.proofs.lemmas.List.{drop_all}
 use Rattle.base_trait.specs.Algebra.{Algebra}
 use Rattle.base_trait.specs.Lists.{Each, IsAscending}
 use Rattle.map_laws.specs.declared.cell.Cell.{Cell}
@@ -7,7 +8,7 @@ use Rattle.map_laws.specs.Cells.{join_cells}
 use Rattle.map_laws.specs.Maps.{Map, keys}
 use Rattle.map_laws.specs.Calls.{folded, rest_with}
 use Rattle.map_laws.proofs.Fitting.{length_keys, no_more}
-use Rattle.map_laws.proofs.Joining.{drop_all, take_all}
+use Rattle.map_laws.proofs.Joining.{take_all}
 
 module _ {A : Type 0} where
   drop_push : (n : ℕ) (xs : List A) (x : A) → n ≤ length xs → drop n (xs ++ x ∷ []) ≡ drop n xs ++ x ∷ []

@@ -3,11 +3,11 @@ use Rattle.std.proofs.Common.{◌≡◌, ℕ, ◌+◌, ◌-◌, ◌<◌, ◌≤�
 use Rattle.std.proofs.Math.Seq.{take-length}
 use Rattle.std.specs.Int.{from_bool}
 use Rattle.std.proofs.lemmas.Bool.Decides.{nat_tests}
+use Rattle.std.proofs.lemmas.List.{drop_all}
 use Rattle.base_trait.specs.Lists.{IsAscendingFrom, Each}
 use Rattle.map_laws.specs.Keys.{with_key, either_key}
 use Rattle.base_trait.proofs.Lists.{ascending_lower}
 use Rattle.map_laws.proofs.KeyLists.{either_ascends}
-use Rattle.map_laws.proofs.Joining.{drop_all}
 use Rattle.abs_map.proofs.Ascending.{sort_numbers}
 
 with_front : (k : ℕ) (ks : List ℕ) → IsAscendingFrom (k + 1) ks → with_key k ks ≡ k ∷ ks

@@ -4,6 +4,7 @@ use Rattle.std.specs.Prelude.{All, nat_lt, slice_get}
 use Rattle.std.proofs.lemmas.Bool.Decides.{nat_tests}
 use Rattle.std.proofs.lemmas.List.Elements.{All-get_or, All-head, All-tail}
 use Rattle.std.proofs.lemmas.Option.{get_or_from_slice_get, slice_get_within}
+use Rattle.std.proofs.lemmas.Bool.{lt-ltb as below}
 use Rattle.base_trait.specs.Algebra.{Algebra}
 use Rattle.spec_types.specs.Environment.{Environment}
 use Rattle.value_laws.specs.Abs.{Abs, Parts, made, no_case, parts}
@@ -33,8 +34,6 @@ module _ {W N C : Type 0} (B : Algebra W N C) (c : C) (cap : ℕ) where
   one_fits (suc n) (suc k) xs h = one_fits n k xs h
 
 -- ---- a constructor value of which one is present
-below : (k n : ℕ) → k < n → nat_lt k n ≡ true
-below k n h = grind (arith, nat_tests)
 
 module _ {W N : Type 0} (env : Environment) where
   pub made_is : (d k n : ℕ) (xs : List (Abs W N)) (z : Abs W N) → n ≡ case_count env d → k < n → z ≡ made d (one_case n k (parts xs)) → Some z ≡ made_of env d k xs

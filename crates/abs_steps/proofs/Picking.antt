@@ -2,15 +2,12 @@
 use Rattle.std.proofs.Common.{◌≡◌, ℕ, ◌+◌, ◌<◌, Bool, true, false, cond, List, [], ◌∷◌, ◌++◌, Option, Some, None, Vec, Global, length, drop, map, get_or, refl, sym, ap, ◌∙◌}
 use Rattle.std.specs.Prelude.{is_some, slice_get}
 use Rattle.std.specs.List.{filter}
-use Rattle.std.proofs.lemmas.Option.{get_or_from_slice_get, slice_get_within}
 use Rattle.value_laws.specs.Abs.{cases}
 use Rattle.abs_value.specs.View.{case_of}
 use Rattle.abs_value.specs.declared.value.AV.{AV}
-use Rattle.abs_value.proofs.Merging.{drop_here}
 use Rattle.reinterpretation.specs.Keys.{cases_from}
-
-pub drop_got : {A : Type 0} (xs : List A) (i : ℕ) (x : A) → slice_get xs i ≡ Some x → drop i xs ≡ x ∷ drop (i + 1) xs
-drop_got xs i x h = drop_here xs i x (sym (get_or_from_slice_get xs i x x h)) (slice_get_within xs i x h)
+use Rattle.tsl_match.proofs.Loops.{drop_here}
+use Rattle.spec_types.proofs.Lists.{drop_got}
 
 -- one that is picked, or not, behind those so far
 picked : (out rest : List ℕ) (b : Bool) (k : ℕ) → out ++ cond b (k ∷ rest) rest ≡ (out ++ cond b (k ∷ []) []) ++ rest

@@ -2,29 +2,19 @@
 use Rattle.std.proofs.Common.{◌≡◌, Bor, ℕ, zero, suc, ◌+◌, ◌<◌, List, [], ◌∷◌, ◌++◌, Option, Some, None, Vec, Global, length, drop, get_or, map, refl, sym, ap, subst, append_assoc, ◌∙◌}
 use Rattle.std.specs.Prelude.{IfSome, option_and_then, option_map, slice_get}
 use Rattle.std.specs.Option.{option_copied}
-use Rattle.std.proofs.lemmas.Option.{get_or_from_slice_get, slice_get-get_or}
 use Rattle.base_trait.specs.Algebra.{Algebra}
 use Rattle.tsl_match.specs.Values.{Place}
+use Rattle.tsl_match.proofs.Loops.{drop_here}
 use Rattle.value_laws.specs.Abs.{Abs, Cases, Parts, flag, word, made, map as map_of, no_case, absent, present, no_part, part, cases, parts}
 use Rattle.value_laws.specs.Fits.{Fits, CasesFit, PartsFit}
 use Rattle.abs_value.specs.View.{abs, case_of}
 use Rattle.abs_value.specs.declared.value.AV.{AV}
-use Rattle.abs_value.proofs.Merging.{drop_here}
 use Rattle.reinterpretation.specs.Choices.{abs_at, abs_in, abs_named, abs_part}
 
 -- what a reference is seen as
 pub seen_there : {A D : Type 0} (f : A → D) (r : Option (Bor A)) (xs : List A) (i : ℕ) → option_copied r ≡ slice_get xs i → option_map (λ b. f b.now) r ≡ option_map f (slice_get xs i)
 seen_there f None xs i e = ap (λ o. option_map f o) e
 seen_there f (Some b) xs i e = ap (λ o. option_map f o) e
-
--- an item, whatever stands for one past the end
-pub item_itself : {A : Type 0} (xs : List A) (i : ℕ) (d : A) → i < length xs → get_or xs i d ≡ get_or xs i (get_or xs i d)
-item_itself xs i d l = sym (get_or_from_slice_get xs i (get_or xs i d) (get_or xs i d) (slice_get-get_or xs i d l))
-
--- one more that is seen
-pub seen_push : {A D : Type 0} (f : A → D) (xs : List A) (x : A) → map f (xs ++ x ∷ []) ≡ map f xs ++ f x ∷ []
-seen_push f [] x = refl
-seen_push f (y ∷ xs) x = ap (λ l. f y ∷ l) (seen_push f xs x)
 
 module _ {W N : Type 0} where
   part_next : (place : Place) (i : ℕ) (xs : Parts W N) → abs_part place i xs ≡ option_and_then (abs_at place) (abs_part [] i xs)

@@ -1,9 +1,9 @@
 -- Tests of two lists, item by item: lists of two lengths fail.
 use Rattle.std.proofs.Common.{◌≡◌, ℕ, suc, ◌+◌, ◌<◌, ◌≤◌, Bool, true, false, List, [], ◌∷◌, length, drop, get_or, refl, sym, ap, subst, ◌∙◌}
 use Rattle.std.specs.Prelude.{◌&&◌, ◌==◌}
+use Rattle.std.proofs.lemmas.List.{drop_all}
 use Rattle.base_trait.proofs.Lists.{number_itself}
-use Rattle.map_laws.proofs.Joining.{drop_all}
-use Rattle.abs_value.proofs.Merging.{drop_here}
+use Rattle.tsl_match.proofs.Loops.{drop_here}
 
 pub record IsBoth {A D : Type 0} (one : A → D → Bool) (test : List A → List D → Bool) : Type 0 where
   pub end : test [] [] ≡ true

@@ -3,12 +3,12 @@ use Rattle.std.proofs.Common.{◌≡◌, ℕ, ◌+◌, ◌<◌, ◌≤◌, ◌++
 use Rattle.std.specs.Hash.{HashWrites}
 use Rattle.std.specs.List.{fold}
 use Rattle.std.proofs.lemmas.List.Sums.{fold-append}
-use Rattle.map_laws.proofs.Joining.{drop_all}
+use Rattle.std.proofs.lemmas.List.{drop_all}
 use Rattle.value_laws.specs.Abs.{Cases, Parts, case_onto, cases, parts}
 use Rattle.abs_value.specs.Same.{hashed_case, hashed_cases, hashed_parts, hashed_value}
 use Rattle.abs_value.specs.View.{abs, case_of}
 use Rattle.abs_value.specs.declared.value.AV.{AV}
-use Rattle.abs_value.proofs.Merging.{drop_here}
+use Rattle.tsl_match.proofs.Loops.{drop_here}
 
 module _ {W N : Type 0} (words : W → HashWrites) (notes : N → HashWrites) where
   case_hashed : (x : Option (Parts W N)) (cs : Cases W N) → hashed_cases words notes (case_onto x cs) ≡ hashed_case words notes x ++ hashed_cases words notes cs

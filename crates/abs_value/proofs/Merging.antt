@@ -1,8 +1,7 @@
 -- One more element of a list of parts or cases.
-use Rattle.std.proofs.Common.{◌≡◌, ℕ, ◌+◌, ◌<◌, List, [], ◌∷◌, ◌++◌, length, map, take, drop, get_or, ◌∙◌, Option, Some, None, Vec, Global, Result, Ok, Err, refl, sym, ap, subst, add-one, arith, min, ◌≤◌, length-drop}
+use Rattle.std.proofs.Common.{◌≡◌, ℕ, ◌+◌, ◌<◌, List, [], ◌∷◌, ◌++◌, length, map, take, drop, get_or, ◌∙◌, Option, Some, None, Vec, Global, Result, Ok, Err, refl, sym, ap, subst, arith, min, ◌≤◌, length-drop}
 use Rattle.std.specs.Prelude.{IfOk, IsOkAnd, ◌&&◌, ◌==◌, if◌then◌else◌}
 use Rattle.base_trait.proofs.Lists.{number_itself}
-use Rattle.std.proofs.Math.Seq.{drop-cons}
 use Rattle.base_trait.specs.Algebra.{Algebra}
 use Rattle.map_laws.specs.Maps.{Fits as MapFits, Map}
 use Rattle.word_ops.specs.Width.{IsWidth}
@@ -16,9 +15,7 @@ use Rattle.abs_value.specs.View.{abs, case_of}
 use Rattle.abs_value.specs.declared.value.AV.{AV, Data, Flag, Map as AMap, Word}
 use Rattle.base_trait.specs.declared.tri.Tri.{Tri}
 use Rattle.abs_value.proofs.Views.{abs_Data, abs_Flag, abs_Map, abs_Word}
-
-pub drop_here : {A : Type 0} (xs : List A) (i : ℕ) (x : A) → x ≡ get_or xs i x → i < length xs → drop i xs ≡ x ∷ drop (i + 1) xs
-drop_here xs i x e h = rw (add-one, drop-cons xs i x h, ← e) refl
+use Rattle.tsl_match.proofs.Loops.{drop_here}
 
 -- the view of one more
 module _ {A D : Type 0} (f : A → D) where

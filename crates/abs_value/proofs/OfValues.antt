@@ -27,7 +27,8 @@ use Rattle.abs_value.specs.declared.value.AV as a
 use Rattle.abs_value.specs.declared.value.AV.{AV}
 use Rattle.abs_value.proofs.Views.{abs_Map, abs_Word}
 use Rattle.word_ops.specs.Width.{IsWidth}
-use Rattle.abs_value.proofs.Merging.{drop_here, map_push, parts_onto_more}
+use Rattle.abs_value.proofs.Merging.{map_push, parts_onto_more}
+use Rattle.tsl_match.proofs.Loops.{drop_here}
 
 -- ---- the view of a constructor value
 pub val_Made : (ty k : ℕ) (ps : Vec Value Global) → val (Made ty k ps) ≡ v.made ty k (v.vals (map val ps.items))

@@ -3,9 +3,9 @@
 ghost use Rattle.std.specs.Prelude.{◌≡◌, map, IfOk};
 ghost use Rattle.abs_value.specs.View.{abs, case_of};
 
-use super::lists::pushed;
 use super::value::AV;
 use base_trait::Base;
+use grown_lists::pushed;
 use std::alloc::{AllocError as NoMemory, Global};
 
 /// The same value once more.

@@ -1,19 +1,9 @@
-//! Lists that grow by what may fail.
+//! Lists of places, of which one has a value.
 
-ghost use Rattle.std.specs.Prelude.{◌≡◌, ◌<◌, ◌-◌, ◌++◌, ◌∷◌, [], IfOk, IsOkAnd, None, Some, replicate};
+ghost use Rattle.std.specs.Prelude.{◌≡◌, ◌<◌, ◌-◌, ◌++◌, ◌∷◌, [], IfOk, None, Some, replicate};
 
+use grown_lists::pushed;
 use std::alloc::{AllocError as NoMemory, Global};
-
-/// The list with one item more, where that was made; else the list is let go.
-pub(crate) fn pushed<T: Drop>(
-    mut list: Vec<T>,
-    item: Result<T, NoMemory>,
-) -> Result<Vec<T>, NoMemory>
-    ensures { IfOk result (λ r. IsOkAnd item (λ x. r.items ≡ list.items ++ x ∷ [])) }
-{
-    list.push(item?)?;
-    Ok(list)
-}
 
 /// Of so many places one has the value.
 pub(crate) fn one_of<T: Drop>(

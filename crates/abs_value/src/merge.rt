@@ -7,10 +7,10 @@ ghost use Rattle.abs_value.specs.View.{abs, case_of};
 ghost use Rattle.abs_value.specs.Ways.{merged, merged_case, merged_cases, merged_parts};
 
 use super::copies::{copy, copy_parts};
-use super::lists::pushed;
 use super::value::AV;
 use super::way::{Way, either, merge_maps, merge_words};
 use base_trait::Base;
+use grown_lists::pushed;
 use std::alloc::{AllocError as NoMemory, Global};
 
 /// Two values of one type merged.

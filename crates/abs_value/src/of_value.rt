@@ -14,10 +14,11 @@ ghost use Rattle.value_types.specs.OfValues.{MapFits, ValueFits, ValuesFit, case
 ghost use Rattle.value_types.specs.TypeShapes.{width_of};
 ghost use Rattle.abs_value.specs.View.{abs, case_of};
 
-use super::lists::{one_of, pushed};
+use super::lists::one_of;
 use super::value::AV;
 use abs_map::AMap;
 use base_trait::{Base, Stamped, Tri};
+use grown_lists::pushed;
 use map_laws::Cell;
 use spec_types::Spec;
 use std::alloc::{AllocError as NoMemory, Global};

@@ -1,7 +1,7 @@
 -- Checked specifications are accepted.
 use Rattle.std.proofs.Common.{◌≡◌, ℕ, suc, ◌<◌, Bool, true, Option, Some, None, option_map, List, [], ◌∷◌, length, map, slice_get, refl, sym, ap, ◌∙◌, subst, inl, arith, zero-add}
 use Rattle.std.specs.List.{list_all}
-use Rattle.std.proofs.lemmas.Option.{slice_get_within}
+use Rattle.std.proofs.lemmas.Option.{slice_get_within, same_Some as some_signature}
 use Rattle.reachability.specs.Graph.{IsLeastOfGroup}
 use Rattle.reachability.specs.Table.{IsTableOf, rank}
 use Rattle.reachability.proofs.Tables.{some_table}
@@ -52,9 +52,6 @@ same_environment a b c d x y p q r = rw (p, q, r) refl
 
 some_term : (x y : Term) → Some x ≡ Some y → x ≡ y
 some_term x y h = cc
-
-some_signature : (x y : Signature) → Some x ≡ Some y → x ≡ y
-some_signature x y h = cc
 
 module _ (wanted : Use) (tree : Tree) (s : Spec) (parsed : IsParsed tree) (fine : IsFaultless wanted tree) (is : IsSpecOf tree wanted s) where
   abbrev env : Environment

@@ -1,17 +1,18 @@
 -- A term without a fault has one type: the one that is found for it.
 use Rattle.std.proofs.Common.{◌≡◌, ℕ, true, Option, Some, None, List, [], ◌∷◌, ◌++◌, length, sym, ap, ◌∙◌, subst}
+use Rattle.std.proofs.lemmas.Option.{same_Some as same_signature}
 use Rattle.tsl_parser.specs.declared.tree.PreOp.{PreOp}
 use Rattle.tsl_parser.specs.Tree as e
 use Rattle.tsl_parser.specs.Tree.{Term as Expr, Arms as ExprArms, Pattern}
 use Rattle.spec_types.specs.declared.ty.Ty.{Ty}
 use Rattle.spec_types.specs.declared.ty.Ty.TheVariants.{Bool as Flag, Word}
 use Rattle.spec_types.specs.Answers.{◌then◌}
-use Rattle.spec_types.specs.Environment.{Environment, Scope, Signature}
+use Rattle.spec_types.specs.Environment.{Environment, Scope}
 use Rattle.spec_types.specs.Terms as s
 use Rattle.spec_types.specs.TermTypes.{HasType, PatternTyped}
 use Rattle.spec_types.specs.WellFormed.{IsWellFormed, is_type, is_scope}
+use Rattle.spec_types.proofs.Checks.{then_left, then_right}
 use Rattle.spec_patterns.specs.Patterns.{pattern_fault, pattern_of, variables}
-use Rattle.spec_patterns.proofs.Steps.{then_left, then_right}
 use Rattle.spec_forms.specs.Forms.{operator_term, operator_type, prefix_term, prefix_type, width_of}
 use Rattle.spec_forms.specs.Operators.{Operator, both, either, operation, comparison, operator_of, keyword_operator}
 use Rattle.spec_typing.specs.Parts.{Part, wanted, map_wanted}
@@ -20,9 +21,6 @@ use Rattle.spec_laws.specs.Typed.{types, IsTyped}
 use Rattle.spec_laws.proofs.Coring.{variables_have, variables_agree}
 use Rattle.spec_laws.proofs.Patterned.{types_append}
 use Rattle.spec_laws.proofs.Typing.{typed, some_arm, behind, enter_is}
-
-same_signature : (s r : Signature) → Some s ≡ Some r → s ≡ r
-same_signature s r h = cc
 
 module _ (env : Environment) (wf : IsWellFormed env) where
   -- ---- parts without a fault

@@ -1,16 +1,15 @@
 -- A match without a fault has an arm for each value of the type that it is on, and its decision picks the first that the value meets.
-use Rattle.std.proofs.Common.{◌≡◌, ℕ, suc, ◌+◌, ◌^◌, ◌<◌, true, ◌==◌, Option, Some, None, option_map, unwrap_or, List, [], ◌∷◌, length, map, slice_get, refl, sym, ap, ◌∙◌, arith}
+use Rattle.std.proofs.Common.{◌≡◌, ℕ, suc, ◌+◌, ◌^◌, true, ◌==◌, Option, Some, None, option_map, unwrap_or, List, [], ◌∷◌, length, map, slice_get, refl, sym, ap, ◌∙◌}
 use Rattle.std.specs.Prelude.{nat_lt, is_some}
-use Rattle.std.proofs.lemmas.Bool.{false≢true}
-use Rattle.std.proofs.lemmas.Bool.Decides.{nat_tests}
+use Rattle.std.proofs.lemmas.Bool.{false≢true, ltb-true as is_less}
 use Rattle.std.proofs.lemmas.Option.{slice_get-map}
 use Rattle.tsl_parser.specs.declared.tree.Span.{Span}
 use Rattle.tsl_match.specs.declared.shape.Shape.{Shape}
 use Rattle.tsl_match.specs.Values.{Value}
-use Rattle.tsl_match.specs.Patterns.{Pat}
+use Rattle.tsl_match.specs.Patterns.{Pattern}
 use Rattle.tsl_match.specs.Shapes.{Types, fields_of, HasShape, HaveShapes, AreTypes, IsShape}
 use Rattle.tsl_match.specs.Picks.{Choice, numbered, first_match, picks}
-use Rattle.tsl_match.specs.Decisions.{Tree}
+use Rattle.tsl_match.specs.Decisions.{Decision}
 use Rattle.tsl_match.specs.Knowledge.{unknown}
 use Rattle.tsl_match.specs.Answers as a
 use Rattle.tsl_match.specs.Answers.{Decided, MatchAnswer, decided, all_sizes, first_unnamed, with_rows, answer_by, match_answer}
@@ -31,19 +30,13 @@ use Rattle.tsl_values.specs.Values.{Val, Vals}
 use Rattle.tsl_values.specs.Types.{of_case, has_type, have_types}
 use Rattle.meaning.specs.Steps.{shown, all_shown}
 
-is_less : (x n : ℕ) → nat_lt x n ≡ true → x < n
-is_less x n h = grind (arith, nat_tests)
-
-same_number : (x n : ℕ) → (x == n) ≡ true → x ≡ n
-same_number x n h = grind (arith, nat_tests)
-
 -- ---- a decision takes each value of the shape
-suit_numbered : (types : Types) (s : Shape) (n : ℕ) (rows : List Pat) → AllSuit types s rows → RowsSuit types s (numbered n rows)
+suit_numbered : (types : Types) (s : Shape) (n : ℕ) (rows : List Pattern) → AllSuit types s rows → RowsSuit types s (numbered n rows)
 suit_numbered types s n [] h = tt
 suit_numbered types s n (p ∷ rows) h = (h.0, suit_numbered types s (n + 1) rows h.1)
 
 -- a tree, where no example and no row is the answer
-tree_in : (d : Decided) (n : ℕ) (t : Tree) → answer_by d n ≡ a.decision t → d ≡ a.tree t
+tree_in : (d : Decided) (n : ℕ) (t : Decision) → answer_by d n ≡ a.decision t → d ≡ a.tree t
 tree_in (a.fails p) n t h = absurd cc
 tree_in a.deeper n t h = absurd cc
 tree_in (a.tree u) n t h = at (first_unnamed u 0 n) h
@@ -52,7 +45,7 @@ tree_in (a.tree u) n t h = at (first_unnamed u 0 n) h
     at None k = let same : u ≡ t = cc in ap a.tree same
     at (Some r) k = absurd cc
 
-takes : (types : Types) (all : AreTypes types) (s : Shape) (shape : IsShape types s) (rows : List Pat) (t : Tree) → AllSuit types s rows → match_answer types s rows ≡ a.decision t → (x : Value) → HasShape types s x → (c : Choice) × (first_match (numbered 0 rows) x ≡ Some c) × (picks t x ≡ Some c)
+takes : (types : Types) (all : AreTypes types) (s : Shape) (shape : IsShape types s) (rows : List Pattern) (t : Decision) → AllSuit types s rows → match_answer types s rows ≡ a.decision t → (x : Value) → HasShape types s x → (c : Choice) × (first_match (numbered 0 rows) x ≡ Some c) × (picks t x ≡ Some c)
 unfolding match_answer
 takes types all s shape rows t suit h x has =
     let is = decided_tree types (suc (all_sizes rows)) (numbered 0 rows) (unknown s) t (tree_in (decided types (suc (all_sizes rows)) (numbered 0 rows) (unknown s)) (length rows) t h) in
@@ -115,7 +108,7 @@ module _ (env : Environment) where
 
   module _ (wf : IsWellFormed env) where
     -- each value of the type meets one of the rows of a match without a fault, and the decision picks the first
-    pub takes_all : (span : Span) (ty : Ty) (rows : List Pat) → is_type env ty ≡ true → AllSuit (shapes_of env) (shape_of ty) rows → match_fault env span ty rows ≡ None → (p : Val) → has_type env p ty ≡ true
+    pub takes_all : (span : Span) (ty : Ty) (rows : List Pattern) → is_type env ty ≡ true → AllSuit (shapes_of env) (shape_of ty) rows → match_fault env span ty rows ≡ None → (p : Val) → has_type env p ty ≡ true
         → (c : Choice) × (first_match (numbered 0 rows) (shown p) ≡ Some c) × (picks (tree_of (match_answer (shapes_of env) (shape_of ty) rows)) (shown p) ≡ Some c)
     takes_all span ty rows is suit h p has = at (match_answer (shapes_of env) (shape_of ty) rows) refl h
       where

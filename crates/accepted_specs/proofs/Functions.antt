@@ -1,6 +1,6 @@
 -- The functions of a checked specification: their signatures, bodies and types.
 use Rattle.std.proofs.Common.{◌≡◌, ℕ, zero, suc, ◌+◌, true, Some, None, option_map, List, [], ◌∷◌, length, map, slice_get, refl, sym, ap, ◌∙◌, subst, arith}
-use Rattle.std.proofs.lemmas.Option.{slice_get-map}
+use Rattle.std.proofs.lemmas.Option.{slice_get-map, same_Some as some_signature}
 use Rattle.tsl_parser.specs.declared.tree.FieldDecl.{FieldDecl}
 use Rattle.tsl_parser.specs.Tree as e
 use Rattle.tsl_parser.specs.Tree.{Item, Function}
@@ -9,17 +9,17 @@ use Rattle.spec_types.specs.Environment.{Environment, Signature}
 use Rattle.spec_types.specs.TermTypes.{HasType}
 use Rattle.spec_types.specs.WellFormed.{IsWellFormed, is_signature, is_scope}
 use Rattle.spec_types.specs.Specification.{Fun}
-use Rattle.spec_patterns.proofs.Steps.{then_left, then_right}
 use Rattle.spec_decls.specs.TypeNames.{TypeTable, types_of}
 use Rattle.spec_decls.specs.Declarations.{type_in, signature_declared, signatures_from, declared}
 use Rattle.spec_typing.specs.Terms.{fault_in}
 use Rattle.spec_laws.specs.Typed.{types}
 use Rattle.spec_laws.proofs.Typing.{wanted_types_are_had}
-use Rattle.spec_laws.proofs.Named.{all_at}
 use Rattle.tsl_types.specs.Functions.{functions, parameters, body_fault, body_of, core_of_body, bodies_fault, forms_of, terms_in}
 use Rattle.tsl_types.specs.Check.{IsFun, AreFunsFrom}
 use Rattle.tsl_types.proofs.Making.{signature_scope}
 use Rattle.spec_types.specs.Cores.{core_of}
+use Rattle.spec_types.proofs.Lists.{all_at}
+use Rattle.spec_types.proofs.Checks.{then_left, then_right}
 use Rattle.spec_laws.proofs.Coring.{cores_are_those}
 use Rattle.meaning_laws.specs.Total.{IsTotal}
 use Rattle.meaning_laws.proofs.Turns.{signature_of}
@@ -38,9 +38,6 @@ signatures_are table (e.function f ∷ rest) = ap (λ ss. signature_declared tab
 signatures_are table (e.datatype d ∷ rest) = signatures_are table rest
 signatures_are table (e.map_type m ∷ rest) = signatures_are table rest
 signatures_are table (e.decode d ∷ rest) = signatures_are table rest
-
-some_signature : (r s : Signature) → Some r ≡ Some s → r ≡ s
-some_signature r s h = cc
 
 pub signature_at : (table : TypeTable) (items : List Item) (k : ℕ) (f : Function) (s : Signature) → slice_get (functions items) k ≡ Some f → slice_get (signatures_from table items) k ≡ Some s → signature_declared table f ≡ s
 signature_at table items k f s h g =

@@ -20,10 +20,10 @@ use Rattle.spec_decls.specs.TypeNames.{TypeTable, types_of, type_named, type_or_
 use Rattle.spec_decls.specs.Declarations.{type_in, data_declared, declared}
 use Rattle.spec_decls.specs.Leaves.{datatypes}
 use Rattle.spec_decls.specs.MachineRules.{are_state_fields, is_named, are_instr_and_state, is_interp, interp_fault, state_fault, earlier, instr_in, state_in, interp_in, machine_by, machine_of, first_fault}
+use Rattle.spec_decls.proofs.States.{some_none, datas_are}
 use Rattle.spec_names.specs.Names.{names_fault, nothing}
 use Rattle.tsl_types.specs.Functions.{functions}
 use Rattle.meaning_laws.specs.Accepted.{is_part}
-use Rattle.accepted_specs.proofs.MapTypes.{datas_are}
 use Rattle.accepted_specs.proofs.Names.{instr_named, state_named, datatype_at, function_at}
 
 -- the datatypes and the function that a machine is made of
@@ -57,8 +57,6 @@ parts_of m (Some i) (Some s) (Some f) h =
     }
 
 -- ---- the function of instructions
-some_none : {A B : Type 0} (x : A) → Some x ≡ None → B
-some_none x h = absurd cc
 
 no_interp_place : (a b : Option Span) → earlier a b ≡ None → b ≡ None
 no_interp_place a None h = refl

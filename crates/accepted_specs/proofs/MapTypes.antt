@@ -10,10 +10,9 @@ use Rattle.tsl_parser.specs.declared.tree.Name.{Name}
 use Rattle.tsl_parser.specs.Tree as e
 use Rattle.tsl_parser.specs.Tree.{Item, Datatype, Constructor}
 use Rattle.spec_types.specs.declared.ty.Ty.TheVariants.{Bool as Flag, Word, Data as DataTy, Map as MapOf}
-use Rattle.spec_types.specs.declared.spec_error.SpecError.{SpecError}
 use Rattle.spec_types.specs.Answers.{◌then◌}
 use Rattle.spec_types.specs.WellFormed.{is_width}
-use Rattle.spec_patterns.proofs.Steps.{then_left, then_right, unless_none}
+use Rattle.spec_types.proofs.Checks.{then_left, then_right, unless_none}
 use Rattle.spec_decls.specs.declared.type_names.Meaning.{Meaning}
 use Rattle.spec_decls.specs.declared.type_names.Meaning.TheVariants.{Known, BadWidth, Unknown}
 use Rattle.spec_decls.specs.TypeNames.{TypeTable, types_of, type_named, type_or_flag}
@@ -22,17 +21,9 @@ use Rattle.spec_decls.specs.Declarations.{type_in, width_or, field_in, case_decl
 use Rattle.spec_decls.specs.Types as d
 use Rattle.spec_decls.specs.Types.{name_fault, no_fields, datatype_fault, function_fault, value_fault, default_fault, key_fault, map_fault, meant, named_fault, item_types_fault, items_types_fault, behind}
 use Rattle.spec_decls.proofs.Faultless.{meaning_fits}
+use Rattle.spec_decls.proofs.States.{datas_are}
 use Rattle.meaning_laws.specs.Accepted.{is_enumeration, is_key_type, is_map}
-
-clash : {A : Type 0} {x : SpecError} → Some x ≡ None → A
-clash h = absurd cc
-
-pub datas_are : (types : TypeTable) (rest : List Item) → datas_from types rest ≡ map (data_declared types) (datatypes rest)
-datas_are types [] = refl
-datas_are types (e.datatype x ∷ rest) = ap (λ ds. data_declared types x ∷ ds) (datas_are types rest)
-datas_are types (e.map_type m ∷ rest) = datas_are types rest
-datas_are types (e.function f ∷ rest) = datas_are types rest
-datas_are types (e.decode x ∷ rest) = datas_are types rest
+use Rattle.spec_laws.proofs.Typing.{clash}
 
 empty_cases : (types : TypeTable) (cases : List Constructor) → list_all no_fields cases ≡ true → list_all (λ c. nat_le (length c.fields) 0) (map (case_declared types) cases) ≡ true
 empty_cases types [] h = refl

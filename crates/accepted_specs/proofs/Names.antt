@@ -1,50 +1,30 @@
 -- What the names of datatypes and functions of a machine mean.
-use Rattle.std.proofs.Common.{◌≡◌, ℕ, suc, ◌+◌, Bool, true, false, not, cond, ◌||◌, bytes_eq, codes, Some, None, List, [], ◌∷◌, ◌++◌, slice_get, refl, sym, ap, ◌∙◌, subst, arith}
-use Rattle.std.proofs.lemmas.Bool.{false≢true}
+use Rattle.std.proofs.Common.{◌≡◌, ℕ, suc, ◌+◌, Bool, true, false, not, cond, bytes_eq, codes, Some, None, List, [], ◌∷◌, ◌++◌, slice_get, refl, sym, ap, ◌∙◌, subst, arith}
+use Rattle.std.proofs.lemmas.Bool.{false≢true, not-true as not_true, or_right, or_left}
 use Rattle.std.proofs.lemmas.List.Folds.{list_any-append}
-use Rattle.std.proofs.lemmas.Slice.Eq.{bytes_eq-Decides}
 use Rattle.tsl_parser.specs.declared.tree.Name.{Name}
 use Rattle.tsl_parser.specs.Tree as e
 use Rattle.tsl_parser.specs.Tree.{Item, Datatype, Function}
 use Rattle.spec_types.specs.declared.ty.Ty.TheVariants.{Data as DataTy, Map as MapOf}
 use Rattle.spec_types.specs.Answers.{◌then◌}
-use Rattle.spec_patterns.proofs.Steps.{then_left, then_right, unless_none}
+use Rattle.spec_types.proofs.Entered.{same_name as same_bytes, name_itself as itself}
+use Rattle.spec_types.proofs.Checks.{then_left, then_right, unless_none}
 use Rattle.spec_names.specs.Names.{Names, Seen, has, twice, cases_fault, item_fault, items_fault, seen_with}
 use Rattle.spec_decls.specs.declared.type_names.Meaning.TheVariants.{Known}
 use Rattle.spec_decls.specs.TypeNames.{types_from, types_of, declared_named, type_named}
 use Rattle.spec_decls.specs.Leaves.{datatypes}
 use Rattle.spec_decls.specs.MachineRules.{datatype_from, function_from}
+use Rattle.spec_decls.proofs.States.{none_some}
 use Rattle.tsl_types.specs.Functions.{functions}
 
-none_some : {A B : Type 0} (x : A) → None ≡ Some x → B
-none_some x h = absurd cc
-
-not_true : (b : Bool) → not b ≡ true → b ≡ false
-not_true true h = sym h
-not_true false h = refl
-
-or_left : (a b : Bool) → a ≡ true → (a || b) ≡ true
-or_left true b h = refl
-or_left false b h = absurd (false≢true h)
-
-or_right : (a b : Bool) → b ≡ true → (a || b) ≡ true
-or_right true b h = refl
-or_right false b h = h
-
-same_bytes : (a b : List ℕ) → bytes_eq a b ≡ true → a ≡ b
-same_bytes a b h = (bytes_eq-Decides a b).0 h
-
-itself : (a : List ℕ) → bytes_eq a a ≡ true
-itself a = (bytes_eq-Decides a a).1 refl
-
 -- ---- names of types that were declared before
-has_more : (names : Names) (x name : List ℕ) → has names name ≡ true → has (names ++ x ∷ []) name ≡ true
+pub has_more : (names : Names) (x name : List ℕ) → has names name ≡ true → has (names ++ x ∷ []) name ≡ true
 has_more names x name h = list_any-append (bytes_eq name) names (x ∷ []) ∙ or_left (has names name) (has (x ∷ []) name) h
 
-has_last : (names : Names) (name : List ℕ) → has (names ++ name ∷ []) name ≡ true
+pub has_last : (names : Names) (name : List ℕ) → has (names ++ name ∷ []) name ≡ true
 has_last names name = list_any-append (bytes_eq name) names (name ∷ []) ∙ or_right (has names name) (has (name ∷ []) name) (or_left (bytes_eq name name) false (itself name))
 
-new_name : (names : Names) (x : Name) → twice names x ≡ None → has names x.text ≡ false
+pub new_name : (names : Names) (x : Name) → twice names x ≡ None → has names x.text ≡ false
 new_name names x h = not_true (has names x.text) (unless_none (not (has names x.text)) _ h)
 
 -- no later datatype has a name that was declared before

@@ -2,8 +2,7 @@
 use Rattle.std.proofs.Common.{◌≡◌, ℕ, suc, ◌+◌, ◌&&◌, ◌==◌, Bool, true, false, cond, bytes_eq, Option, Some, None, List, [], ◌∷◌, ◌++◌, map, slice_get, refl, sym, subst, arith}
 use Rattle.std.specs.Prelude.{is_some}
 use Rattle.std.specs.List.{list_all}
-use Rattle.std.proofs.lemmas.Bool.{false≢true}
-use Rattle.std.proofs.lemmas.Bool.Decides.{nat_tests}
+use Rattle.std.proofs.lemmas.Bool.{false≢true, eqb-true as same_number}
 use Rattle.tsl_match.proofs.Truth.{and_left, and_right, both}
 use Rattle.tsl_parser.specs.declared.tree.PartDecl.{PartDecl}
 use Rattle.tsl_parser.specs.declared.tree.PartDecl.TheVariants.{Fixed, Named}
@@ -15,7 +14,7 @@ use Rattle.spec_types.specs.declared.ty.Ty.TheVariants.{Data as DataTy}
 use Rattle.spec_types.specs.Answers.{unless}
 use Rattle.spec_types.specs.Environment.{Environment, Constructor, constructor_named}
 use Rattle.spec_types.specs.Texts.{case_at, fields_at}
-use Rattle.spec_patterns.proofs.Steps.{then_left, then_right, unless_none}
+use Rattle.spec_types.proofs.Checks.{then_left, then_right, unless_none}
 use Rattle.spec_patterns.proofs.Found.{constructor_there}
 use Rattle.spec_laws.proofs.Named.{constructor_fields}
 use Rattle.spec_rows.specs.Fields.{Field, fields_from, fields_of, field_named}
@@ -24,9 +23,6 @@ use Rattle.spec_rows.specs.Rows.{Earlier, earlier_of, row_fault, rows_fault, ove
 use Rattle.spec_rows.specs.Decoded.{part_of, arg_of, case_or, number_or, decoded}
 use Rattle.meaning_laws.specs.Rows.{field_widths, is_word_of, arg_fits, args_fit, row_fits}
 use Rattle.accepted_specs.proofs.Exhaustive.{case_there}
-
-same_number : (x n : ℕ) → (x == n) ≡ true → x ≡ n
-same_number x n h = grind (arith, nat_tests)
 
 -- a field of a row has its width
 pub record FieldAt (n : ℕ) (parts : List PartDecl) (x : Field) : Type 0 where

@@ -4,20 +4,18 @@ use Rattle.std.specs.Prelude.{nat_lt}
 use Rattle.std.specs.List.{list_all}
 use Rattle.std.proofs.lemmas.Bool.Decides.{nat_tests}
 use Rattle.std.proofs.lemmas.List.{length-append}
+use Rattle.std.proofs.lemmas.Bool.{lt-ltb as less_is}
 use Rattle.tsl_match.proofs.Truth.{both}
 use Rattle.tsl_parser.specs.declared.tree.FieldDecl.{FieldDecl}
 use Rattle.tsl_parser.specs.Tree as e
 use Rattle.tsl_parser.specs.Tree.{Item, Constructor}
 use Rattle.spec_types.specs.declared.spec_error.SpecError.{SpecError}
 use Rattle.spec_types.specs.Answers.{unless}
-use Rattle.spec_patterns.proofs.Steps.{then_left, then_right, unless_none}
+use Rattle.spec_types.proofs.Checks.{then_left, then_right, unless_none}
 use Rattle.spec_names.specs.Limits.{most_constructors, most_fields}
 use Rattle.spec_names.specs.Names.{Names, Seen, fields_fault, cases_fault, item_fault, items_fault, seen_with}
 use Rattle.spec_decls.specs.Leaves.{datatypes}
 use Rattle.spec_decls.specs.Sizes.{has_few_fields, is_sized, are_sized}
-
-less_is : (m n : ℕ) → m < n → nat_lt m n ≡ true
-less_is m n h = grind (arith, nat_tests)
 
 below : (b n : ℕ) (x : SpecError) → unless (nat_lt b n) x ≡ None → b < n
 below b n x h = let k = unless_none (nat_lt b n) x h in grind (arith, nat_tests)

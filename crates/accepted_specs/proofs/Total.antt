@@ -16,10 +16,11 @@ use Rattle.spec_types.specs.Environment.{Environment, Scope, Function, Construct
 use Rattle.spec_types.specs.Terms as s
 use Rattle.spec_types.specs.Cores.{tree_of, type_in}
 use Rattle.spec_types.specs.WellFormed.{IsWellFormed, is_type, is_scope}
+use Rattle.spec_types.proofs.Checks.{then_left, then_right}
 use Rattle.spec_patterns.specs.Faults.{unknown, count_fault}
 use Rattle.spec_patterns.specs.Patterns.{pattern_fault, variables, fields_of, case_number}
-use Rattle.spec_patterns.proofs.Steps.{then_left, then_right}
 use Rattle.spec_patterns.proofs.Found.{constructor_there}
+use Rattle.spec_patterns.proofs.Suits.{lengths as counts}
 use Rattle.spec_forms.specs.Forms.{operator_term, prefix_term, width_of}
 use Rattle.spec_forms.specs.Operators.{Operator, both, either, operation, comparison, operator_of, keyword_operator, cast_of}
 use Rattle.spec_typing.specs.Parts.{Part, wanted, wanted_if, word_wanted, map_wanted, match_fault}
@@ -27,7 +28,6 @@ use Rattle.spec_typing.specs.Terms.{fault_in, type_of, term_of, terms_of, part, 
 use Rattle.spec_typing.proofs.Rows.{rows_suit}
 use Rattle.spec_laws.specs.Typed.{types, IsTyped}
 use Rattle.spec_laws.proofs.Coring.{patterns_are, agrees, let_types, arm_types}
-use Rattle.spec_laws.proofs.Patterned.{counts}
 use Rattle.spec_laws.proofs.Typing.{clash, typed, behind}
 use Rattle.meaning.specs.Steps.{shown}
 use Rattle.meaning_laws.specs.Total.{HasOneType, AreDecided, IsTotal, AreTotal, AreTotalArms}

@@ -14,16 +14,12 @@ use Rattle.spec_types.specs.Environment.{Case, Data, Environment, field_types, s
 use Rattle.spec_types.specs.Specification.{Spec}
 use Rattle.spec_types.specs.Texts.{cases_of, fields_at}
 use Rattle.spec_types.specs.WellFormed.{is_type, is_width}
+use Rattle.spec_types.proofs.Lists.{all_at as item, map_size as map_length}
 use Rattle.tsl_values.specs.Types.{environment_of, key_count}
 use Rattle.meaning_laws.specs.Accepted.{IsAccepted, IsMachine, IsMachineIfAny, is_key_type, is_map, is_part}
 use Rattle.value_types.specs.Laws.{are_keyed}
 use Rattle.domain_laws.specs.States.{behind, field_of, fields_of, has_states, is_field, is_state_data, map_field, number_in, state_cases, state_type, types_in}
 use Rattle.accepted_states.specs.Laws.{AcceptedAreKeyed, AcceptedHaveStates}
-
-item : {A : Type 0} (P : A → Bool) (xs : List A) (i : ℕ) (x : A) → list_all P xs ≡ true → slice_get xs i ≡ Some x → P x ≡ true
-item P [] i x h e = cc
-item P (y ∷ ys) zero x h e = let same : y ≡ x = cc in subst (λ z. P z ≡ true) same (and_parts (P y) (list_all P ys) h).0
-item P (y ∷ ys) (suc i) x h e = item P ys i x (and_parts (P y) (list_all P ys) h).1 e
 
 none_within : {A : Type 0} (xs : List A) (i : ℕ) → i < length xs → slice_get xs i ≡ None → ⊥
 none_within [] i h e = absurd (omega (arith, h))
@@ -73,9 +69,6 @@ module _ (spec : Spec) (m : Machine) (a : IsAccepted spec) (k : IsMachine spec m
       (rw cases_are (rw k.counter refl)) (rw types_are (parts_are_fields (environment_of spec) a.maps keyed k.parts k.words_or_maps typed))
 
 -- ---- keys
-map_length : {A D : Type 0} (f : A → D) (xs : List A) → length (map f xs) ≡ length xs
-map_length f [] = refl
-map_length f (x ∷ xs) = ap (λ n. suc n) (map_length f xs)
 
 module _ (env : Environment) (types : AreTypes (shapes_of env)) where
   same_count : (o : Option Data) → length (unwrap_or (option_map (λ d. map (λ c. map shape_of (field_types c)) d.cases) o) []) ≡ length (cases_of o)

@@ -2,7 +2,7 @@ pub mod Compare
 pub mod Exact
 pub mod Forms
 pub mod Join
-pub mod Laws
+pub mod Instance
 pub mod Linear
 pub mod Meaning
 pub mod Members

@@ -22,7 +22,7 @@ impl Base for Affine {
     ghost use Rattle.base_trait.specs.Laws.{IsExtension};
     ghost use Rattle.base_trait.specs.NoNotes.{no_notes};
     ghost use Rattle.base_trait.specs.Notes.{own_calls};
-    ghost use Rattle.affine_base.specs.Laws.{affine_laws};
+    ghost use Rattle.affine_base.specs.Instance.{affine_laws};
     ghost use Rattle.affine_base.specs.Meaning.{affine};
     ghost use Rattle.affine_base.specs.Same.{same_word_is};
 
@@ -38,16 +38,18 @@ impl Base for Affine {
 
     ghost algebra = { affine };
 
-    /// The constant.
+    /// The constant, which is best: 5 stands for 5 in each world.
     fn constant(_alloc: Global, _ctx: &Tracked, _w: u32, v: u64) -> Result<Word, NoMemory> {
         Ok(Word::Const(v))
     }
 
+    /// Every number of the width in each world: at 8 bits 0 to 255.
     fn any(_alloc: Global, _ctx: &Tracked, _w: u32) -> Result<Word, NoMemory> {
         Ok(Word::Any)
     }
 
-    /// The constant, where `low` is `high`, else any.
+    /// The constant where `low` is `high`, else any: 5 to 5 is 5, and 5 to 6 is any. Best, as each other word
+    /// stands for one number.
     fn range(
         _alloc: Global,
         _ctx: &Tracked,
@@ -58,13 +60,15 @@ impl Base for Affine {
         Ok(range(low, high))
     }
 
-    /// Of a constant the exact result, and of a form a form. Of 1 + r, Neg is -1 - r and Not is -2 - r.
+    /// Of a constant the exact result, of a form a form and of any, any. Of 1 + r, Neg is -1 - r and Not is -2 - r.
+    /// Best.
     fn op1(alloc: Global, _ctx: &Tracked, op: Op1, w: u32, x: &Word) -> Result<Word, NoMemory> {
         of_one(alloc, op, w, x)
     }
 
-    /// Of two constants the exact result. A form comes from the sum and the difference of forms and constants, the
-    /// product with a constant and the shift to the left by a constant; every other operation gives any.
+    /// Of two constants the exact result. Of forms and constants sums, differences, products with a constant and
+    /// shifts to the left by a constant are exact. 1 + r and 2 - r add up to 3. Every other operation gives any,
+    /// not always the best: (1 + r) & 0 is any, though 0 in each world.
     fn op2(
         alloc: Global,
         _ctx: &Tracked,
@@ -76,13 +80,14 @@ impl Base for Affine {
         of_two(alloc, op, w, x, y)
     }
 
-    /// Of two constants the exact truth value. Forms with the same multiples are equal or not; of equal ones each
-    /// comparison is known. Others may be both.
+    /// Of two constants the exact truth value. Forms with the same multiples are equal or not: 1 + r is never
+    /// 3 + r. Of equal ones each comparison is known. Others may be both, which is not always exact: 2r is never 1.
     fn cmp(_ctx: &Tracked, c: Cmp, w: u32, x: &Word, y: &Word) -> Tri {
         compare(c, w, x, y)
     }
 
-    /// The same number; of a form any, also from 32 to 32 bits.
+    /// The same number, which is best: from 4 to 8 bits, 8 stays 8. Of a form it is any, also from 32 to 32 bits,
+    /// where the form itself would be the best.
     fn zext(
         _alloc: Global,
         _ctx: &Tracked,
@@ -93,7 +98,8 @@ impl Base for Affine {
         Ok(zext(from, to, x))
     }
 
-    /// The number of the same signed reading; of a form any.
+    /// The number of the same signed reading, which is best: from 4 to 8 bits, 8 becomes 248. Of a form it is any,
+    /// also from 32 to 32 bits, where the form itself would be the best.
     fn sext(
         _alloc: Global,
         _ctx: &Tracked,
@@ -104,7 +110,8 @@ impl Base for Affine {
         Ok(sext(from, to, x))
     }
 
-    /// The lowest bits of the number; of a form any.
+    /// The lowest bits of the number, which is best: from 8 to 4 bits, 17 becomes 1. Of a form it is any, and not
+    /// always the best: those of 5 + 256r to 8 bits are 5 in each world.
     fn trunc(
         _alloc: Global,
         _ctx: &Tracked,
@@ -115,12 +122,13 @@ impl Base for Affine {
         Ok(trunc(from, to, x))
     }
 
-    /// Equal words are kept; the join of others is any.
+    /// Equal words are kept, as 5 + r with 5 + r. The join of others is any, as of 5 + r and 7 + r. Best, as each
+    /// other word stands for one number in a world.
     fn join(alloc: Global, _ctx: &Tracked, _w: u32, x: &Word, y: &Word) -> Result<Word, NoMemory> {
         join(alloc, x, y)
     }
 
-    /// The join.
+    /// The join, so best: 5 with 5 is 5, and 5 with 7 is any.
     fn widen(
         alloc: Global,
         _ctx: &Tracked,
@@ -131,22 +139,30 @@ impl Base for Affine {
         join(alloc, old, new)
     }
 
+    /// Whether the old word is any, or equal to the new one. Any absorbs 5 + r, and 5 + r absorbs itself, but
+    /// neither 7 + r nor 5. Exact, as words that are not equal differ in some world.
     fn absorbs(_ctx: &Tracked, _w: u32, old: &Word, new: &Word) -> bool {
         absorbs(old, new)
     }
 
+    /// 0 for any, else 1: a word, as 5 + r, is widened once at most.
     fn rank(_ctx: &Tracked, _w: u32, x: &Word) -> u64 {
         rank(x)
     }
 
+    /// The number of a constant: of 5 it is 5. Of 5 + r there is none, as its number changes with r.
     fn exact(_ctx: &Tracked, _w: u32, x: &Word) -> Option<u64> {
         exact(x)
     }
 
+    /// A constant may be its number alone; every other word may be each. Of forms that is not exact: 2r may be 3,
+    /// though it never is.
     fn may(_ctx: &Tracked, _w: u32, x: &Word, k: u64) -> bool {
         may(x, k)
     }
 
+    /// The number of a constant: of 5 it is 5. Of any it is all of the width, 0, 1, 2, 3 at 2 bits and the limit 4.
+    /// A form has 32 bits, so no list.
     fn members(
         alloc: Global,
         _ctx: &Tracked,
@@ -157,6 +173,7 @@ impl Base for Affine {
         members(alloc, w, x, limit)
     }
 
+    /// The same word once more: of 5 + r it is 5 + r.
     fn copy(alloc: Global, _ctx: &Tracked, x: &Word) -> Result<Word, NoMemory> {
         x.copy(alloc)
     }

@@ -23,7 +23,7 @@
 //! than 1: over each vector the value of a sum is the sum of the values.
 //!
 //! *Files.* Operations by their kinds are in operations.rt, each on forms in a file of its own, with specs/Operations;
-//! sums and multiples of lists of numbers in forms.rt, with specs/Forms. specs/Laws proves the laws of `Base`.
+//! sums and multiples of lists of numbers in forms.rt, with specs/Forms. specs/Instance proves the laws of `Base`.
 #![tactic(auto)]
 
 mod add;

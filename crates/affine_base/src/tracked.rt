@@ -26,6 +26,7 @@ impl Model for Tracked {
 }
 
 impl Context for Tracked {
+    /// The same cells once more, in their order: of r and s it is r and s.
     fn copy(alloc: Global, ctx: &Tracked) -> Result<Tracked, NoMemory> {
         let mut cells = Vec::new(alloc);
         for cell in &ctx.cells {

@@ -6,7 +6,6 @@ use Rattle.base_trait.specs.Lists.{Each}
 use Rattle.base_trait.proofs.Lists.{number_told}
 use Rattle.base_trait.proofs.Tests.{and_parts, at_choice}
 use Rattle.tsl_values.specs.declared.entry.KeyAt.{KeyAt}
-use Rattle.tsl_values.specs.declared.entry.KeyAt.TheVariants.{Whole, Rest, At}
 use Rattle.tsl_values.specs.States.{State}
 use Rattle.meaning.specs.Entries.{is_key}
 use Rattle.affine_rows.specs.Submodule.{IsMember}
@@ -18,6 +17,7 @@ use Rattle.affine_laws.specs.Opened.{opened_cell}
 use Rattle.affine_laws.specs.Tracked.{number_at, world_of}
 use Rattle.affine_laws.proofs.Opened.{opens_same, opens_soundly, opens_to_words}
 use Rattle.affine_calls.specs.Opened.{is_cell, opened_words, tracked_word}
+use Rattle.cell_laws.proofs.Lines.{key_told}
 
 -- ---- the words, one after the other
 module _ (k : ℕ) (rows : List (List ℕ)) where
@@ -64,11 +64,6 @@ module _ (k : ℕ) (rows : List (List ℕ)) where
         start j = omega arith
 
 -- ---- the word that is found at a cell
-key_told : (j k : KeyAt) → IsTrue (is_key j k) → j ≡ k
-key_told Whole Whole h = refl
-key_told Rest Rest h = refl
-key_told (At j) (At k) h = ap (λ i. At i) (number_told j k h)
-key_told _ _ h = cc
 
 pub cell_told : (c : ℕ × KeyAt) (n : ℕ) (key : KeyAt) → IsTrue (is_cell c n key) → ◌≡◌ {A = ℕ × KeyAt} c (n, key)
 cell_told c n key h =

@@ -16,7 +16,7 @@ use Rattle.affine_base.specs.Meaning.{affine}
 use Rattle.affine_base.specs.declared.word.Word.{Word}
 use Rattle.affine_calls.specs.Calls.{affine_calls, cell_count, is_for}
 use Rattle.affine_calls.specs.Tracked.{tracked_cells}
-use Rattle.affine_domain.specs.Laws.{has_the_laws}
+use Rattle.affine_domain.specs.Instance.{has_the_laws}
 use Rattle.abs_value.specs.View.{abs, case_of}
 use Rattle.abs_value.specs.declared.value.AV.{AV, Data}
 use Rattle.abs_value.proofs.Views.{abs_Data}

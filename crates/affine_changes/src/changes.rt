@@ -14,7 +14,6 @@ ghost use Rattle.abs_value.specs.View.{abs};
 ghost use Rattle.affine_changes.specs.Settings.{IsSetting};
 
 use crate::forms::are_of;
-use crate::read::{Read, Unread};
 use crate::setting::Setting;
 use crate::words::{place, word_in};
 use abs_map::{AMap, KeySet};
@@ -22,6 +21,7 @@ use abs_value::{AV, one_case};
 use affine_base::{Affine, Tracked, Word};
 use affine_rows::Rows;
 use base_trait::Base;
+use case_lines::{Read, Unread};
 use domain_laws::Field;
 use domain_trait::Domain;
 use spec_types::Spec;

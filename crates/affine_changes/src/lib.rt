@@ -13,12 +13,10 @@
 
 mod changes;
 mod forms;
-mod read;
 mod setting;
 mod text;
 mod words;
 
 pub use changes::changed_state;
-pub use read::{Read, Unread, both, given};
 pub use setting::Setting;
 pub use text::{push_state, push_tracked};

@@ -6,11 +6,11 @@ ghost use Rattle.value_laws.specs.Fits.{Fits};
 ghost use Rattle.affine_base.specs.Meaning.{affine};
 ghost use Rattle.abs_value.specs.View.{abs};
 
-use crate::read::{Read, Unread, both, given};
 use abs_map::KeySet;
 use abs_value::AV;
 use affine_base::{Affine, Tracked, Word};
 use base_trait::Base;
+use case_lines::{Read, Unread, both, given};
 use std::alloc::Global;
 use tsl_values::KeyAt;
 use word_ops::Op2;

@@ -3,7 +3,7 @@ use Rattle.std.proofs.Common.{◌≡◌, ℕ, suc, ◌+◌, ◌-◌, ◌<◌, �
 use Rattle.std.specs.Prelude.{◌==◌, ◌&&◌, nat_le}
 use Rattle.std.specs.List.{range_with_len}
 use Rattle.std.proofs.lemmas.Bool.{le-leb}
-use Rattle.std.proofs.lemmas.List.{map-append, map-id, length-map}
+use Rattle.std.proofs.lemmas.List.{map-append, map-id, length-map, drop_more as drop_at}
 use Rattle.std.proofs.lemmas.List.FromFn.{length-range_with_len, map-range_with_len_more}
 use Rattle.tsl_values.specs.declared.entry.KeyAt.{KeyAt}
 use Rattle.tsl_values.specs.declared.entry.KeyAt.TheVariants.{At}
@@ -13,7 +13,6 @@ use Rattle.value_laws.specs.Abs.{Abs, Parts, part, parts_onto}
 use Rattle.affine_base.specs.declared.word.Word.{Word}
 use Rattle.affine_base.specs.declared.word.Word.TheVariants.{Any}
 use Rattle.abs_value.proofs.Merging.{parts_onto_more}
-use Rattle.state_domain.proofs.Lists.{drop_at}
 use Rattle.affine_calls.specs.Opened.{is_cell, listed_cell, opened_cells, opened_value, opened_values, tracked_word}
 use Rattle.map_laws.specs.declared.cell.Cell.{Cell}
 use Rattle.affine_calls.specs.Tracked as calls

@@ -68,7 +68,7 @@ impl AffineDomain {
 impl Domain for AffineDomain {
     ghost use Rattle.affine_rows.specs.Submodule.{Submodule};
     ghost use Rattle.affine_calls.specs.Calls.{affine_calls, affine_elements, is_for};
-    ghost use Rattle.affine_domain.specs.Laws.{has_the_laws};
+    ghost use Rattle.affine_domain.specs.Instance.{has_the_laws};
 
     type B = Affine;
 

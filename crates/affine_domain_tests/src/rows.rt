@@ -2,8 +2,8 @@
 
 ghost use Rattle.std.specs.Prelude.{◌≡◌, ◌+◌, ◌≤◌, IfOk, length};
 
-use affine_changes::{Read, Unread};
 use affine_rows::Rows;
+use case_lines::{Read, Unread};
 use std::alloc::Global;
 
 /// The number of a text in hex.

@@ -13,9 +13,10 @@ ghost use Rattle.affine_changes.specs.Settings.{IsSetting};
 use crate::elements::{operand, operands, with_changes};
 use abs_value::AV;
 use affine_base::Affine;
-use affine_changes::{Read, Setting, Unread, given};
+use affine_changes::Setting;
 use affine_domain::AffineDomain;
 use affine_rows::Rows;
+use case_lines::{Read, Unread, given};
 use domain_trait::Domain;
 use std::alloc::{AllocError as NoMemory, Global};
 

@@ -1,15 +1,12 @@
 -- Tracked cells are few, and worlds have a number for each.
-use Rattle.std.proofs.Common.{◌≡◌, ℕ, ◌+◌, ◌≤◌, true, List, [], ◌∷◌, ◌++◌, length, map, refl, arith, length-append}
+use Rattle.std.proofs.Common.{◌≡◌, ℕ, ◌+◌, ◌≤◌, true, List, [], ◌∷◌, ◌++◌, length, map, arith, length-append}
 use Rattle.std.specs.Prelude.{nat_le}
 use Rattle.std.proofs.lemmas.Bool.Decides.{nat_tests}
 use Rattle.base_trait.proofs.Tests.{at_choice}
 use Rattle.tsl_values.specs.declared.entry.KeyAt.{KeyAt}
 use Rattle.affine_laws.specs.Laws.{FewAreTracked, WorldsAreWhole}
 use Rattle.affine_laws.specs.Tracked.{number_at, tracked_with}
-
-map_size : {A B : Type 0} (f : A → B) (xs : List A) → length (map f xs) ≡ length xs
-map_size f [] = refl
-map_size f (x ∷ xs) = let rest = map_size f xs in omega (arith, rest)
+use Rattle.spec_types.proofs.Lists.{map_size}
 
 few : (cells : List (ℕ × KeyAt)) (n : ℕ) (fields : List (List KeyAt)) → length cells ≤ 64 → length (tracked_with cells n fields) ≤ 64
 few cells n [] h = h

@@ -1,32 +1,30 @@
 //! Affine forms as text.
 
-ghost use Rattle.std.specs.Prelude.{IfSome, length};
+ghost use Rattle.std.specs.Prelude.{IfOk, length};
 ghost use Rattle.affine_base.specs.Words.{Fits};
 
 use affine_base::{Affine, Tracked, Word};
 use affine_rows::Form;
-use case_lines::{Notation, is_word, number};
+use case_lines::{Notation, Read, Unread, is_word, number};
 use std::alloc::{AllocError, Global};
 
 /// A constant is written with its sign, `=5`, and a form by its numbers, the constant first: `5:1:ffffffff` is 5 + r - s.
-/// They are in hex. A form has its memory where the tracked cells have theirs; where that runs out there is no word.
+/// They are in hex.
 pub(crate) struct Forms;
 
 impl Notation for Forms {
     type Of = Affine;
 
-    fn word(ctx: &Tracked, w: u32, text: &str) -> Option<Word> {
+    fn word(alloc: Global, ctx: &Tracked, w: u32, text: &str) -> Read<Word> {
         if text == "any" {
-            return Some(Word::Any);
+            return Ok(Word::Any);
         }
         if text.contains(':') {
-            return form(ctx, w, text);
+            return form(alloc, ctx, w, text);
         }
-        let n = number(text.strip_prefix('=')?)?;
-        if is_word(w, n) {
-            Some(Word::Const(n))
-        } else {
-            None
+        match text.strip_prefix('=').and_then(|n| number(n)) {
+            Some(n) if is_word(w, n) => Ok(Word::Const(n)),
+            _ => Err(Unread::No),
         }
     }
 
@@ -39,18 +37,20 @@ impl Notation for Forms {
     }
 }
 
-fn form(ctx: &Tracked, w: u32, text: &str) -> Option<Word>
-    ensures { IfSome result (λ x. Fits (length ctx.now) w x) }
+fn form(alloc: Global, ctx: &Tracked, w: u32, text: &str) -> Read<Word>
+    ensures { IfOk result (λ x. Fits (length ctx.now) w x) }
 {
-    let mut c = Vec::new(*ctx.cells.allocator());
+    let mut c = Vec::new(alloc);
     for part in text.split(':') {
-        let number = u32::from_str_radix(part, 16).ok()?;
-        c.push(number).ok()?;
+        let Ok(number) = u32::from_str_radix(part, 16) else {
+            return Err(Unread::No);
+        };
+        c.push(number)?;
     }
     if w == 32 && c.len() == ctx.cells.len() + 1 {
-        Some(Word::of_form(Form { c }))
+        Ok(Word::of_form(Form { c }))
     } else {
-        None
+        Err(Unread::No)
     }
 }
 

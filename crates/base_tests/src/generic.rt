@@ -6,11 +6,12 @@ ghost use Rattle.word_ops.specs.declared.kinds.Op2.TheVariants.{Add};
 ghost use Rattle.word_ops.specs.Width.{IsWidth};
 
 use base_trait::Base;
+use case_lines::{Notation, Read, Unread, both, given, parts, width};
 use std::alloc::{AllocError as NoMemory, Global};
 use word_ops::Op2;
 
 /// The sum of a word with the join of two others describes each sum.
-pub(crate) fn sum_with_either<B: Base>(
+fn sum_with_either<B: Base>(
     alloc: Global,
     ctx: &B::Ctx,
     w: u32,
@@ -31,4 +32,63 @@ pub(crate) fn sum_with_either<B: Base>(
     let either = B::join(alloc, ctx, w, y, z)?;
     let sum = B::op2(alloc, ctx, Op2::Add, w, x, &either)?;
     Ok(sum)
+}
+
+/// The text of the sum of a word with the join of two others.
+fn sum_text<N: Notation>(
+    alloc: Global,
+    ctx: &<N::Of as Base>::Ctx,
+    w: u32,
+    x: &<N::Of as Base>::Word,
+    y: &<N::Of as Base>::Word,
+    z: &<N::Of as Base>::Word,
+) -> Result<String, NoMemory>
+    requires width { IsWidth w }
+    requires joins { IsTrue N.Of.algebra.joins }
+    requires first { N.Of.algebra.words.fits ctx.now w x.now }
+    requires second { N.Of.algebra.words.fits ctx.now w y.now }
+    requires third { N.Of.algebra.words.fits ctx.now w z.now }
+{
+    N::text(alloc, w, &sum_with_either::<N::Of>(alloc, ctx, w, x, y, z)?)
+}
+
+/// The two words of a text.
+fn two_words<N: Notation>(
+    alloc: Global,
+    ctx: &<N::Of as Base>::Ctx,
+    w: u32,
+    text: &str,
+) -> Read<(<N::Of as Base>::Word, <N::Of as Base>::Word)>
+    requires { IsWidth w }
+    ensures first { IfOk result (λ x. N.Of.algebra.words.fits ctx.now w x.0) }
+    ensures second { IfOk result (λ x. N.Of.algebra.words.fits ctx.now w x.1) }
+{
+    let (first, second) = parts(text);
+    both(
+        N::word(alloc, ctx, w, first)?,
+        N::word(alloc, ctx, w, second),
+    )
+}
+
+/// What the sum of a word with the join of two others gives, if the case is one.
+pub(crate) fn sum_of_words<N: Notation>(
+    alloc: Global,
+    ctx: &<N::Of as Base>::Ctx,
+    case: &str,
+) -> Read<String>
+    requires { IsTrue N.Of.algebra.joins }
+{
+    let (name, rest) = parts(case);
+    let (bits, rest) = parts(rest);
+    let (first, rest) = parts(rest);
+    match (name, width(bits)) {
+        ("SumWithEither", Some(w)) => {
+            let x = N::word(alloc, ctx, w, first)?;
+            match both(x, two_words::<N>(alloc, ctx, w, rest)) {
+                Ok((x, yz)) => given(sum_text::<N>(alloc, ctx, w, &x, &yz.0, &yz.1)),
+                Err(error) => Err(error),
+            }
+        }
+        _ => Err(Unread::No),
+    }
 }

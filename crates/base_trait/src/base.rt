@@ -20,8 +20,9 @@ use word_ops::{Cmp, Op1, Op2};
 
 /// Abstract words of 1 to 64 bits, and notes of where a cell's value came from.
 ///
-/// `algebra` has the value of each call as a function, and what words and notes stand for; `laws` are
-/// what every user may rest on. Widths are in bits. A word that is lent with a width fits it.
+/// `algebra` has the value of each call as a function, and what words and notes stand for; `laws` are what every
+/// user may rest on. Widths are in bits. A word that is lent with a width fits it. Whether a result is the best,
+/// which is the least word that describes all results, each base says at its methods.
 pub trait Base {
     type Word: Eq + Hash + Debug + Drop;
 
@@ -37,14 +38,15 @@ pub trait Base {
 
     ghost algebra: { Algebra Self.Word Self.Note Self.Ctx };
 
-    /// The word of one number; it describes that number.
+    /// A word that describes the number, and maybe others. 5 is the interval 5 to 5; where sets have at most 0
+    /// numbers it is any.
     fn constant(alloc: Global, ctx: &Self::Ctx, w: u32, v: u64) -> Result<Self::Word, NoMemory>
         requires width { IsWidth w }
         requires number { v < 2 ^ w }
         ensures value { IfOk result (λ r. r ≡ algebra.words.constant ctx.now w v) }
         ensures fits { IfOk result (λ r. algebra.words.fits ctx.now w r) };
 
-    /// The word of every number of the width; of a base that does not join, 0.
+    /// The word of every number of the width: at 8 bits the interval 0 to 255. Of a base that does not join, 0.
     fn any(alloc: Global, ctx: &Self::Ctx, w: u32) -> Result<Self::Word, NoMemory>
         requires width { IsWidth w }
         ensures value { IfOk result (λ r. r ≡ algebra.words.any ctx.now w) }
@@ -103,7 +105,8 @@ pub trait Base {
         requires right { algebra.words.fits ctx.now w y.now }
         ensures value { result ≡ algebra.words.cmp ctx.now c w x.now y.now };
 
-    /// Zero extension: it describes each described number at the greater width.
+    /// Zero extension: it describes each described number at the greater width, and maybe others. From 4 to 8 bits,
+    /// a word that describes 8 becomes one that describes 8.
     fn zext(
         alloc: Global,
         ctx: &Self::Ctx,
@@ -116,7 +119,8 @@ pub trait Base {
         ensures value { IfOk result (λ r. r ≡ algebra.words.zext ctx.now from to x.now) }
         ensures fits { IfOk result (λ r. algebra.words.fits ctx.now to r) };
 
-    /// Sign extension: from 4 to 8 bits, a word that describes 8 becomes one that describes 248.
+    /// Sign extension: it describes the extension of each described number, and maybe others. From 4 to 8 bits, a
+    /// word that describes 8 becomes one that describes 248.
     fn sext(
         alloc: Global,
         ctx: &Self::Ctx,
@@ -129,7 +133,8 @@ pub trait Base {
         ensures value { IfOk result (λ r. r ≡ algebra.words.sext ctx.now from to x.now) }
         ensures fits { IfOk result (λ r. algebra.words.fits ctx.now to r) };
 
-    /// Truncation to the lowest bits: from 8 to 4 bits, a word that describes 17 becomes one that describes 1.
+    /// Truncation to the lowest bits: it describes those of each described number, and maybe others. From
+    /// 8 to 4 bits, a word that describes 17 becomes one that describes 1.
     fn trunc(
         alloc: Global,
         ctx: &Self::Ctx,
@@ -173,26 +178,31 @@ pub trait Base {
         ensures value { IfOk result (λ r. r ≡ algebra.words.widen ctx.now w old.now new.now) }
         ensures fits { IfOk result (λ r. algebra.words.fits ctx.now w r) };
 
-    /// Whether `old` describes all that `new` does, as far as the base can tell: if so it surely does.
+    /// Whether `old` describes all that `new` does, as far as the base can tell: if so it surely does. The interval
+    /// 1 to 6 absorbs 2 to 3. Of 1 bit the set `{0, 1}` does not absorb any, though it has as many numbers.
     fn absorbs(ctx: &Self::Ctx, w: u32, old: &Self::Word, new: &Self::Word) -> bool
         requires width { IsWidth w }
         requires left { algebra.words.fits ctx.now w old.now }
         requires right { algebra.words.fits ctx.now w new.now }
         ensures value { result ≡ algebra.words.absorbs ctx.now w old.now new.now };
 
-    /// What falls where a word is widened and changes; 2^64 - 1 where it is more than that.
+    /// What falls where a word is widened and changes; 2^64 - 1 where it is more than that. Of an interval it is
+    /// how many ends can still be passed. At 8 bits that is 2 of 3 to 5, 1 of 3 to 255 and 0 of 0 to 255.
     fn rank(ctx: &Self::Ctx, w: u32, x: &Self::Word) -> u64
         requires width { IsWidth w }
         requires word { algebra.words.fits ctx.now w x.now }
         ensures value { result ≡ min (algebra.words.rank ctx.now w x.now) (2 ^ 64 - 1) };
 
-    /// The number of a word that describes no other, as far as the base can tell.
+    /// The number of a word that describes no other, as far as the base can tell. It is 5 of the interval 5 to 5,
+    /// and none of 5 to 6. A pair of the set `{1, 9}` and the interval 0 to 5 gives none, though it describes 1
+    /// alone.
     fn exact(ctx: &Self::Ctx, w: u32, x: &Self::Word) -> Option<u64>
         requires width { IsWidth w }
         requires word { algebra.words.fits ctx.now w x.now }
         ensures value { result ≡ algebra.words.exact ctx.now w x.now };
 
-    /// Whether the word may be `k`: true of each number that it describes, and maybe of others.
+    /// Whether the word may be `k`: true of each number that it describes, and maybe of others. The interval 3 to 5
+    /// may be 4, and not 6.
     fn may(ctx: &Self::Ctx, w: u32, x: &Self::Word, k: u64) -> bool
         requires width { IsWidth w }
         requires word { algebra.words.fits ctx.now w x.now }
@@ -211,25 +221,26 @@ pub trait Base {
         requires word { algebra.words.fits ctx.now w x.now }
         ensures value { IfOk result (λ r. items_of r ≡ algebra.words.members ctx.now w x.now limit) };
 
-    /// The same word once more.
+    /// The same word once more: of the interval 3 to 5 it is 3 to 5.
     fn copy(alloc: Global, ctx: &Self::Ctx, x: &Self::Word) -> Result<Self::Word, NoMemory>
         ensures value { IfOk result (λ r. r ≡ x.now) };
 
-    /// The note of a cell that no instruction has written.
+    /// The note of a cell that no instruction has written: as a set of stamps, the entry alone.
     final fn entry_note(alloc: Global) -> Result<Self::Note, NoMemory>
         ensures value { IfOk result (λ r. r ≡ algebra.notes.entry) }
     {
         Self::Note::entry(alloc)
     }
 
-    /// The note of a cell that the instruction at `at` has written.
+    /// The note of a cell that the instruction at `at` has written: at 1000, as a set of stamps, 1000 alone.
     final fn stamp_note(alloc: Global, at: u32) -> Result<Self::Note, NoMemory>
         ensures value { IfOk result (λ r. r ≡ algebra.notes.at at) }
     {
         Self::Note::stamp(alloc, at)
     }
 
-    /// A note of the stamps of both.
+    /// A note of the stamps of both, and the least that is so as far as `absorbs_note` can tell. As sets, those of
+    /// the entry and of 1000 join to `entry,1000`.
     final fn join_note(
         alloc: Global,
         x: &Self::Note,
@@ -240,7 +251,8 @@ pub trait Base {
         Self::Note::join(alloc, x, y)
     }
 
-    /// A note of the stamps of both, such that no chain of widenings grows for ever.
+    /// A note of the stamps of both, such that no chain of widenings grows for ever. It is the old note where that
+    /// absorbs the new one. As sets, `entry` with 1000 gives `entry,1000`, and that with 1000 once more stays.
     final fn widen_note(
         alloc: Global,
         old: &Self::Note,
@@ -251,22 +263,23 @@ pub trait Base {
         Self::Note::widen(alloc, old, new)
     }
 
-    /// Whether `old` takes in all stamps of `new`.
+    /// Whether `old` takes in all stamps of `new`, as far as the base can tell: if so it surely does. As sets,
+    /// `entry,1000` absorbs 1000, and not 1004.
     final fn absorbs_note(old: &Self::Note, new: &Self::Note) -> bool
         ensures value { result ≡ algebra.notes.absorbs old.now new.now }
     {
         Self::Note::absorbs(old, new)
     }
 
-    /// The same note once more.
+    /// The same note once more: of the set `entry,1000` it is `entry,1000`.
     final fn copy_note(alloc: Global, x: &Self::Note) -> Result<Self::Note, NoMemory>
         ensures value { IfOk result (λ r. r ≡ x.now) }
     {
         Self::Note::copy(alloc, x)
     }
 
-    /// Adds a read of a map at a key, or at any key, to the log. Where memory runs out a front of it
-    /// may have been added.
+    /// Adds a read of a map at a key, or at any key, to the log. Where memory runs out a front of it may have been
+    /// added. As sets, a read of map 2 at key 7 with `entry,1000` adds the use of map 2 at 7 from these two.
     final fn on_read(
         alloc: Global,
         log: &mut Log,
@@ -280,7 +293,7 @@ pub trait Base {
         Self::Note::on_read(alloc, log, map, key, note)
     }
 
-    /// The same context once more.
+    /// The same context once more: of affine forms over two tracked cells, the list of these two.
     final fn copy_ctx(alloc: Global, ctx: &Self::Ctx) -> Result<Self::Ctx, NoMemory>
         ensures value { IfOk result (λ r. r ≡ ctx.now) }
     {

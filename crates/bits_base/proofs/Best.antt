@@ -26,7 +26,7 @@ use Rattle.bits_base.specs.Moved.{moved}
 use Rattle.bits_base.specs.Moves.{Moves, moved_fits, moved_sound, shl_moves, shr_u_moves, shr_s_moves, rot_l_moves, zext_moves, sext_moves, trunc_moves}
 use Rattle.bits_base.specs.Join.{join_of, absorbs_known}
 use Rattle.bits_base.specs.Meaning.{op1_known, op2_known, by_rule}
-use Rattle.bits_base.specs.Laws.{op1_sound, op2_fits, op2_sound}
+use Rattle.bits_base.specs.Instance.{op1_sound, op2_fits, op2_sound}
 use Rattle.bits_base.specs.Best.{IsBest, IsImage, IsProduct, IsOfEither, BestBitByBit, BestShifts, BestCasts, BestJoins, ExactResults}
 
 -- two numbers that P holds of differ in bit i

@@ -8,7 +8,7 @@ pub mod Describing
 pub mod Ends
 pub mod Join
 pub mod Known
-pub mod Laws
+pub mod Instance
 pub mod Listing
 pub mod Logic
 pub mod Meaning

@@ -8,7 +8,7 @@ use Rattle.std.proofs.lemmas.List.{length-append, length-map}
 use Rattle.std.proofs.lemmas.Nat.{and_le_l, or_disjoint, or_lt}
 use Rattle.std.proofs.lemmas.Nat.Bits.{bit_at-lt, bit_at-zero, bit_at_and, bit_at_or, bit_at_above, bit_at_cat_low, same_from_bits_below}
 use Rattle.base_trait.specs.Lists.{IsAmong, IsAscendingFrom, IsAscending, Each}
-use Rattle.base_trait.proofs.Lists.{among_left, among_right, among_either, among_map, map_among, number_itself, number_told, each_from}
+use Rattle.base_trait.proofs.Lists.{among_left, among_right, among_either, among_map, map_among, number_itself, number_told, each_from, ascending_lower}
 use Rattle.base_trait.proofs.Tests.{at_choice}
 use Rattle.bits_base.specs.declared.known.Known.{Known}
 use Rattle.bits_base.specs.Known.{without, Describes, Fits}
@@ -36,10 +36,6 @@ ascends_after low k [] h = tt
 ascends_after low k (x ∷ xs) h =
     let next : k + (x + 1) ≡ k + x + 1 = omega arith in
     (let first = h.0 in omega (arith, first), subst (λ z. IsAscendingFrom z (map (λ n. k + n) xs)) next (ascends_after (x + 1) k xs h.1))
-
-ascending_lower : (low less : ℕ) (xs : List ℕ) → less ≤ low → IsAscendingFrom low xs → IsAscendingFrom less xs
-ascending_lower low less [] l h = tt
-ascending_lower low less (x ∷ xs) l h = (let first = h.0 in omega (arith, first, l), h.1)
 
 is_set : (m i : ℕ) → (bit_at m i == 1) ≡ true → bit_at m i ≡ 1
 is_set m i e = number_told (bit_at m i) 1 e

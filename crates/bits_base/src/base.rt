@@ -26,7 +26,7 @@ impl Base for Bits {
     ghost use Rattle.base_trait.specs.Notes.{own_calls};
     ghost use Rattle.bits_base.specs.Join.{join_of};
     ghost use Rattle.bits_base.specs.Known.{any, exact, Fits};
-    ghost use Rattle.bits_base.specs.Laws.{bits_laws};
+    ghost use Rattle.bits_base.specs.Instance.{bits_laws};
     ghost use Rattle.bits_base.specs.Meaning.{bits, op1_known, op2_known};
     ghost use Rattle.bits_base.specs.Moved.{moved};
     ghost use Rattle.bits_base.specs.Range.{range_of};
@@ -43,7 +43,7 @@ impl Base for Bits {
 
     ghost algebra = { bits };
 
-    /// The word whose bits are all known.
+    /// The word whose bits are all known, which is best: 5 is `v` 5 `m` 0, and stands for 5 alone.
     fn constant(_alloc: Global, _ctx: &(), w: u32, v: u64) -> Result<Known, NoMemory>
         requires width { IsWidth w }
         requires number { v < 2 ^ w }
@@ -54,7 +54,7 @@ impl Base for Bits {
         Ok(Known::exact(v))
     }
 
-    /// The word of no known bit.
+    /// The word of no known bit: at 8 bits `v` 0 `m` 255, which is 0 to 255.
     fn any(_alloc: Global, _ctx: &(), w: u32) -> Result<Known, NoMemory>
         requires width { IsWidth w }
         ensures value { IfOk result (λ r. r ≡ any w) }
@@ -64,7 +64,8 @@ impl Base for Bits {
         Ok(Known::any(w))
     }
 
-    /// The bits above the highest one in which `low` and `high` differ: of 5 to 6 it is 4 to 7.
+    /// The bits above the highest one in which `low` and `high` differ: of 5 to 6 it is 4 to 7. Best: on the way
+    /// from `low` to `high` one step, here that from 5 to 6, changes each of the other bits.
     fn range(_alloc: Global, _ctx: &(), w: u32, low: u64, high: u64) -> Result<Known, NoMemory>
         requires width { IsWidth w }
         requires order { low ≤ high }
@@ -76,7 +77,8 @@ impl Base for Bits {
         Ok(range(low, high))
     }
 
-    /// Not is best. Neg is 0 less the word: of 4 bits, that of 4 or 12 is 12 or 4.
+    /// Not is best: of 4 bits, that of 4 or 12 is 11 or 3. Neg is 0 less the word, and as good as differences are:
+    /// that of 4 or 12 is 12 or 4.
     fn op1(_alloc: Global, _ctx: &(), op: Op1, w: u32, x: &Known) -> Result<Known, NoMemory>
         requires width { IsWidth w }
         requires word { Fits w x.now }
@@ -87,8 +89,9 @@ impl Base for Bits {
         Ok(of_one(op, w, *x))
     }
 
-    /// And, Or, Xor and shifts by an exact number are best. Sums and differences know a bit where both words
-    /// and the carry are known: 0 to 3 and 4 add up to 4 to 7. The others give any unless both are exact.
+    /// And, Or, Xor and shifts by an exact number are best. Sums and differences know a bit where both words and
+    /// the carry are known: 0 to 3 and 4 add up to 4 to 7. That is best by Vishwanathan and others, CGO 2022, and
+    /// not proved here. The others give any unless both are exact: 0 or 1 times 2 is any, not 0 or 2.
     fn op2(
         _alloc: Global,
         _ctx: &(),
@@ -107,13 +110,13 @@ impl Base for Bits {
         Ok(of_two(op, w, *x, *y))
     }
 
-    /// Equal where they agree on the bits that both know; below by the least and the greatest numbers: 4 to 7
-    /// are never below 4, and may be below 6 or not.
+    /// Equal where they agree on the bits that both know; below by the least and the greatest numbers. 4 to 7 are
+    /// never below 4, and may be below 6 or not. Exact, as both ends are numbers of the words.
     fn cmp(_ctx: &(), c: Cmp, w: u32, x: &Known, y: &Known) -> Tri {
         compare(c, w, *x, *y)
     }
 
-    /// The new bits are known 0. Best.
+    /// The new bits are known 0. Best: from 4 to 8 bits, 4 to 7 stay 4 to 7.
     fn zext(_alloc: Global, _ctx: &(), from: u32, to: u32, x: &Known) -> Result<Known, NoMemory>
         requires widths { IsExtension from to }
         requires word { Fits from x.now }
@@ -159,7 +162,8 @@ impl Base for Bits {
         Ok(join(*x, *y))
     }
 
-    /// The join: each step that changes the word loses a bit.
+    /// The join, so best: each step that changes the word loses a bit. 4 with 6 is 4 or 6, and that with 5 is
+    /// 4 to 7.
     fn widen(_alloc: Global, _ctx: &(), w: u32, old: &Known, new: &Known) -> Result<Known, NoMemory>
         requires width { IsWidth w }
         requires left { Fits w old.now }
@@ -171,26 +175,29 @@ impl Base for Bits {
         Ok(join(*old, *new))
     }
 
-    /// Whether the new word knows each bit that the old one knows, and alike: exactly where each number of the
-    /// new one is one of the old.
+    /// Whether the new word knows each bit that the old one knows, and alike. So exactly where each number of the
+    /// new one is one of the old: 4 to 7 absorb 5, and not 8.
     fn absorbs(_ctx: &(), _w: u32, old: &Known, new: &Known) -> bool {
         absorbs(*old, *new)
     }
 
-    /// The number of known bits.
+    /// The number of known bits: at 8 bits 8 of one number, 6 of 4 to 7, and 0 of any.
     fn rank(_ctx: &(), w: u32, x: &Known) -> u64 {
         (w - x.m.count_ones()) as u64
     }
 
+    /// The number, exactly where each bit is known: 5 of 5 alone, and none of 4 to 7.
     fn exact(_ctx: &(), _w: u32, x: &Known) -> Option<u64> {
         if x.is_exact() { Some(x.v) } else { None }
     }
 
+    /// Exactly whether the word stands for the number, which has the known bits: 4 to 7 may be 6, and not 8.
     fn may(_ctx: &(), _w: u32, x: &Known, k: u64) -> bool {
         without(k, x.m) == x.v
     }
 
-    /// There are 2 to the number of unknown bits.
+    /// Exactly its numbers, ascending, or none where they are more than `limit`; there are 2 to the number of
+    /// unknown bits. 4 to 7 at the limit 4 is 4, 5, 6, 7, and at the limit 3 there is no list.
     fn members(
         alloc: Global,
         _ctx: &(),
@@ -201,6 +208,7 @@ impl Base for Bits {
         members(alloc, w, *x, limit)
     }
 
+    /// The same word once more: of 4 to 7 it is 4 to 7.
     fn copy(_alloc: Global, _ctx: &(), x: &Known) -> Result<Known, NoMemory>
         ensures value { IfOk result (λ r. r ≡ x.now) }
         ensures ok { IsOk result }

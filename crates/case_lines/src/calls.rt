@@ -1,11 +1,12 @@
 //! What a call gives.
 
-ghost use Rattle.std.specs.Prelude.{◌≡◌};
+ghost use Rattle.std.specs.Prelude.{◌≡◌, ◌<◌, ◌≤◌, ◌^◌};
 ghost use Rattle.word_ops.specs.Width.{IsWidth};
 
 use super::names::{cmp_named, op1_named, op2_named};
 use super::notation::Notation;
 use super::numbers::{is_word, number, width};
+use super::read::Unread;
 use base_trait::Base;
 use std::alloc::{AllocError as NoMemory, Global};
 use word_ops::Cmp;
@@ -25,7 +26,7 @@ pub fn answer<N: Notation>(
 }
 
 /// The text up to the first space, and what is behind it.
-fn parts(text: &str) -> (&str, &str) {
+pub fn parts(text: &str) -> (&str, &str) {
     match text.split_once(' ') {
         Some(parts) => parts,
         None => (text, ""),
@@ -55,11 +56,31 @@ fn made<N: Notation>(
         ("Range", Some(low), Some(high)) if low <= high && is_word(w, high) => {
             N::text(alloc, w, &N::Of::range(alloc, ctx, w, low, high)?)
         }
-        _ => match N::word(ctx, w, first) {
-            Some(x) => called::<N>(alloc, ctx, name, w, &x, second),
-            None => no_case(alloc),
+        ("CopiedRange", Some(low), Some(high)) if low <= high && is_word(w, high) => {
+            in_copy::<N>(alloc, ctx, w, low, high)
+        }
+        _ => match N::word(alloc, ctx, w, first) {
+            Ok(x) => called::<N>(alloc, ctx, name, w, &x, second),
+            Err(Unread::No) => no_case(alloc),
+            Err(Unread::NoMemory) => Err(NoMemory),
         },
     }
+}
+
+/// What a range gives in a copy of the context.
+fn in_copy<N: Notation>(
+    alloc: Global,
+    ctx: &<N::Of as Base>::Ctx,
+    w: u32,
+    low: u64,
+    high: u64,
+) -> Result<String, NoMemory>
+    requires width { IsWidth w }
+    requires order { low ≤ high }
+    requires number { high < 2 ^ w }
+{
+    let other = N::Of::copy_ctx(alloc, ctx)?;
+    N::text(alloc, w, &N::Of::range(alloc, &other, w, low, high)?)
 }
 
 /// What a call gives that takes a word.
@@ -77,10 +98,13 @@ fn called<N: Notation>(
     if let Some(op) = op1_named(name) {
         return N::text(alloc, w, &N::Of::op1(alloc, ctx, op, w, x)?);
     }
-    match (name, N::word(ctx, w, rest)) {
-        ("Zext" | "Sext" | "Trunc", _) => cast::<N>(alloc, ctx, name, w, x, rest),
-        (_, Some(y)) => of_two::<N>(alloc, ctx, name, w, x, &y),
-        (_, None) => read::<N>(alloc, ctx, name, w, x, rest),
+    if matches!(name, "Zext" | "Sext" | "Trunc") {
+        return cast::<N>(alloc, ctx, name, w, x, rest);
+    }
+    match N::word(alloc, ctx, w, rest) {
+        Ok(y) => of_two::<N>(alloc, ctx, name, w, x, &y),
+        Err(Unread::No) => read::<N>(alloc, ctx, name, w, x, rest),
+        Err(Unread::NoMemory) => Err(NoMemory),
     }
 }
 
@@ -112,7 +136,7 @@ fn cast<N: Notation>(
     }
 }
 
-/// What an operation, a comparison, a join or a widening of two words gives.
+/// What a call on two words gives, and whether they are one word.
 fn of_two<N: Notation>(
     alloc: Global,
     ctx: &<N::Of as Base>::Ctx,
@@ -135,6 +159,7 @@ fn of_two<N: Notation>(
         "Join" => N::text(alloc, w, &N::Of::join(alloc, ctx, w, x, y)?),
         "Widen" => N::text(alloc, w, &N::Of::widen(alloc, ctx, w, x, y)?),
         "Absorbs" => format!(in alloc; "{}", N::Of::absorbs(ctx, w, x, y)),
+        "Same" => format!(in alloc; "{}", *x == *y),
         _ => no_case(alloc),
     }
 }

@@ -2,7 +2,8 @@
 
 use word_ops::{Cmp, Op1, Op2};
 
-pub(crate) fn op1_named(name: &str) -> Option<Op1> {
+/// The operation on one word of this name.
+pub fn op1_named(name: &str) -> Option<Op1> {
     match name {
         "Neg" => Some(Op1::Neg),
         "Not" => Some(Op1::Not),
@@ -10,7 +11,8 @@ pub(crate) fn op1_named(name: &str) -> Option<Op1> {
     }
 }
 
-pub(crate) fn op2_named(name: &str) -> Option<Op2> {
+/// The operation on two words of this name.
+pub fn op2_named(name: &str) -> Option<Op2> {
     match name {
         "Add" => Some(Op2::Add),
         "Sub" => Some(Op2::Sub),
@@ -32,7 +34,8 @@ pub(crate) fn op2_named(name: &str) -> Option<Op2> {
     }
 }
 
-pub(crate) fn cmp_named(name: &str) -> Option<Cmp> {
+/// The comparison of this name.
+pub fn cmp_named(name: &str) -> Option<Cmp> {
     match name {
         "Eq" => Some(Cmp::Eq),
         "Ne" => Some(Cmp::Ne),

@@ -1,8 +1,9 @@
 //! How the words of a base are written.
 
-ghost use Rattle.std.specs.Prelude.{IfSome};
+ghost use Rattle.std.specs.Prelude.{IfOk};
 ghost use Rattle.word_ops.specs.Width.{IsWidth};
 
+use super::read::Read;
 use base_trait::Base;
 use std::alloc::{AllocError as NoMemory, Global};
 
@@ -11,9 +12,14 @@ pub trait Notation {
     type Of: Base;
 
     /// The word of a text, if it is one of the width.
-    fn word(ctx: &<Self::Of as Base>::Ctx, w: u32, text: &str) -> Option<<Self::Of as Base>::Word>
+    fn word(
+        alloc: Global,
+        ctx: &<Self::Of as Base>::Ctx,
+        w: u32,
+        text: &str,
+    ) -> Read<<Self::Of as Base>::Word>
         requires { IsWidth w }
-        ensures { IfSome result (λ x. Self.Of.algebra.words.fits ctx.now w x) };
+        ensures { IfOk result (λ x. Self.Of.algebra.words.fits ctx.now w x) };
 
     /// The text of a word.
     fn text(alloc: Global, w: u32, x: &<Self::Of as Base>::Word) -> Result<String, NoMemory>

@@ -1,9 +1,8 @@
 -- Fields of states.
-use Rattle.std.proofs.Common.{◌≡◌, ℕ, true, false, List, [], ◌∷◌, ap, ◌∙◌, subst, IsTrue}
+use Rattle.std.proofs.Common.{◌≡◌, true, false, List, [], ◌∷◌, ap, ◌∙◌, subst, IsTrue}
 use Rattle.std.specs.Prelude.{◌&&◌, ◌==◌, ◌^◌, nat_le, nat_lt, not}
 use Rattle.std.specs.List.{list_all}
 use Rattle.std.proofs.lemmas.Bool.{leb-true, ltb-true}
-use Rattle.word_ops.specs.Width.{IsWidth}
 use Rattle.base_trait.specs.Algebra.{Algebra}
 use Rattle.base_trait.specs.Lists.{Each}
 use Rattle.base_trait.specs.Identity.{IsIdentity, IsReflexive, same_list, same_list_is, same_list_itself}
@@ -11,14 +10,12 @@ use Rattle.base_trait.proofs.Lists.{number_itself, number_told}
 use Rattle.base_trait.proofs.Tests.{and_both, and_parts}
 use Rattle.spec_types.specs.Specification.{Spec}
 use Rattle.spec_types.specs.WellFormed.{is_width}
+use Rattle.spec_types.proofs.Checks.{width_is as width_told}
 use Rattle.domain_laws.specs.declared.field.Field.{Field}
 use Rattle.domain_laws.specs.declared.field.Field.TheVariants.{Word, Map}
 use Rattle.domain_laws.specs.States.{StateType, has_states, is_field, same_field, same_states, state_type}
 use Rattle.cell_laws.specs.Calls.{is_for}
 use Rattle.cell_laws.specs.Lines.{IsField}
-
-width_told : (w : ℕ) → is_width w ≡ true → IsWidth w
-width_told w h = let parts = and_parts (nat_le 1 w) (nat_le w 64) h in (leb-true 1 w parts.0, leb-true w 64 parts.1)
 
 pub field_told : (f : Field) → is_field f ≡ true → IsField f
 field_told (Word w) h = width_told w h

@@ -1,5 +1,5 @@
 -- Keys of maps that calls give.
-use Rattle.std.proofs.Common.{◌≡◌, ℕ, Bool, true, false, List, [], ◌∷◌, map, take, zero, suc, sym, subst, cond, ◌⊎◌, inl, inr}
+use Rattle.std.proofs.Common.{◌≡◌, ℕ, Bool, true, false, map, take, sym, subst, cond, ◌⊎◌, inl, inr}
 use Rattle.std.specs.Prelude.{◌==◌}
 use Rattle.base_trait.specs.Algebra.{Algebra}
 use Rattle.base_trait.specs.Lists.{Each, IsAmong}
@@ -11,11 +11,7 @@ use Rattle.map_laws.specs.Keys.{either_key, one, with_key}
 use Rattle.map_laws.specs.Maps.{Map, cell, keys}
 use Rattle.map_laws.proofs.KeyLists.{either_only, with_only}
 use Rattle.map_laws.proofs.Places.{keys_of_cells}
-
-first_each : {A : Type 0} (P : ℕ → Type 0) (n : ℕ) (es : List (ℕ × A)) → Each P (map (λ e. e.0) es) → Each P (map (λ e. e.0) (take n es))
-first_each P zero es h = tt
-first_each P (suc n) [] h = tt
-first_each P (suc n) (e ∷ es) h = (h.0, first_each P n es h.1)
+use Rattle.map_laws.proofs.Fitting.{first_each}
 
 module _ {W N C : Type 0} (B : Algebra W N C) (c : C) (cap : ℕ) (P : ℕ → Type 0) where
   folded_keys : (m : Map W N) → Each P (keys m) → Each P (keys (folded B c cap m))

@@ -39,7 +39,7 @@ module _ (all : List Field) (lines : List Line) (fit : LinesFit all lines) where
       start : (j : ℕ) → j ≡ 0 + j
       start j = omega arith
 
-key_told : (j k : KeyAt) → IsTrue (is_key j k) → j ≡ k
+pub key_told : (j k : KeyAt) → IsTrue (is_key j k) → j ≡ k
 key_told Whole Whole h = refl
 key_told Rest Rest h = refl
 key_told (At j) (At k) h = ap (λ i. At i) (number_told j k h)

@@ -1,7 +1,8 @@
 -- Numbers of at most 16 hex digits, and of a width.
-use Rattle.std.proofs.Common.{◌≡◌, ◌+◌, ◌-◌, suc, ◌*◌, ◌<◌, ◌≤◌, ◌^◌, ℕ, arith, ◌/◌, ◌%◌, true, nat_le, nat_lt, nat_eq, refl}
+use Rattle.std.proofs.Common.{◌≡◌, ◌+◌, ◌*◌, ◌<◌, ◌≤◌, ◌^◌, ℕ, arith, ◌/◌, ◌%◌, nat_le, nat_lt, nat_eq, refl}
 use Rattle.std.proofs.Math.Nat.{pow-le-pow_right, div-lt_iff_lt-mul, div-eq_of_lt, one-le-pow}
 use Rattle.std.proofs.lemmas.Bool.Decides.{nat_tests}
+use Rattle.spec_types.proofs.Checks.{fits_past as wide}
 
 -- one more digit has room
 pub room : (i value : ℕ) → value < 16 ^ i → i < 16 → value * 16 + 16 ≤ 2 ^ 64
@@ -9,19 +10,11 @@ room i value small few =
     let up : 16 ^ i ≤ 16 ^ 15 = pow-le-pow_right {n = 16} (omega arith) {i = i} {j = 15} (omega arith) in
     omega (arith, up)
 
-pub wide : (value width : ℕ) → value < 2 ^ 64 → 64 ≤ width → nat_lt value (2 ^ width) ≡ true
-wide value width small much =
-    let up : 2 ^ 64 ≤ 2 ^ width = pow-le-pow_right {n = 2} (omega arith) {i = 64} {j = width} much in
-    grind (arith, nat_tests, up)
-
 pub narrow : (value width : ℕ) → nat_eq (value / 2 ^ width) 0 ≡ nat_lt value (2 ^ width)
 narrow value width =
     let some : 1 ≤ 2 ^ width = one-le-pow width 2 (omega arith) in
     let both = div-lt_iff_lt-mul {k = 2 ^ width} {x = value} {y = 1} some in
     grind (arith, nat_tests, both, some)
-
-pub turn : (n at : ℕ) → at < n → n - at ≡ suc (n - (at + 1))
-turn n at below = omega arith
 
 -- the digits past those of a number are 0
 pub far_digit : (value place : ℕ) → value < 2 ^ 64 → 16 ≤ place → 0 ≡ value / 2 ^ (4 * place) % 16

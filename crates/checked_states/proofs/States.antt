@@ -10,9 +10,9 @@ use Rattle.spec_types.specs.Texts.{cases_of, fields_at}
 use Rattle.spec_decls.specs.TypeNames.{TypeTable, types_of}
 use Rattle.spec_decls.specs.Declarations.{case_declared, data_declared, field_in}
 use Rattle.spec_decls.specs.Leaves.{datatypes}
+use Rattle.spec_decls.proofs.States.{datas_are}
 use Rattle.spec_names.specs.Limits.{most_fields}
 use Rattle.tsl_values.specs.Types.{environment_of}
-use Rattle.accepted_specs.proofs.MapTypes.{datas_are}
 use Rattle.entry_laws.proofs.Differing.{HaveDifferentNames, HaveFewFields, names_differ}
 use Rattle.domain_laws.specs.States.{behind, field_of, state_type, state_types, types_in}
 use Rattle.checked_states.specs.Laws.{FieldsHaveNumbers, StatesHaveFewFields}

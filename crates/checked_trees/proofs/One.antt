@@ -1,5 +1,6 @@
 -- A tree has one specification at most.
-use Rattle.std.proofs.Common.{◌≡◌, ◌⊎◌, ℕ, ◌+◌, ◌≤◌, Bool, true, false, List, [], ◌∷◌, refl, sym, ◌∙◌, ap, inl, inr, arith}
+use Rattle.std.proofs.Common.{◌≡◌, ◌⊎◌, ℕ, ◌+◌, ◌≤◌, List, [], ◌∷◌, refl, sym, ◌∙◌, ap, inl, inr, arith}
+use Rattle.std.specs.Cmp.{both_ways as one_truth}
 use Rattle.tsl_parser.specs.Tree.{Tree, Item, Function}
 use Rattle.reachability.specs.Graph.{IsLeastOfGroup, SameGroup}
 use Rattle.spec_types.specs.declared.spec.Use.{Use}
@@ -14,11 +15,6 @@ use Rattle.checked_trees.specs.Laws.{SpecificationsAreOne}
 
 one_least : (graph : List (List ℕ)) (a m n : ℕ) → IsLeastOfGroup graph a m → IsLeastOfGroup graph a n → m ≡ n
 one_least graph a m n p q = omega (arith, p.below n q.same, q.below m p.same)
-
-one_truth : (a b : Bool) → (a ≡ true → b ≡ true) → (b ≡ true → a ≡ true) → a ≡ b
-one_truth true b there back = sym (there refl)
-one_truth false true there back = back refl
-one_truth false false there back = refl
 
 one_loops : (terms : List Term) (f : ℕ) (g h : Group) → IsGroupOf terms f g → IsGroupOf terms f h → g.loops ≡ h.loops
 one_loops terms f g h p q = one_truth g.loops h.loops (λ is. q.loops.1 (p.loops.0 is)) (λ is. p.loops.1 (q.loops.0 is))

@@ -16,7 +16,7 @@
 //!
 //! A text is made of lines: `| TEXT` gives the text and a line end, `+ TEXT` the text alone, `use NAME` a given text, and
 //! `each N LINE` what the line gives for each number from 0 to N - 1, in decimal in the place of each `#`. Two names are
-//! given from the start: `ppc` and `rv32i`, the instruction sets that the product brings.
+//! given from the start: `ppc` and `rv32i`, the instruction sets that are shipped.
 //!
 //! What is wanted was found by hand from the rules of the language. For each case that differs two lines are printed, and
 //! for each file how many cases it has and how many differ.

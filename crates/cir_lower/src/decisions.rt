@@ -2,7 +2,7 @@
 
 ghost use Rattle.std.specs.Prelude.{◌≡◌, map, IfOk};
 ghost use Rattle.tsl_match.specs.Views.{bound, tree};
-ghost use Rattle.tsl_match.specs.Decisions.{Tree};
+ghost use Rattle.tsl_match.specs.Decisions as plain;
 ghost use Rattle.cir_lower.specs.Asked.{asked_at, asked_first, asked_of};
 
 use std::alloc::{AllocError as NoMemory, Global};
@@ -95,7 +95,7 @@ fn with_asked(
     number: Option<u64>,
     yes: Decision,
 ) -> Result<Vec<Asked>, NoMemory>
-    ensures { IfOk result (λ r. (t : Tree) → asked_first r.items t ≡ asked_first asked.items (asked_at at.steps.items number (tree yes) t)) }
+    ensures { IfOk result (λ r. (t : plain.Decision) → asked_first r.items t ≡ asked_first asked.items (asked_at at.steps.items number (tree yes) t)) }
 {
     asked.push(Asked { at, number, yes })?;
     Ok(asked)

@@ -3,7 +3,7 @@
 //! A case is the name of a call, an order of bytes, what else the call takes, and segments, each as `BASE:BYTES` in hex. `xN` in
 //! the place of bytes stands for N bytes 0, N in decimal. Of `image` it says the segments in their order with how many words
 //! each has, or the line of the first fault; of `fetch` the word at an address; of `rv` and `ppc` the listing by the
-//! specification that the product brings. The folder has the cases in stdin and what they are to give in stdout, which was
+//! specification that is shipped. The folder has the cases in stdin and what they are to give in stdout, which was
 //! worked out by hand from the manuals and the rules of images.
 #![tactic(auto)]
 

@@ -33,6 +33,10 @@ abbrev pub parts_in : List (List ℕ) → Option (List CodePart)
 parts_in [] = Some []
 parts_in (piece ∷ pieces) = part_in piece >>= λ part. parts_in pieces >>= λ parts. Some (part ∷ parts)
 
+-- a first part, and those of the pieces after it
+abbrev pub parts_after : Option CodePart → List (List ℕ) → Option (List CodePart)
+parts_after first pieces = first >>= λ part. parts_in pieces >>= λ parts. Some (part ∷ parts)
+
 -- the first piece names the part that stands at the base address
 abbrev pub parts_from : ℕ → List (List ℕ) → Option (List CodePart)
 parts_from base [] = None

@@ -1,6 +1,6 @@
 -- Numbers as the command line writes them.
 use Rattle.std.specs.Prelude.{ℕ, ◌^◌, Bool, ◌&&◌, List, Option, Some, None, if◌then◌else◌, length, nat_le, nat_lt}
-use Rattle.std.specs.Char.{is_ascii_digit, is_ascii_hexdigit}
+use Rattle.std.specs.Char.{is_ascii_digit, is_ascii_hexdigit, is_digit}
 use Rattle.std.specs.List.{list_all}
 use Rattle.std.specs.Str.Parse.{digits_value}
 
@@ -21,3 +21,7 @@ abbrev pub decimal_in : ℕ → ℕ → ℕ → List ℕ → Option ℕ
 decimal_in most least greatest text =
     if has_digits is_ascii_digit most text && nat_le least (digits_value 10 text) && nat_le (digits_value 10 text) greatest
     then Some (digits_value 10 text) else None
+
+-- 1 to `most` digits of a radix, with a value below 2 ^ 32
+abbrev pub number_in : ℕ → ℕ → List ℕ → Option ℕ
+number_in radix most text = if has_digits (λ c. is_digit c radix) most text && nat_lt (digits_value radix text) (2 ^ 32) then Some (digits_value radix text) else None

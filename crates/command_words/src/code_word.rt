@@ -1,7 +1,7 @@
 //! The word CODE.
 
-ghost use Rattle.std.specs.Prelude.{◌≡◌, map, option_map};
-ghost use Rattle.command_words.specs.Code.{code_parts, is_at, is_comma, part_at, part_in, parts_in, parts_from};
+ghost use Rattle.std.specs.Prelude.{◌≡◌, ◌∷◌, ◌++◌, [], map, option_map};
+ghost use Rattle.command_words.specs.Code.{code_parts, is_at, is_comma, part_at, part_in, parts_after, parts_from};
 ghost use Rattle.command_words.specs.Giving.{Gives};
 ghost use Rattle.command_words.specs.Views.{borrowed, part_of};
 ghost use Rattle.std.specs.List.{list_any, slice_split};
@@ -62,20 +62,35 @@ fn parts_from<'a>(
     let [first, others @ ..] = pieces else {
         return Err(WordsError::BadWords);
     };
-    let first = part_at(first, base).ok_or(WordsError::BadWords)?;
-    let mut parts = parts(alloc, others)?;
-    parts.insert(0, first)?;
+    parts(alloc, part_at(first, base), others)
+}
+
+/// The first part, and those of pieces that each name their address.
+fn parts<'a>(
+    alloc: Global,
+    first: Option<CodePart<'a>>,
+    others: &[&'a str],
+) -> Result<Vec<CodePart<'a>>, WordsError>
+    ensures { Gives (parts_after (option_map part_of first.entry) (borrowed others.now)) (λ parts. map part_of parts.items) result }
+{
+    let mut parts = pushed(Vec::new(alloc), first)?;
+    for piece in others {
+        parts = pushed(parts, part(piece))?;
+    }
     Ok(parts)
 }
 
-/// The parts of pieces that each name their address.
-fn parts<'a>(alloc: Global, pieces: &[&'a str]) -> Result<Vec<CodePart<'a>>, WordsError>
-    ensures { Gives (parts_in (borrowed pieces.now)) (λ parts. map part_of parts.items) result }
+/// The parts with one more, where it is there. They are taken by value, so that a caller holds none of them.
+fn pushed<'a>(
+    mut parts: Vec<CodePart<'a>>,
+    next: Option<CodePart<'a>>,
+) -> Result<Vec<CodePart<'a>>, WordsError>
+    ensures { Gives (option_map (λ next. parts.entry.items ++ next ∷ []) next.entry) (λ parts. parts.items) result }
 {
-    let mut parts = Vec::new(alloc);
-    for piece in pieces {
-        parts.push(part(piece).ok_or(WordsError::BadWords)?)?;
-    }
+    let Some(next) = next else {
+        return Err(WordsError::BadWords);
+    };
+    parts.push(next)?;
     Ok(parts)
 }
 
@@ -91,15 +106,8 @@ fn part<'a>(piece: &'a str) -> Option<CodePart<'a>>
 fn part_at<'a>(name: &'a str, base: u32) -> Option<CodePart<'a>>
     ensures { option_map part_of result ≡ part_at name.entry.now base }
 {
-    if name.is_empty() || has_at(name) {
+    if name.is_empty() || name.contains('@') {
         return None;
     }
     Some(CodePart { name, base })
-}
-
-/// Whether an `@` stands in a name.
-fn has_at(name: &str) -> bool
-    ensures { result ≡ list_any is_at name.now }
-{
-    name.as_bytes().iter().any(|byte| *byte == b'@')
 }

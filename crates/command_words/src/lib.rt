@@ -68,8 +68,12 @@ pub fn read_words<'a>(alloc: Global, words: &'a [String]) -> Result<Request<'a>,
 fn asked_by<'a>(alloc: Global, given: &Given<'a>) -> Result<Request<'a>, WordsError>
     ensures { Gives (asked_by (given_of given.now)) request_of result }
 {
-    let name = given.command.ok_or(WordsError::BadWords)?;
-    let command = CommandName::named(name).ok_or(WordsError::BadWords)?;
+    let Some(name) = given.command else {
+        return Err(WordsError::BadWords);
+    };
+    let Some(command) = CommandName::named(name) else {
+        return Err(WordsError::BadWords);
+    };
     if !takes_all(command, given) {
         return Err(WordsError::BadWords);
     }

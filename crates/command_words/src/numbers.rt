@@ -1,9 +1,7 @@
 //! Numbers as the command line writes them.
 
-ghost use Rattle.std.specs.Prelude.{◌≡◌};
-ghost use Rattle.std.specs.Char.{is_ascii_digit, is_ascii_hexdigit};
-ghost use Rattle.std.specs.List.{list_all};
-ghost use Rattle.command_words.specs.Numbers.{address_in, decimal_in};
+ghost use Rattle.std.specs.Prelude.{◌≡◌, ◌≤◌};
+ghost use Rattle.command_words.specs.Numbers.{address_in, decimal_in, number_in};
 
 /// How many hex digits an address has at most.
 const ADDRESS_DIGITS: usize = 8;
@@ -20,20 +18,14 @@ pub struct DecimalForm {
 pub fn address(text: &str) -> Option<u32>
     ensures { result ≡ address_in text.now }
 {
-    if text.len() > ADDRESS_DIGITS || !has_hex_digits_alone(text.as_bytes()) {
-        return None;
-    }
-    u32::from_str_radix(text, 16).ok()
+    number(text, ADDRESS_DIGITS, 16)
 }
 
 /// The decimal number that a text writes in this form.
 pub fn decimal(text: &str, form: DecimalForm) -> Option<u32>
     ensures { result ≡ decimal_in form.most_digits form.least form.greatest text.now }
 {
-    if text.len() > form.most_digits || !has_digits_alone(text.as_bytes()) {
-        return None;
-    }
-    let number = u32::from_str_radix(text, 10).ok()?;
+    let number = number(text, form.most_digits, 10)?;
     if form.least <= number && number <= form.greatest {
         Some(number)
     } else {
@@ -41,16 +33,14 @@ pub fn decimal(text: &str, form: DecimalForm) -> Option<u32>
     }
 }
 
-/// Whether each byte is a hex digit.
-fn has_hex_digits_alone(bytes: &[u8]) -> bool
-    ensures { result ≡ list_all is_ascii_hexdigit bytes.now }
+/// The number that at most so many digits of a radix write. `from_str_radix` takes a plus before them too.
+fn number(text: &str, most_digits: usize, radix: u32) -> Option<u32>
+    requires least { 2 ≤ radix }
+    requires greatest { radix ≤ 36 }
+    ensures { result ≡ number_in radix most_digits text.now }
 {
-    bytes.iter().all(|byte| byte.is_ascii_hexdigit())
-}
-
-/// Whether each byte is a decimal digit.
-fn has_digits_alone(bytes: &[u8]) -> bool
-    ensures { result ≡ list_all is_ascii_digit bytes.now }
-{
-    bytes.iter().all(|byte| byte.is_ascii_digit())
+    if text.len() > most_digits || text.starts_with('+') {
+        return None;
+    }
+    u32::from_str_radix(text, radix).ok()
 }

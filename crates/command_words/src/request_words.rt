@@ -6,7 +6,7 @@ ghost use Rattle.command_words.specs.Requests as asked;
 ghost use Rattle.command_words.specs.declared.commands.CommandName.TheVariants as named;
 ghost use Rattle.command_words.specs.Views as seen;
 ghost use Rattle.command_words.specs.Views.{borrowed, given_of};
-ghost use Rattle.command_words.specs.Words.{analyse_of, analysis_of, check_from, check_of, code_of, request_of, slice_from};
+ghost use Rattle.command_words.specs.Words.{analyse_of, check_of, code_of, request_of, slice_from};
 
 use crate::code_word::{Code, code_parts};
 use crate::commands::CommandName;
@@ -46,8 +46,8 @@ pub fn request<'a>(
     match command {
         CommandName::Call => call(alloc, given),
         CommandName::Emulate => emulate(alloc, given),
-        CommandName::Analyse => Ok(Request::Analyse(analyse(alloc, given)?)),
-        CommandName::Check => Ok(Request::Check(check(alloc, given)?)),
+        CommandName::Analyse => analysis(alloc, given, &given.words).map(Request::Analyse),
+        CommandName::Check => table(alloc, given, &given.words).map(Request::Check),
         CommandName::Convert => convert(alloc, given),
         CommandName::List => list(alloc, given),
         CommandName::Slice => slice(alloc, given),
@@ -61,8 +61,12 @@ pub fn request<'a>(
 fn code<'a>(alloc: Global, given: &Given<'a>, word: &'a str) -> Result<Code<'a>, WordsError>
     ensures { Gives (code_of (given_of given.now) word.entry.now) seen.code_of result }
 {
-    let base = base_address(given)?;
-    let order = order(given)?;
+    let Some(base) = base_address(given) else {
+        return Err(WordsError::BadWords);
+    };
+    let Some(order) = order(given) else {
+        return Err(WordsError::BadWords);
+    };
     let parts = code_parts(alloc, word, base)?;
     Ok(Code { parts, order })
 }
@@ -75,7 +79,9 @@ fn call<'a>(alloc: Global, given: &Given<'a>) -> Result<Request<'a>, WordsError>
     let [spec, fun, numbers @ ..] = given.words.as_slice() else {
         return Err(WordsError::BadWords);
     };
-    let calls = calls(given)?;
+    let Some(calls) = calls(given) else {
+        return Err(WordsError::BadWords);
+    };
     let numbers = Vec::from_slice(alloc, numbers)?;
     Ok(Request::Call(CallRequest {
         spec: SpecName::of(spec),
@@ -93,8 +99,12 @@ fn emulate<'a>(alloc: Global, given: &Given<'a>) -> Result<Request<'a>, WordsErr
     let [spec, word, entry] = given.words.as_slice() else {
         return Err(WordsError::BadWords);
     };
-    let steps = steps(given)?;
-    let calls = calls(given)?;
+    let Some(steps) = steps(given) else {
+        return Err(WordsError::BadWords);
+    };
+    let Some(calls) = calls(given) else {
+        return Err(WordsError::BadWords);
+    };
     let code = code(alloc, given, word)?;
     Ok(Request::Emulate(EmulateRequest {
         spec: SpecName::of(spec),
@@ -105,20 +115,24 @@ fn emulate<'a>(alloc: Global, given: &Given<'a>) -> Result<Request<'a>, WordsErr
     }))
 }
 
-/// The analysis of the words SPEC, CODE and ENTRY.
-#[tactic(auto, unfolding(crate::specs::Words::analysis_of))]
+/// The analysis of the words `SPEC CODE ENTRY`.
+#[tactic(auto, unfolding(crate::specs::Words::analyse_of, crate::specs::Words::analysis_of))]
 fn analysis<'a>(
     alloc: Global,
     given: &Given<'a>,
-    spec: &'a str,
-    word: &'a str,
-    entry: &'a str,
+    words: &[&'a str],
 ) -> Result<AnalyseRequest<'a>, WordsError>
-    ensures { Gives (analysis_of (given_of given.now) spec.entry.now word.entry.now entry.entry.now)
-        seen.analyse_of result }
+    ensures { Gives (analyse_of (given_of given.now) (borrowed words.now)) seen.analyse_of result }
 {
-    let base = base(given)?;
-    let limit = limit(given)?;
+    let [spec, word, entry] = words else {
+        return Err(WordsError::BadWords);
+    };
+    let Some(base) = base(given) else {
+        return Err(WordsError::BadWords);
+    };
+    let Some(limit) = limit(given) else {
+        return Err(WordsError::BadWords);
+    };
     let code = code(alloc, given, word)?;
     Ok(AnalyseRequest {
         spec: SpecName::of(spec),
@@ -129,43 +143,19 @@ fn analysis<'a>(
     })
 }
 
-/// `analyse SPEC CODE ENTRY`
-#[tactic(auto, unfolding(crate::specs::Words::analyse_of))]
-fn analyse<'a>(alloc: Global, given: &Given<'a>) -> Result<AnalyseRequest<'a>, WordsError>
-    ensures { Gives (analyse_of (given_of given.now) (given_of given.now).words) seen.analyse_of result }
-{
-    let [spec, word, entry] = given.words.as_slice() else {
-        return Err(WordsError::BadWords);
-    };
-    analysis(alloc, given, spec, word, entry)
-}
-
-/// The table of the words SPEC, CODE, ENTRY and TABLE, with what it should be a table of.
-#[tactic(auto, unfolding(crate::specs::Words::check_from))]
-fn check_from<'a>(
+/// The table of the words `SPEC CODE ENTRY TABLE`, with what it should be a table of.
+fn table<'a>(
     alloc: Global,
     given: &Given<'a>,
-    spec: &'a str,
-    word: &'a str,
-    entry: &'a str,
-    table: &'a str,
+    words: &[&'a str],
 ) -> Result<CheckRequest<'a>, WordsError>
-    ensures { Gives (check_from (given_of given.now) spec.entry.now word.entry.now entry.entry.now table.entry.now)
-        seen.check_of result }
+    ensures { Gives (check_of (given_of given.now) (borrowed words.now)) seen.check_of result }
 {
-    let analysis = analysis(alloc, given, spec, word, entry)?;
-    Ok(CheckRequest { analysis, table })
-}
-
-/// `check SPEC CODE ENTRY TABLE`
-#[tactic(auto, unfolding(crate::specs::Words::check_of))]
-fn check<'a>(alloc: Global, given: &Given<'a>) -> Result<CheckRequest<'a>, WordsError>
-    ensures { Gives (check_of (given_of given.now) (given_of given.now).words) seen.check_of result }
-{
-    let [spec, word, entry, table] = given.words.as_slice() else {
+    let [others @ .., table] = words else {
         return Err(WordsError::BadWords);
     };
-    check_from(alloc, given, spec, word, entry, table)
+    let analysis = analysis(alloc, given, others)?;
+    Ok(CheckRequest { analysis, table })
 }
 
 /// `convert SPEC CODE TABLE`
@@ -176,7 +166,9 @@ fn convert<'a>(alloc: Global, given: &Given<'a>) -> Result<Request<'a>, WordsErr
     let [spec, word, table] = given.words.as_slice() else {
         return Err(WordsError::BadWords);
     };
-    let base = base(given)?;
+    let Some(base) = base(given) else {
+        return Err(WordsError::BadWords);
+    };
     let code = code(alloc, given, word)?;
     Ok(Request::Convert(ConvertRequest {
         spec: SpecName::of(spec),
@@ -226,26 +218,24 @@ fn slice_from<'a>(
 }
 
 /// `slice SPEC CODE ENTRY TABLE ADDRESS CELL`
-#[tactic(auto, unfolding(crate::specs::Words::slice_of))]
 fn slice<'a>(alloc: Global, given: &Given<'a>) -> Result<Request<'a>, WordsError>
     ensures { Gives (request_of named.Slice (given_of given.now)) seen.request_of result }
 {
-    let [spec, word, entry, table, place, cell] = given.words.as_slice() else {
+    let [others @ .., place, cell] = given.words.as_slice() else {
         return Err(WordsError::BadWords);
     };
-    let check = check_from(alloc, given, spec, word, entry, table)?;
+    let check = table(alloc, given, others)?;
     slice_from(check, place, cell)
 }
 
 /// `claims SPEC CODE ENTRY TABLE CLAIMS`
-#[tactic(auto, unfolding(crate::specs::Words::claims_of))]
 fn claims<'a>(alloc: Global, given: &Given<'a>) -> Result<Request<'a>, WordsError>
     ensures { Gives (request_of named.Claims (given_of given.now)) seen.request_of result }
 {
-    let [spec, word, entry, table, claims] = given.words.as_slice() else {
+    let [others @ .., claims] = given.words.as_slice() else {
         return Err(WordsError::BadWords);
     };
-    let check = check_from(alloc, given, spec, word, entry, table)?;
+    let check = table(alloc, given, others)?;
     Ok(Request::Claims(ClaimsRequest { check, claims }))
 }
 
@@ -257,9 +247,15 @@ fn stress<'a>(given: &Given<'a>) -> Result<Request<'a>, WordsError>
     let [number, count] = given.words.as_slice() else {
         return Err(WordsError::BadWords);
     };
-    let number = decimal(number, NUMBER_FORM).ok_or(WordsError::BadWords)?;
-    let count = decimal(count, COUNT_FORM).ok_or(WordsError::BadWords)?;
-    let base = base(given)?;
+    let Some(number) = decimal(number, NUMBER_FORM) else {
+        return Err(WordsError::BadWords);
+    };
+    let Some(count) = decimal(count, COUNT_FORM) else {
+        return Err(WordsError::BadWords);
+    };
+    let Some(base) = base(given) else {
+        return Err(WordsError::BadWords);
+    };
     Ok(Request::Stress(StressRequest {
         number,
         count,

@@ -22,7 +22,7 @@ impl Base for Concrete {
     ghost use Rattle.std.proofs.Common.{rules};
     ghost use Rattle.std.specs.Cmp.Rules.{comparing};
     ghost use Rattle.concrete_base.specs.Meaning.{concrete};
-    ghost use Rattle.concrete_base.specs.Laws.{concrete_laws, same_numbers};
+    ghost use Rattle.concrete_base.specs.Instance.{concrete_laws, same_numbers};
 
     type Word = u64;
 
@@ -36,7 +36,7 @@ impl Base for Concrete {
 
     ghost algebra = { concrete };
 
-    /// The number itself.
+    /// The number itself, which is best: 5 is 5.
     fn constant(_alloc: Global, _ctx: &(), w: u32, v: u64) -> Result<u64, NoMemory>
         requires width { IsWidth w }
         requires number { v < 2 ^ w }
@@ -47,7 +47,7 @@ impl Base for Concrete {
         Ok(v)
     }
 
-    /// 0: no word stands for several numbers.
+    /// 0 at each width: no word stands for several numbers, so it lacks 1 to 255 at 8 bits.
     fn any(_alloc: Global, _ctx: &(), w: u32) -> Result<u64, NoMemory>
         requires width { IsWidth w }
         ensures value { IfOk result (λ r. r ≡ 0) }
@@ -57,7 +57,7 @@ impl Base for Concrete {
         Ok(0)
     }
 
-    /// The first number.
+    /// The first number: of 3 to 5 it is 3, which lacks 4 and 5.
     fn range(_alloc: Global, _ctx: &(), w: u32, low: u64, high: u64) -> Result<u64, NoMemory>
         requires width { IsWidth w }
         requires order { low ≤ high }
@@ -92,7 +92,7 @@ impl Base for Concrete {
         Ok(dispatch!(op (op, w, *x, *y) { _ => op2 }))
     }
 
-    /// Exactly what the comparison gives: never both.
+    /// Exactly what the comparison gives, and never both: 1 < 5 is true alone.
     fn cmp(_ctx: &(), c: Cmp, w: u32, x: &u64, y: &u64) -> Tri {
         let is = dispatch!(c (c, w, *x, *y) { _ => cmp });
         Tri {
@@ -101,7 +101,7 @@ impl Base for Concrete {
         }
     }
 
-    /// The same number.
+    /// The same number, which is best: from 4 to 8 bits, 8 stays 8.
     fn zext(_alloc: Global, _ctx: &(), from: u32, to: u32, x: &u64) -> Result<u64, NoMemory>
         requires widths { IsExtension from to }
         requires word { x.now < 2 ^ from }
@@ -112,7 +112,7 @@ impl Base for Concrete {
         Ok(zext(from, to, *x))
     }
 
-    /// The word of the same signed reading: from 4 to 8 bits, 8 becomes 248.
+    /// The word of the same signed reading, which is best: from 4 to 8 bits, 8 becomes 248.
     fn sext(_alloc: Global, _ctx: &(), from: u32, to: u32, x: &u64) -> Result<u64, NoMemory>
         requires widths { IsExtension from to }
         requires word { x.now < 2 ^ from }
@@ -123,7 +123,7 @@ impl Base for Concrete {
         Ok(sext(from, to, *x))
     }
 
-    /// The lowest bits: from 8 to 4 bits, 17 becomes 1.
+    /// The lowest bits, which is best: from 8 to 4 bits, 17 becomes 1.
     fn trunc(_alloc: Global, _ctx: &(), from: u32, to: u32, x: &u64) -> Result<u64, NoMemory>
         requires widths { IsExtension to from }
         requires word { x.now < 2 ^ from }
@@ -134,7 +134,7 @@ impl Base for Concrete {
         Ok(trunc(from, to, *x))
     }
 
-    /// The first side, which is both where they are equal.
+    /// The first side, which is both where they are equal: 3 and 3 give 3. Of 3 and 4 it would be 3, which lacks 4.
     fn join(_alloc: Global, _ctx: &(), w: u32, x: &u64, y: &u64) -> Result<u64, NoMemory>
         requires width { IsWidth w }
         requires left { x.now < 2 ^ w }
@@ -146,7 +146,7 @@ impl Base for Concrete {
         Ok(*x)
     }
 
-    /// The old side, which is both where they are equal.
+    /// The old side, which is both where they are equal: 3 with 3 is 3. With 4 it would be 3, which lacks 4.
     fn widen(_alloc: Global, _ctx: &(), w: u32, old: &u64, new: &u64) -> Result<u64, NoMemory>
         requires width { IsWidth w }
         requires left { old.now < 2 ^ w }
@@ -158,27 +158,27 @@ impl Base for Concrete {
         Ok(*old)
     }
 
-    /// Whether both are one number.
+    /// Exactly whether both are one number: 3 absorbs 3, and not 4.
     fn absorbs(_ctx: &(), _w: u32, old: &u64, new: &u64) -> bool {
         *old == *new
     }
 
-    /// 0: nothing is ever widened.
+    /// 0, also of 3: nothing is ever widened.
     fn rank(_ctx: &(), _w: u32, _x: &u64) -> u64 {
         0
     }
 
-    /// The number.
+    /// The number, always: of 5 it is 5.
     fn exact(_ctx: &(), _w: u32, x: &u64) -> Option<u64> {
         Some(*x)
     }
 
-    /// Whether it is the number.
+    /// Exactly whether it is the number: 5 may be 5, and not 6.
     fn may(_ctx: &(), _w: u32, x: &u64, k: u64) -> bool {
         *x == k
     }
 
-    /// The number alone; at the limit 0 there is no list.
+    /// The number alone: of 5 it is 5; at the limit 0 there is no list.
     fn members(
         alloc: Global,
         _ctx: &(),
@@ -193,6 +193,7 @@ impl Base for Concrete {
         }
     }
 
+    /// The same number once more: of 5 it is 5.
     fn copy(_alloc: Global, _ctx: &(), x: &u64) -> Result<u64, NoMemory>
         ensures value { IfOk result (λ r. r ≡ x.now) }
         ensures ok { IsOk result }

@@ -1,22 +1,22 @@
 -- Values that have a type, of an accepted specification, and what stands for them.
-use Rattle.std.proofs.Common.{◌≡◌, ℕ, zero, suc, ◌<◌, ◌≤◌, ◌^◌, length, get_or, Bool, true, List, [], ◌∷◌, Option, Some, None, map, slice_get, refl, sym, subst, arith, inr}
+use Rattle.std.proofs.Common.{◌≡◌, ℕ, zero, suc, ◌<◌, ◌≤◌, ◌^◌, length, get_or, true, List, [], ◌∷◌, Option, Some, None, map, slice_get, refl, sym, subst, arith, inr}
 use Rattle.std.specs.Prelude.{◌&&◌, nat_le, nat_lt}
 use Rattle.std.specs.List.{list_all}
-use Rattle.tsl_match.proofs.Truth.{both}
+use Rattle.std.proofs.lemmas.Bool.{le-leb as at_most_is}
 use Rattle.base_trait.proofs.Tests.{and_both, and_parts}
 use Rattle.base_trait.specs.declared.uses.Stamped.{Stamped}
-use Rattle.concrete_base.specs.Laws.{concrete_laws}
+use Rattle.concrete_base.specs.Instance.{concrete_laws}
 use Rattle.concrete_base.specs.Meaning.{concrete}
 use Rattle.spec_types.specs.declared.ty.Ty.{Ty}
 use Rattle.spec_types.specs.Environment.{Environment, Signature, key_of}
 use Rattle.spec_types.specs.Specification.{Fun, Spec}
 use Rattle.spec_types.specs.WellFormed.{is_signature, is_type}
+use Rattle.spec_types.proofs.Lists.{all_at as one_of_all, all_from}
 use Rattle.tsl_values.specs.Types.{environment_of, has_type as has_concrete_type, have_types as have_concrete_types, key_count}
 use Rattle.tsl_values.specs.Values.{Val, vals}
 use Rattle.tsl_values.specs.Views.{val}
 use Rattle.tsl_values.specs.declared.value.Value.{Value}
 use Rattle.meaning_laws.specs.Accepted.{IsAccepted}
-use Rattle.meaning_laws.proofs.Values.{at_most_is}
 use Rattle.value_laws.specs.Abs.{Abs, parts}
 use Rattle.value_laws.specs.Fits.{Fits, PartsFit}
 use Rattle.value_types.specs.Laws.{are_keyed}
@@ -34,15 +34,6 @@ use Rattle.concrete_values.proofs.Single.{value_stands}
 
 has_room : HasRoom concrete room
 has_room = inr (omega arith)
-
-all_from : {A : Type 0} (f : A → Bool) (xs : List A) → ((k : ℕ) (x : A) → slice_get xs k ≡ Some x → f x ≡ true) → list_all f xs ≡ true
-all_from f [] h = refl
-all_from f (x ∷ xs) h = both (f x) (list_all f xs) (h 0 x refl) (all_from f xs (λ k y e. h (suc k) y e))
-
-one_of_all : {A : Type 0} (f : A → Bool) (xs : List A) (k : ℕ) (x : A) → list_all f xs ≡ true → slice_get xs k ≡ Some x → f x ≡ true
-one_of_all f [] k x h e = absurd cc
-one_of_all f (y ∷ xs) zero x h e = let same : y ≡ x = cc in subst (λ z. f z ≡ true) same (and_parts (f y) (list_all f xs) h).0
-one_of_all f (y ∷ xs) (suc k) x h e = one_of_all f xs k x (and_parts (f y) (list_all f xs) h).1 e
 
 module _ (spec : Spec) (ok : IsAccepted spec) where
   abbrev env : Environment

@@ -2,7 +2,7 @@
 use Rattle.std.proofs.Common.{◌≡◌, ℕ, suc, ◌≤◌, ◌^◌, true, List, [], ◌∷◌, Option, Some, None, length, refl, subst, arith, inr, IsTrue}
 use Rattle.base_trait.specs.Uses.{Seen}
 use Rattle.base_trait.specs.declared.uses.Stamped.{Stamped}
-use Rattle.concrete_base.specs.Laws.{concrete_laws}
+use Rattle.concrete_base.specs.Instance.{concrete_laws}
 use Rattle.concrete_base.specs.Meaning.{concrete}
 use Rattle.map_laws.specs.Laws.{HasRoom}
 use Rattle.recursion_fix.specs.declared.policy.Policy.TheVariants.{Stop}

@@ -1,7 +1,7 @@
 -- The value of a concrete one is single.
 use Rattle.std.proofs.Common.{◌≡◌, ℕ, zero, suc, ◌<◌, Bool, true, false, [], refl, inr, arith}
 use Rattle.std.specs.Prelude.{not}
-use Rattle.concrete_base.specs.Laws.{concrete_laws}
+use Rattle.concrete_base.specs.Instance.{concrete_laws}
 use Rattle.concrete_base.specs.Meaning.{concrete}
 use Rattle.base_trait.specs.declared.uses.Stamped.{Stamped}
 use Rattle.spec_types.specs.Environment.{Environment}

@@ -18,7 +18,7 @@ pub values_there : (xs : List (AV Concrete ℕ Stamped (Unit {0}))) → vals (ma
 values_there [] = refl
 values_there (x ∷ xs) = ap (val_then (value_in (abs x))) (values_there xs)
 
-some_same : {A : Type 0} {x y : A} → Some x ≡ Some y → x ≡ y
+pub some_same : {A : Type 0} {x y : A} → Some x ≡ Some y → x ≡ y
 some_same e = cc
 
 -- one more item of a list

@@ -1,7 +1,8 @@
 -- Two outcomes are the same, and what they give has a property.
 use Rattle.std.proofs.Common.{◌≡◌, ℕ, suc, ◌+◌, Bool, true, false, cond, Option, Some, List, [], refl, sym, subst, arith}
+use Rattle.std.proofs.lemmas.Option.{same_Some as some_same}
 use Rattle.base_trait.specs.Uses.{Read}
-use Rattle.tsl_match.specs.Patterns.{Pat}
+use Rattle.tsl_match.specs.Patterns.{Pattern}
 use Rattle.tsl_match.specs.Meets.{meets, bindings}
 use Rattle.tsl_match.specs.Picks.{Choice}
 use Rattle.spec_types.specs.declared.ty.Ty.{Ty}
@@ -15,7 +16,6 @@ use Rattle.meaning_laws.proofs.Values.{IsOf, There}
 use Rattle.meaning_laws.proofs.Maps.{ReadThere}
 use Rattle.core_meaning.specs.Places.{vals_named}
 use Rattle.core_meaning.specs.CoreDirect.{with_named, arm_picked}
-use Rattle.core_meaning.proofs.Lists.{some_same}
 use Rattle.core_meaning.proofs.Named.{names_bound}
 
 -- P holds of what an outcome gives, if it gives something
@@ -61,7 +61,7 @@ module _ (env : Environment) where
 abbrev pub Taken : {A : Type 0} → (A → Type 0) → (ℕ → List Val → Outcome A) → Val → ℕ → Choice → Outcome A → Type 0
 Taken P arm p n c y = (k : ℕ) × (c.0 ≡ n + k) × Both P (with_named (arm k) (vals_named p c.1)) y
 
-pub arm_taken : {A : Type 0} (P : A → Type 0) (pat : Pat) (p : Val) (n : ℕ) (c : Choice) (arm : ℕ → List Val → Outcome A) (x y : Outcome A) (rest : Option Choice)
+pub arm_taken : {A : Type 0} (P : A → Type 0) (pat : Pattern) (p : Val) (n : ℕ) (c : Choice) (arm : ℕ → List Val → Outcome A) (x y : Outcome A) (rest : Option Choice)
     → (meets pat (shown p) ≡ true → Both P (arm 0 (bound pat p)) x) → (rest ≡ Some c → Taken P (λ k. arm (suc k)) p (n + 1) c y)
     → (b : Bool) → meets pat (shown p) ≡ b → cond b (Some (n, bindings [] pat)) rest ≡ Some c → Taken P arm p n c (cond b x y)
 arm_taken P pat p n c arm x y rest here later true e h =

@@ -1,10 +1,11 @@
 -- Decisions of matches in terms that leave nothing open.
 use Rattle.std.proofs.Common.{◌≡◌, ℕ, suc, ◌+◌, Bool, true, false, cond, Option, Some, None, List, [], ◌∷◌, length, slice_get, refl, sym, ap, ◌∙◌, subst, arith}
+use Rattle.std.proofs.lemmas.Option.{same_Some as some_same}
 use Rattle.tsl_match.specs.Values.{Place, Value}
-use Rattle.tsl_match.specs.Patterns.{Pat}
+use Rattle.tsl_match.specs.Patterns.{Pattern}
 use Rattle.tsl_match.specs.Meets.{meets, bindings}
 use Rattle.tsl_match.specs.Picks.{Choice, numbered, first_match, picks}
-use Rattle.tsl_match.specs.Decisions.{Tree, row}
+use Rattle.tsl_match.specs.Decisions.{Decision, row}
 use Rattle.tsl_match.specs.Knowledge.{unknown}
 use Rattle.tsl_match.specs.Rule.{IsTree}
 use Rattle.tsl_match.specs.Answers as a
@@ -21,19 +22,18 @@ use Rattle.spec_types.specs.WellFormed.{IsWellFormed, is_type}
 use Rattle.meaning.specs.Steps.{shown}
 use Rattle.meaning_laws.specs.Total.{AreDecided, decision_of}
 use Rattle.core_meaning.specs.CoreTypes.{Decides}
-use Rattle.core_meaning.proofs.Lists.{some_same}
 use Rattle.core_meaning.proofs.Shaped.{some_of}
 use Rattle.core_meaning.proofs.Decides.{each_numbered, IsRow, decides}
 
 -- the row that is the first that a value meets, by its number from n on
-pub record Matched (n : ℕ) (ps : List Pat) (c : Choice) : Type 0 where
+pub record Matched (n : ℕ) (ps : List Pattern) (c : Choice) : Type 0 where
   pub k : ℕ
-  pub pattern : Pat
+  pub pattern : Pattern
   pub number : c.0 ≡ n + k
   pub there : slice_get ps k ≡ Some pattern
   pub binds : c.1 ≡ bindings [] pattern
 
-matched_more : (n : ℕ) (p : Pat) (ps : List Pat) (c : Choice) (rest : Option Choice) → (rest ≡ Some c → Matched (n + 1) ps c) → (b : Bool) → cond b (Some (n, bindings [] p)) rest ≡ Some c → Matched n (p ∷ ps) c
+matched_more : (n : ℕ) (p : Pattern) (ps : List Pattern) (c : Choice) (rest : Option Choice) → (rest ≡ Some c → Matched (n + 1) ps c) → (b : Bool) → cond b (Some (n, bindings [] p)) rest ≡ Some c → Matched n (p ∷ ps) c
 matched_more n p ps c rest later true h =
     let same = some_same (n, bindings [] p) c h in
     record { k = 0; pattern = p; number = sym (ap (λ z. z.0) same) ∙ (let none : n ≡ n + 0 = omega arith in none); there = refl; binds = sym (ap (λ z. z.1) same) }
@@ -42,12 +42,12 @@ matched_more n p ps c rest later false h =
     let same = m.number in
     record { k = suc m.k; pattern = m.pattern; number = omega (arith, same); there = m.there; binds = m.binds }
 
-pub matched : (n : ℕ) (ps : List Pat) (x : Value) (c : Choice) → first_match (numbered n ps) x ≡ Some c → Matched n ps c
+pub matched : (n : ℕ) (ps : List Pattern) (x : Value) (c : Choice) → first_match (numbered n ps) x ≡ Some c → Matched n ps c
 matched n [] x c h = absurd cc
 matched n (p ∷ ps) x c h = matched_more n p ps c (first_match (numbered (n + 1) ps) x) (λ k. matched (n + 1) ps x c k) (meets p x) h
 
 -- a decision is a tree of the rule
-tree_in : (d : Decided) (n : ℕ) (t : Tree) → answer_by d n ≡ a.decision t → d ≡ a.tree t
+tree_in : (d : Decided) (n : ℕ) (t : Decision) → answer_by d n ≡ a.decision t → d ≡ a.tree t
 tree_in (a.fails p) n t h = absurd cc
 tree_in a.deeper n t h = absurd cc
 tree_in (a.tree u) n t h = at (first_unnamed u 0 n) h
@@ -56,7 +56,7 @@ tree_in (a.tree u) n t h = at (first_unnamed u 0 n) h
     at None k = let same : u ≡ t = cc in ap a.tree same
     at (Some r) k = absurd cc
 
-rule_tree : (types : Types) (s : Shape) (rows : List Pat) (t : Tree) → match_answer types s rows ≡ a.decision t → IsTree types (numbered 0 rows) (unknown s) t
+rule_tree : (types : Types) (s : Shape) (rows : List Pattern) (t : Decision) → match_answer types s rows ≡ a.decision t → IsTree types (numbered 0 rows) (unknown s) t
 unfolding match_answer
 rule_tree types s rows t h = decided_tree types (suc (all_sizes rows)) (numbered 0 rows) (unknown s) t (tree_in (decided types (suc (all_sizes rows)) (numbered 0 rows) (unknown s)) (length rows) t h)
 
@@ -66,7 +66,7 @@ module _ (env : Environment) (wf : IsWellFormed env) (P : ℕ → List (ℕ × P
   some_row = let p = some_of env wf ty is in let c = all p.0 p.1 in (c.0, matched 0 (patterns_of arms) (shown p.0) c.0 c.1, c.2)
 
   -- each row of the match is right, so the decision is
-  pub decision_right : ((k : ℕ) (p : Pat) → slice_get (patterns_of arms) k ≡ Some p → IsRow env P ty k p) → Decides env P ty (decision_of env ty arms)
+  pub decision_right : ((k : ℕ) (p : Pattern) → slice_get (patterns_of arms) k ≡ Some p → IsRow env P ty k p) → Decides env P ty (decision_of env ty arms)
   decision_right right = at (match_answer (shapes_of env) (shape_of ty) (patterns_of arms)) refl
     where
       alone : picks (row 0 []) (shown (some_of env wf ty is).0) ≡ Some some_row.0 → P 0 []

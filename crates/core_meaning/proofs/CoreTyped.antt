@@ -4,8 +4,9 @@ use Rattle.std.specs.Prelude.{is_some}
 use Rattle.std.specs.List.{list_all}
 use Rattle.std.proofs.lemmas.Bool.{false≢true}
 use Rattle.std.proofs.lemmas.List.Folds.{list_all-append}
+use Rattle.std.proofs.lemmas.Option.{same_Some as some_same}
 use Rattle.tsl_match.specs.Values.{Place}
-use Rattle.tsl_match.specs.Patterns.{Pat, Pats, any, bind, flag_is, word_is, case_is, no_pat, pat_then}
+use Rattle.tsl_match.specs.Patterns.{Pattern, Patterns, any, bind, flag_is, word_is, case_is, no_pat, pat_then}
 use Rattle.tsl_match.specs.Meets.{bindings}
 use Rattle.tsl_match.proofs.Truth.{and_left, and_right, both}
 use Rattle.spec_types.specs.declared.ty.Ty.{Ty}
@@ -17,16 +18,16 @@ use Rattle.spec_types.specs.Terms.{Term, Terms, Arms, patterns_of}
 use Rattle.spec_types.specs.TermTypes.{PatternTyped, PatternsTyped, HasType, HaveTypes, ArmsHaveType}
 use Rattle.spec_types.specs.Cores.{core_of, cores_of, arms_of, variable_types, type_in}
 use Rattle.spec_types.specs.WellFormed.{IsWellFormed, is_width, is_type, is_signature}
+use Rattle.spec_types.proofs.Lists.{all_at}
 use Rattle.tsl_values.specs.Types.{environment_of}
 use Rattle.meaning_laws.specs.Total.{AreDecided, IsTotal, AreTotal, AreTotalArms}
-use Rattle.meaning_laws.proofs.Values.{all_at, width_to}
+use Rattle.meaning_laws.proofs.Values.{width_to}
 use Rattle.meaning_laws.proofs.Bound.{variables_have, fields_are, data_is}
 use Rattle.meaning_laws.proofs.Turns.{params_are}
+use Rattle.meaning_laws.proofs.Terms.{map_at}
 use Rattle.core_meaning.specs.Places.{types_named}
 use Rattle.core_meaning.specs.CoreTypes.{HasCoreType, HaveCoreTypes, ArmHasType}
 use Rattle.core_meaning.specs.Laws.{CoresHaveTypes}
-use Rattle.core_meaning.proofs.Lists.{some_same}
-use Rattle.core_meaning.proofs.SameValues.{map_at}
 use Rattle.core_meaning.proofs.NamedTypes.{names_typed}
 use Rattle.core_meaning.proofs.Chosen.{some_row, decision_right}
 
@@ -43,7 +44,7 @@ module _ (env : Environment) (wf : IsWellFormed env) where
   fields_of d c (Some case) e = fields_are env wf d c case e
 
   mutual
-    variables_are : (n : ℕ) (ty : Ty) (p : Pat) (vars : List Ty) → PatternTyped env n ty p vars → is_type env ty ≡ true → are_types vars ≡ true
+    variables_are : (n : ℕ) (ty : Ty) (p : Pattern) (vars : List Ty) → PatternTyped env n ty p vars → is_type env ty ≡ true → are_types vars ≡ true
     variables_are n ty any vars h is = subst (λ z. are_types z ≡ true) (sym h) refl
     variables_are n ty (bind m) vars h is = subst (λ z. are_types z ≡ true) (sym h.1) (both (is_type env ty) true is refl)
     variables_are n Flag (flag_is b) vars h is = subst (λ z. are_types z ≡ true) (sym h) refl
@@ -51,7 +52,7 @@ module _ (env : Environment) (wf : IsWellFormed env) where
     variables_are n (DataTy d) (case_is c ps) vars h is = all_are n (fields_at (case_at env (DataTy d) c)) ps vars h (fields_of d c (case_at env (DataTy d) c) refl)
     variables_are n ty p vars h is = absurd h
 
-    all_are : (n : ℕ) (ts : List Ty) (ps : Pats) (vars : List Ty) → PatternsTyped env n ts ps vars → are_types ts ≡ true → are_types vars ≡ true
+    all_are : (n : ℕ) (ts : List Ty) (ps : Patterns) (vars : List Ty) → PatternsTyped env n ts ps vars → are_types ts ≡ true → are_types vars ≡ true
     all_are n [] no_pat vars h is = subst (λ z. are_types z ≡ true) (sym h) refl
     all_are n (ty ∷ ts) (pat_then p ps) vars h is =
         let here = variables_are n ty p h.0 h.2 (and_left (is_type env ty) (are_types ts) is) in
@@ -72,7 +73,7 @@ module _ (env : Environment) (wf : IsWellFormed env) where
   abbrev RowRight : List Ty → Ty → Arms → Ty → ℕ → List (ℕ × Place) → Type 0
   RowRight vars from arms ty r binds = (more : List Ty) × (types_named env from binds ≡ Some more) × ArmHasType env vars (arms_of env vars from arms) r more ty
 
-  record IsArm (vars : List Ty) (from : Ty) (arms : Arms) (ty : Ty) (r : ℕ) (p : Pat) : Type 0 where
+  record IsArm (vars : List Ty) (from : Ty) (arms : Arms) (ty : Ty) (r : ℕ) (p : Pattern) : Type 0 where
     right : RowRight vars from arms ty r (bindings [] p)
     n : ℕ
     named : List Ty
@@ -93,7 +94,7 @@ module _ (env : Environment) (wf : IsWellFormed env) where
 
   -- a match of arms that are right
   match_cored : (vars : List Ty) (x : Term) (arms : Arms) (ty : Ty) → IsCored vars x (type_in env vars x) → AreDecided env (type_in env vars x) arms
-      → ((r : ℕ) (p : Pat) → slice_get (patterns_of arms) r ≡ Some p → IsArm vars (type_in env vars x) arms ty r p) → IsCored vars (t.match_on x arms) ty
+      → ((r : ℕ) (p : Pattern) → slice_get (patterns_of arms) r ≡ Some p → IsArm vars (type_in env vars x) arms ty r p) → IsCored vars (t.match_on x arms) ty
   match_cored vars x arms ty h all each =
       let from = type_in env vars x in
       let some = (some_row env wf (RowRight vars from arms ty) from h.is arms all).1 in
@@ -162,7 +163,7 @@ module _ (env : Environment) (wf : IsWellFormed env) where
     all_cored (t.term_then x xs) vars (ty ∷ tys) h g all = ((cored x vars ty h.0 g.0 all).core, all_cored xs vars tys h.1 g.1 all)
 
     arms_cored : (arms : Arms) (vars : List Ty) (from ty : Ty) → ArmsHaveType env vars from arms ty → AreTotalArms env vars from arms → are_types vars ≡ true → is_type env from ≡ true
-        → (r : ℕ) (p : Pat) → slice_get (patterns_of arms) r ≡ Some p → IsArm vars from arms ty r p
+        → (r : ℕ) (p : Pattern) → slice_get (patterns_of arms) r ≡ Some p → IsArm vars from arms ty r p
     arms_cored t.no_arm vars from ty h g all is r p e = absurd cc
     arms_cored (t.arm_then pat body rest) vars from ty h g all is zero p e =
         let same : pat ≡ p = some_same pat p e in

@@ -1,10 +1,10 @@
 -- The tree of the rule tests places that are there, and its rows are those of the match.
 use Rattle.std.proofs.Common.{◌≡◌, ℕ, suc, ◌+◌, Bool, true, false, cond, Some, List, [], ◌∷◌, ◌++◌, map, slice_get, refl, sym, ap, ◌∙◌, subst, arith}
 use Rattle.tsl_match.specs.Values.{Place}
-use Rattle.tsl_match.specs.Patterns.{Pat}
+use Rattle.tsl_match.specs.Patterns.{Pattern}
 use Rattle.tsl_match.specs.Meets.{bindings}
 use Rattle.tsl_match.specs.Picks.{Row, numbered}
-use Rattle.tsl_match.specs.Decisions.{Tree, Trees, row, on_case, on_word, on_flag, no_tree, tree_then}
+use Rattle.tsl_match.specs.Decisions.{Decision, Decisions, row, on_case, on_word, on_flag, no_tree, tree_then}
 use Rattle.tsl_match.specs.Knowledge.{Knowledge, flag_known, word_known, others, case_known, unknowns, put}
 use Rattle.tsl_match.specs.Rule.{Test, flag_test, word_test, case_test, can_match, first_test, still, made_known, IsTree, AreTrees}
 use Rattle.tsl_match.specs.Limits.{CanAll}
@@ -20,27 +20,27 @@ use Rattle.core_meaning.proofs.Known.{IsKnown, AreKnown, fields_known, Looks, lo
 use Rattle.core_meaning.proofs.Shaped.{case_shapes, cases_shaped}
 
 -- what holds of each row
-abbrev pub EachRow : (ℕ → Pat → Type 0) → List Row → Type 0
+abbrev pub EachRow : (ℕ → Pattern → Type 0) → List Row → Type 0
 EachRow Q [] = Unit {0}
 EachRow Q (r ∷ rows) = Q r.0 r.1 × EachRow Q rows
 
-pub each_numbered : (Q : ℕ → Pat → Type 0) (n : ℕ) (ps : List Pat) → ((k : ℕ) (p : Pat) → slice_get ps k ≡ Some p → Q (n + k) p) → EachRow Q (numbered n ps)
+pub each_numbered : (Q : ℕ → Pattern → Type 0) (n : ℕ) (ps : List Pattern) → ((k : ℕ) (p : Pattern) → slice_get ps k ≡ Some p → Q (n + k) p) → EachRow Q (numbered n ps)
 each_numbered Q n [] h = tt
 each_numbered Q n (p ∷ ps) h =
     let none : n + 0 ≡ n = omega arith in
     (subst (λ z. Q z p) none (h 0 p refl), each_numbered Q (n + 1) ps (λ k q e. let same : n + suc k ≡ n + 1 + k = omega arith in subst (λ z. Q z q) same (h (suc k) q e)))
 
-each_more : (Q : ℕ → Pat → Type 0) (b : Bool) (r : Row) (rows : List Row) → Q r.0 r.1 → EachRow Q rows → EachRow Q (cond b (r ∷ rows) rows)
+each_more : (Q : ℕ → Pattern → Type 0) (b : Bool) (r : Row) (rows : List Row) → Q r.0 r.1 → EachRow Q rows → EachRow Q (cond b (r ∷ rows) rows)
 each_more Q true r rows h g = (h, g)
 each_more Q false r rows h g = g
 
-each_still : (Q : ℕ → Pat → Type 0) (rows : List Row) (k : Knowledge) → EachRow Q rows → EachRow Q (still rows k)
+each_still : (Q : ℕ → Pattern → Type 0) (rows : List Row) (k : Knowledge) → EachRow Q rows → EachRow Q (still rows k)
 each_still Q [] k h = h
 each_still Q (r ∷ rows) k h = each_more Q (can_match r.1 k) r (still rows k) h.0 (each_still Q rows k h.1)
 
 module _ (env : Environment) (P : ℕ → List (ℕ × Place) → Type 0) (ty : Ty) where
   -- a row of a pattern that may stand where values have the type
-  abbrev pub IsRow : ℕ → Pat → Type 0
+  abbrev pub IsRow : ℕ → Pattern → Type 0
   IsRow r p = P r (bindings [] p) × ((n : ℕ) × (vars : List Ty) × PatternTyped env n ty p vars)
 
   -- where the first row asks for a test
@@ -66,7 +66,7 @@ module _ (env : Environment) (P : ℕ → List (ℕ × Place) → Type 0) (ty : 
   later_cases d n c cases h j e k = let same : n + suc j ≡ n + 1 + j = omega arith in subst (λ z. case_at env (DataTy d) z ≡ Some e) same (h (suc j) e k)
 
   mutual
-    pub decides : (t : Tree) (rows : List Row) (k : Knowledge) → IsTree (shapes_of env) rows k t → EachRow IsRow rows → IsKnown env ty k → CanAll rows k → Decides env P ty t
+    pub decides : (t : Decision) (rows : List Row) (k : Knowledge) → IsTree (shapes_of env) rows k t → EachRow IsRow rows → IsKnown env ty k → CanAll rows k → Decides env P ty t
     decides (row r binds) [] k is each known can = absurd is
     decides (row r binds) (first ∷ rest) k is each known can = subst (λ bs. P r bs) (sym is.2) (subst (λ n. P n (bindings [] first.1)) (sym is.1) each.0.0)
     decides (on_flag at a b) [] k is each known can = absurd is
@@ -99,7 +99,7 @@ module _ (env : Environment) (P : ℕ → List (ℕ × Place) → Type 0) (ty : 
           all_decide arms (first ∷ rest) k at d 0 (cases_of (slice_get env.datas d)) (all_cases d) (subst (λ cs. AreTrees (shapes_of env) (first ∷ rest) k at (made_known 0 cs) arms) (cases_shaped env d) is.2) each shows,
         )
 
-    all_decide : (ts : Trees) (rows : List Row) (k : Knowledge) (at : Place) (d n : ℕ) (cases : List Case) → AreCases d n cases → AreTrees (shapes_of env) rows k at (made_known n (map case_shapes cases)) ts → EachRow IsRow rows
+    all_decide : (ts : Decisions) (rows : List Row) (k : Knowledge) (at : Place) (d n : ℕ) (cases : List Case) → AreCases d n cases → AreTrees (shapes_of env) rows k at (made_known n (map case_shapes cases)) ts → EachRow IsRow rows
         → ((o : Knowledge) → IsKnown env (DataTy d) o → IsKnown env ty (put k at o)) → AllDecide env P ty ts cases
     all_decide no_tree rows k at d n [] of are each shows = tt
     all_decide no_tree rows k at d n (c ∷ cases) of are each shows = absurd are

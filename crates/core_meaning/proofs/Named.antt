@@ -1,16 +1,16 @@
 -- The variables of a row name what those of its pattern name.
 use Rattle.std.proofs.Common.{◌≡◌, ℕ, zero, suc, ◌+◌, Bool, true, false, cond, ◌==◌, Option, Some, None, option_map, option_and_then, [], ◌∷◌, ◌++◌, refl, sym, ap, ◌∙◌, subst, arith}
-use Rattle.std.proofs.lemmas.Bool.{false≢true}
+use Rattle.std.proofs.lemmas.Bool.{false≢true, eqb-true as same_number}
+use Rattle.std.proofs.lemmas.Option.{same_Some as some_same}
 use Rattle.tsl_match.specs.Values.{Place}
-use Rattle.tsl_match.specs.Patterns.{Pat, Pats, any, bind, flag_is, word_is, case_is, no_pat, pat_then}
+use Rattle.tsl_match.specs.Patterns.{Pattern, Patterns, any, bind, flag_is, word_is, case_is, no_pat, pat_then}
 use Rattle.tsl_match.specs.Meets.{meets, all_meet, bindings, part_bindings}
 use Rattle.tsl_match.proofs.Truth.{and_left, and_right, equal_itself}
 use Rattle.tsl_values.specs.Values as v
 use Rattle.tsl_values.specs.Values.{Val, Vals}
 use Rattle.meaning.specs.Steps.{shown, all_shown, bound, all_bound}
-use Rattle.meaning_laws.proofs.Values.{same_number}
 use Rattle.core_meaning.specs.Places.{all_of, val_at, val_in, vals_named}
-use Rattle.core_meaning.proofs.Lists.{some_same, all_both}
+use Rattle.core_meaning.proofs.Lists.{all_both}
 
 -- ---- places one behind the other
 within : (b : Bool) (x y : Option Val) (z : Option Val) (u : Val) → cond b x None ≡ Some u → (x ≡ Some u → y ≡ z) → cond b y None ≡ z
@@ -49,7 +49,7 @@ later_fields root at c i p vs h j u k = let number : i + suc j ≡ i + 1 + j = o
 
 mutual
   -- in a value that meets the pattern at a place
-  named_at : (root : Val) (at : Place) (pat : Pat) (p : Val) → val_at at root ≡ Some p → meets pat (shown p) ≡ true → all_of (λ b. val_at b.1 root) (bindings at pat) ≡ Some (bound pat p)
+  named_at : (root : Val) (at : Place) (pat : Pattern) (p : Val) → val_at at root ≡ Some p → meets pat (shown p) ≡ true → all_of (λ b. val_at b.1 root) (bindings at pat) ≡ Some (bound pat p)
   named_at root at any p h m = refl
   named_at root at (bind n) p h m = ap (λ o. option_and_then (λ x. option_map (λ xs. x ∷ xs) (Some [])) o) h
   named_at root at (flag_is b) p h m = refl
@@ -61,7 +61,7 @@ mutual
       let same = same_number c d (and_left (c == d) (all_meet ps (all_shown vs)) m) in
       parts_named root at c 0 ps vs (has_fields root at t c d vs h same) (and_right (c == d) (all_meet ps (all_shown vs)) m)
 
-  parts_named : (root : Val) (at : Place) (c i : ℕ) (ps : Pats) (vs : Vals) → HasFields root at c i vs → all_meet ps (all_shown vs) ≡ true → all_of (λ b. val_at b.1 root) (part_bindings at c i ps) ≡ Some (all_bound ps vs)
+  parts_named : (root : Val) (at : Place) (c i : ℕ) (ps : Patterns) (vs : Vals) → HasFields root at c i vs → all_meet ps (all_shown vs) ≡ true → all_of (λ b. val_at b.1 root) (part_bindings at c i ps) ≡ Some (all_bound ps vs)
   parts_named root at c i no_pat vs h m = refl
   parts_named root at c i (pat_then p ps) v.no_val h m = absurd (false≢true m)
   parts_named root at c i (pat_then p ps) (v.val_then x vs) h m =
@@ -69,5 +69,5 @@ mutual
       let later = parts_named root at c (i + 1) ps vs (later_fields root at c i x vs h) (and_right (meets p (shown x)) (all_meet ps (all_shown vs)) m) in
       all_both (λ b. val_at b.1 root) (bindings (at ++ (c, i) ∷ []) p) (part_bindings at c (i + 1) ps) (bound p x) (all_bound ps vs) here later
 
-pub names_bound : (pat : Pat) (p : Val) → meets pat (shown p) ≡ true → vals_named p (bindings [] pat) ≡ Some (bound pat p)
+pub names_bound : (pat : Pattern) (p : Val) → meets pat (shown p) ≡ true → vals_named p (bindings [] pat) ≡ Some (bound pat p)
 names_bound pat p m = named_at p [] pat p refl m

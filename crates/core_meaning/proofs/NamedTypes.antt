@@ -1,7 +1,7 @@
 -- What the variables of a row name has the types of its pattern's variables.
 use Rattle.std.proofs.Common.{◌≡◌, ℕ, suc, ◌+◌, Option, Some, None, option_map, option_and_then, List, [], ◌∷◌, ◌++◌, length, slice_get, refl, sym, ap, ◌∙◌, subst, arith}
 use Rattle.tsl_match.specs.Values.{Place}
-use Rattle.tsl_match.specs.Patterns.{Pat, Pats, any, bind, flag_is, word_is, case_is, no_pat, pat_then}
+use Rattle.tsl_match.specs.Patterns.{Pattern, Patterns, any, bind, flag_is, word_is, case_is, no_pat, pat_then}
 use Rattle.tsl_match.specs.Meets.{bindings, part_bindings}
 use Rattle.spec_types.specs.declared.ty.Ty.{Ty}
 use Rattle.spec_types.specs.declared.ty.Ty.TheVariants.{Bool as Flag, Word, Data as DataTy}
@@ -41,7 +41,7 @@ module _ (env : Environment) where
   typed_of root binds = all_of (λ b. type_at env root b.1) binds
 
   mutual
-    typed_at : (root : Ty) (at : Place) (n : ℕ) (ty : Ty) (p : Pat) (vars : List Ty) → type_at env root at ≡ Some ty → PatternTyped env n ty p vars → typed_of root (bindings at p) ≡ Some vars
+    typed_at : (root : Ty) (at : Place) (n : ℕ) (ty : Ty) (p : Pattern) (vars : List Ty) → type_at env root at ≡ Some ty → PatternTyped env n ty p vars → typed_of root (bindings at p) ≡ Some vars
     typed_at root at n ty any vars h k = ap Some (sym k)
     typed_at root at n ty (bind m) vars h k = ap (λ o. option_and_then (λ x. option_map (λ xs. x ∷ xs) (Some [])) o) h ∙ ap Some (sym k.1)
     typed_at root at n Flag (flag_is b) vars h k = ap Some (sym k)
@@ -49,7 +49,7 @@ module _ (env : Environment) where
     typed_at root at n (DataTy t) (case_is c ps) vars h k = parts_typed root at c 0 n (fields_at (case_at env (DataTy t) c)) ps vars (has_fields root at (DataTy t) c h) k
     typed_at root at n ty p vars h k = absurd k
 
-    parts_typed : (root : Ty) (at : Place) (c i n : ℕ) (ts : List Ty) (ps : Pats) (vars : List Ty) → HasFields root at c i ts → PatternsTyped env n ts ps vars → typed_of root (part_bindings at c i ps) ≡ Some vars
+    parts_typed : (root : Ty) (at : Place) (c i n : ℕ) (ts : List Ty) (ps : Patterns) (vars : List Ty) → HasFields root at c i ts → PatternsTyped env n ts ps vars → typed_of root (part_bindings at c i ps) ≡ Some vars
     parts_typed root at c i n [] no_pat vars h k = ap Some (sym k)
     parts_typed root at c i n (t ∷ ts) (pat_then p ps) vars h k =
         let here = typed_at root (at ++ (c, i) ∷ []) n t p k.0 (first_field root at c i t ts h) k.2 in
@@ -57,5 +57,5 @@ module _ (env : Environment) where
         all_both (λ b. type_at env root b.1) (bindings (at ++ (c, i) ∷ []) p) (part_bindings at c (i + 1) ps) k.0 k.1 here later ∙ ap Some (sym k.4)
     parts_typed root at c i n ts ps vars h k = absurd k
 
-  pub names_typed : (n : ℕ) (ty : Ty) (p : Pat) (vars : List Ty) → PatternTyped env n ty p vars → types_named env ty (bindings [] p) ≡ Some vars
+  pub names_typed : (n : ℕ) (ty : Ty) (p : Pattern) (vars : List Ty) → PatternTyped env n ty p vars → types_named env ty (bindings [] p) ≡ Some vars
   names_typed n ty p vars h = typed_at ty [] n ty p vars refl h

@@ -1,13 +1,12 @@
 -- Core terms have the values of the terms, where variables have values of their types.
-use Rattle.std.proofs.Common.{◌≡◌, ℕ, zero, suc, ◌+◌, ◌<◌, true, ◌==◌, Some, List, [], ◌∷◌, ◌++◌, length, slice_get, refl, sym, subst, arith}
+use Rattle.std.proofs.Common.{◌≡◌, ℕ, ◌+◌, true, ◌==◌, Some, List, [], ◌∷◌, ◌++◌, length, slice_get, refl, sym, subst}
 use Rattle.std.specs.List.{list_all}
 use Rattle.base_trait.specs.Uses.{Read}
-use Rattle.tsl_match.specs.Patterns.{Pat}
+use Rattle.tsl_match.specs.Patterns.{Pattern}
 use Rattle.tsl_match.specs.Meets.{meets}
 use Rattle.tsl_match.specs.Picks.{Choice, numbered, first_match, picks}
 use Rattle.spec_types.specs.declared.ty.Ty.{Ty}
 use Rattle.spec_types.specs.declared.ty.Ty.TheVariants.{Bool as Flag, Word, Data as DataTy, Map as MapOf}
-use Rattle.spec_types.specs.declared.declared.MapTy.{MapTy}
 use Rattle.spec_types.specs.Environment.{Environment, Signature, key_type, value_type}
 use Rattle.spec_types.specs.Texts.{case_at, fields_at}
 use Rattle.spec_types.specs.Terms as t
@@ -28,16 +27,12 @@ use Rattle.meaning_laws.specs.Total.{IsTotal, AreTotal, AreTotalArms, decision_o
 use Rattle.meaning_laws.proofs.Values.{width_to, IsOf, AreOf, are_at, are_append, word_of, flag_of, unary_there, binary_there, compared_there, resized_there}
 use Rattle.meaning_laws.proofs.Maps.{accessed_there, updated_there}
 use Rattle.meaning_laws.proofs.Bound.{make_of, bound_of, variables_have}
+use Rattle.meaning_laws.proofs.Terms.{map_at}
 use Rattle.core_meaning.specs.CoreDirect.{core_value, core_values, core_arm}
 use Rattle.core_meaning.proofs.Both.{Both, bind_both, either_both, branch_both, given_both, seen_both, taken_as, Taken, arm_taken, arm_chosen}
 
-pub map_at : (maps : List MapTy) (m : ℕ) → m < length maps → (d : MapTy) × (slice_get maps m ≡ Some d)
-map_at [] m h = absurd (omega (arith, h))
-map_at (d ∷ maps) zero h = (d, refl)
-map_at (d ∷ maps) (suc m) h = map_at maps m (omega (arith, h))
-
 -- values of the variables of a pattern behind others
-pub behind : (env : Environment) (wf : IsWellFormed env) (vars : List Ty) (from : Ty) (vs : List Val) (p : Val) (pat : Pat) (more : List Ty) → AreOf env vars vs → IsOf env from p → PatternTyped env (length vars) from pat more → meets pat (shown p) ≡ true
+pub behind : (env : Environment) (wf : IsWellFormed env) (vars : List Ty) (from : Ty) (vs : List Val) (p : Val) (pat : Pattern) (more : List Ty) → AreOf env vars vs → IsOf env from p → PatternTyped env (length vars) from pat more → meets pat (shown p) ≡ true
     → AreOf env (vars ++ variable_types env from pat) (vs ++ bound pat p)
 behind env wf vars from vs p pat more are q h m =
     subst (λ zs. AreOf env (vars ++ zs) (vs ++ bound pat p)) (sym (variables_have env (length vars) from pat more h)) (are_append env vars more vs (bound pat p) are (bound_of env wf (length vars) from pat more p h q m))

@@ -2,8 +2,9 @@
 use Rattle.std.proofs.Common.{◌≡◌, ℕ, ◌<◌, ◌^◌, true, ◌==◌, Option, Some, None, option_map, unwrap_or, List, [], ◌∷◌, length, map, slice_get, refl, sym, ap, ◌∙◌, subst, pow_pos}
 use Rattle.std.specs.Prelude.{nat_lt}
 use Rattle.std.specs.List.{list_all}
-use Rattle.std.proofs.lemmas.Option.{slice_get-map}
+use Rattle.std.proofs.lemmas.Option.{slice_get-map, same_Some as some_same}
 use Rattle.std.proofs.lemmas.List.{length-map}
+use Rattle.std.proofs.lemmas.Bool.{lt-ltb as less_is, ltb-true as is_less}
 use Rattle.base_trait.specs.declared.uses.Stamped.TheVariants.{At}
 use Rattle.tsl_match.specs.declared.shape.Shape.{Shape}
 use Rattle.tsl_match.specs.Values as m
@@ -16,14 +17,13 @@ use Rattle.spec_types.specs.declared.ty.Ty.TheVariants.{Bool as Flag, Word, Data
 use Rattle.spec_types.specs.Environment.{Environment, Data, Case, field_types, shape_of, shapes_of}
 use Rattle.spec_types.specs.Texts.{cases_of as cases_in, case_at}
 use Rattle.spec_types.specs.WellFormed.{IsWellFormed, is_type}
+use Rattle.spec_types.proofs.Checks.{width_is as width_from}
 use Rattle.tsl_values.specs.declared.value.Cell.{Cell}
 use Rattle.tsl_values.specs.Values as v
 use Rattle.tsl_values.specs.Values.{Val, Vals}
 use Rattle.tsl_values.specs.Types.{of_case, map_fits, has_type, have_types}
-use Rattle.meaning_laws.proofs.Values.{is_less, less_is, width_from}
 use Rattle.meaning_laws.proofs.Bound.{fields_are}
-use Rattle.core_meaning.proofs.Lists.{some_same}
-use Rattle.core_meaning.proofs.SameValues.{map_at}
+use Rattle.meaning_laws.proofs.Terms.{map_at}
 
 abbrev pub case_shapes : Case → List Shape
 case_shapes c = map shape_of (field_types c)

@@ -2,7 +2,7 @@
 use Rattle.std.specs.Prelude.{◌≡◌, ⊤, ℕ, zero, suc, ◌^◌, ◌<◌, true, Some, List, [], ◌∷◌, ◌++◌, length, slice_get, is_some}
 use Rattle.word_ops.specs.Width.{IsWidth}
 use Rattle.tsl_match.specs.Values.{Place}
-use Rattle.tsl_match.specs.Decisions.{Tree, Trees, row, on_case, on_word, on_flag, no_tree, tree_then}
+use Rattle.tsl_match.specs.Decisions.{Decision, Decisions, row, on_case, on_word, on_flag, no_tree, tree_then}
 use Rattle.spec_types.specs.declared.ty.Ty.{Ty}
 use Rattle.spec_types.specs.declared.ty.Ty.TheVariants.{Bool as Flag, Word, Data as DataTy, Map as MapOf}
 use Rattle.spec_types.specs.Environment.{Environment, Case, Signature, key_type, value_type}
@@ -15,14 +15,14 @@ module _ (env : Environment) where
   module _ (P : ℕ → List (ℕ × Place) → Type 0) (ty : Ty) where
     abbrev mutual
       -- A decision tests values of a type at places that are there, and each row that it picks has what P says.
-      pub Decides : Tree → Type 0
+      pub Decides : Decision → Type 0
       Decides (row r binds) = P r binds
       Decides (on_case at arms) = (d : ℕ) × (type_at env ty at ≡ Some (DataTy d)) × AllDecide arms (cases_of (slice_get env.datas d))
       Decides (on_word at n a b) = (w : ℕ) × (type_at env ty at ≡ Some (Word w)) × (n < 2 ^ w) × Decides a × Decides b
       Decides (on_flag at a b) = (type_at env ty at ≡ Some Flag) × Decides a × Decides b
 
       -- an arm for each constructor
-      pub AllDecide : Trees → List Case → Type 0
+      pub AllDecide : Decisions → List Case → Type 0
       AllDecide no_tree [] = ⊤
       AllDecide (tree_then t ts) (c ∷ cases) = Decides t × AllDecide ts cases
       AllDecide _ _ = ⊥

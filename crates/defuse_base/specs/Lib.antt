@@ -1,3 +1,3 @@
-pub mod Laws
+pub mod Instance
 pub mod Meaning
 pub mod Notes

@@ -2,7 +2,7 @@
 
 ghost use Rattle.std.specs.Prelude.{◌≡◌, ◌∷◌, [], IfOk};
 ghost use Rattle.base_trait.specs.Stamps.{AreAscending};
-ghost use Rattle.defuse_base.specs.Laws.{same_notes};
+ghost use Rattle.defuse_base.specs.Instance.{same_notes};
 ghost use Rattle.defuse_base.specs.Notes.{union};
 
 use super::union::united;
@@ -30,7 +30,7 @@ impl Model for Stamps {
 }
 
 impl PartialEq for Stamps {
-    ghost use Rattle.defuse_base.specs.Laws.{same_notes, same_notes_partial};
+    ghost use Rattle.defuse_base.specs.Instance.{same_notes, same_notes_partial};
 
     ghost eq = { same_notes };
 
@@ -42,7 +42,7 @@ impl PartialEq for Stamps {
 }
 
 impl Eq for Stamps {
-    ghost use Rattle.defuse_base.specs.Laws.{same_notes_equiv};
+    ghost use Rattle.defuse_base.specs.Instance.{same_notes_equiv};
 
     ghost laws = { same_notes_equiv };
 }
@@ -50,7 +50,7 @@ impl Eq for Stamps {
 impl Hash for Stamps {
     ghost use Rattle.std.proofs.Common.{ap};
     ghost use Rattle.std.specs.Hash as fed;
-    ghost use Rattle.defuse_base.specs.Laws.{same_notes_is};
+    ghost use Rattle.defuse_base.specs.Instance.{same_notes_is};
 
     ghost hash_input = { λ s. fed.slice ⟦<Stamped as Hash>⟧.hash_input s };
 

@@ -11,7 +11,6 @@ use recursion_fix::{
     turns_are_in_order, turns_fit, turns_go_on, widened_answers_exist, widened_answers_succeed,
 };
 use std::alloc::{AllocError, Global};
-use std::process::Abort;
 use std::test::Fail;
 
 /// The numbers are 0 to 99.
@@ -107,27 +106,34 @@ impl Turn for Intervals {
     } };
 }
 
-fn from_to(low: u32, high: u32) -> Interval {
-    Interval { low, high }
+/// The first and the last of some numbers.
+type Ends = (u32, u32);
+
+/// The leaves that a turn gives and the arguments on which it calls again, each if there are some.
+type Given = (Option<Ends>, Option<Ends>);
+
+/// What a driver is to answer at last.
+#[derive(Clone, Copy)]
+enum Answer {
+    Turn,
+    Out(Option<Ends>),
+    Deep,
 }
 
-// What a turn gives that calls again on these numbers and has no leaves.
-fn asks(low: u32, high: u32) -> (Option<Interval>, Option<Interval>) {
-    (None, Some(from_to(low, high)))
+fn numbers(ends: Option<Ends>) -> Option<Interval> {
+    match ends {
+        Some((low, high)) => Some(Interval { low, high }),
+        None => None,
+    }
 }
 
-// What a turn gives that calls again on the second numbers, and has leaves.
-fn gives(leaves: Interval, next: Interval) -> (Option<Interval>, Option<Interval>) {
-    (Some(leaves), Some(next))
-}
-
-// What a turn gives that has leaves alone.
-fn leaves(low: u32, high: u32) -> (Option<Interval>, Option<Interval>) {
-    (Some(from_to(low, high)), None)
-}
-
-fn out(low: u32, high: u32) -> Asked<Interval> {
-    Asked::Out(Some(from_to(low, high)))
+fn is_answer(asked: Asked<Interval>, wanted: Answer) -> bool {
+    match (asked, wanted) {
+        (Asked::Turn, Answer::Turn) => true,
+        (Asked::Deep, Answer::Deep) => true,
+        (Asked::Out(out), Answer::Out(wanted)) => out == numbers(wanted),
+        _ => false,
+    }
 }
 
 /// Whether the numbers are at most the last one.
@@ -140,228 +146,296 @@ fn is_within(x: &Option<Interval>) -> bool
     }
 }
 
-/// Gives a driver what its turns give, and compares the arguments on which it asks for turns, and
-/// its answer: `Turn` where it asks for more turns than are given.
-fn check(
-    rt: &impl Abort,
+/// Whether a policy allows a turn.
+fn has_turn(policy: Policy) -> bool
+    ensures { IsTrue result → HasTurn policy }
+{
+    match policy {
+        Policy::Stop { turns } => turns >= 1,
+        Policy::Widen {
+            unroll: _unroll,
+            delay: _delay,
+        } => true,
+    }
+}
+
+/// Whether a driver asks for turns on just these arguments, of which it begins with the first, where the turns give these, and then
+/// answers so: `Turn` where it asks for more turns than are given.
+fn drives(
     alloc: Global,
     policy: Policy,
-    args: Interval,
-    given: &[(Option<Interval>, Option<Interval>)],
-    on: &[Interval],
-    answer: Asked<Interval>,
-) -> Result<(), AllocError>
-    requires { HasTurn policy }
-{
-    assert!(rt; args.high <= TOP);
-    let mut driver: Driver<Intervals> = Driver::new(args, policy);
-    let mut asked_on = Vec::new(alloc);
-    let mut answered = Asked::Turn;
-    for (out, next) in given {
-        assert!(rt; is_within(next));
-        asked_on.push(*driver.args())?;
-        match driver.give(alloc, &mut Intervals, *out, *next)? {
+    given: &[Given],
+    on: &[Ends],
+    answer: Answer,
+) -> Result<bool, AllocError> {
+    if on.len() != given.len() || on.is_empty() || on[0].1 > TOP || !has_turn(policy) {
+        return Ok(false);
+    }
+    let (low, high) = on[0];
+    let mut driver: Driver<Intervals> = Driver::new(Interval { low, high }, policy);
+    for i in 0..given.len() {
+        let leaves = numbers(given[i].0);
+        let next = numbers(given[i].1);
+        let args = *driver.args();
+        if args.low != on[i].0 || args.high != on[i].1 || !is_within(&next) {
+            return Ok(false);
+        }
+        match driver.give(alloc, &mut Intervals, leaves, next)? {
             Asked::Turn => {}
-            end => {
-                answered = end;
-                break;
-            }
+            end => return Ok(is_answer(end, answer) && i == given.len() - 1),
         }
     }
-    assert_eq!(rt; asked_on.as_slice(), on, "{policy:?}");
-    assert_eq!(rt; answered, answer, "{policy:?}");
-    Ok(())
+    Ok(is_answer(Asked::Turn, answer))
 }
 
-#[test]
-fn stops(rt: HostRuntime) -> Result<(), Fail> {
-    let alloc = rt.alloc();
-    let start = from_to(0, 9);
+/// What is shown, a policy, what the turns give, the arguments that are asked for, and the answer.
+type Case = (
+    &'static str,
+    Policy,
+    &'static [Given],
+    &'static [Ends],
+    Answer,
+);
 
-    // The only turn ends, with leaves, without, and by asking for another.
-    let one = Policy::Stop { turns: 1 };
-    check(&rt, alloc, one, start, &[leaves(5, 5)], &[start], out(5, 5))?;
-    check(
-        &rt,
-        alloc,
-        one,
-        start,
+const CASES: &[Case] = &[
+    (
+        "a last turn with leaves",
+        Policy::Stop { turns: 1 },
+        &[(Some((5, 5)), None)],
+        &[(0, 9)],
+        Answer::Out(Some((5, 5))),
+    ),
+    (
+        "a last turn without leaves",
+        Policy::Stop { turns: 1 },
         &[(None, None)],
-        &[start],
-        Asked::Out(None),
-    )?;
-    check(&rt, alloc, one, start, &[asks(1, 9)], &[start], Asked::Deep)?;
-
-    // The next arguments replace the old, also where the old would absorb them.
-    let three = Policy::Stop { turns: 3 };
-    let on = [start, from_to(1, 9), from_to(40, 50)];
-    let given = [asks(1, 9), asks(40, 50), leaves(3, 4)];
-    check(&rt, alloc, three, start, &given, &on, out(3, 4))?;
-    let given = [asks(1, 9), asks(40, 50), gives(from_to(3, 4), start)];
-    check(&rt, alloc, three, start, &given, &on, Asked::Deep)?;
-    check(&rt, alloc, three, start, &given[..2], &on[..2], Asked::Turn)?;
-    Ok(())
-}
-
-#[test]
-fn unrolls(rt: HostRuntime) -> Result<(), Fail> {
-    let alloc = rt.alloc();
-
-    // A chain that ends within the unrolled turns, with the last of them, and one turn later.
-    let policy = Policy::Widen {
-        unroll: 2,
-        delay: 0,
-    };
-    let on = [from_to(9, 9), from_to(1, 1), from_to(2, 2)];
-    let given = [asks(1, 1), asks(2, 2), leaves(7, 7)];
-    check(
-        &rt,
-        alloc,
-        policy,
-        on[0],
-        &[leaves(8, 8)],
-        &on[..1],
-        out(8, 8),
-    )?;
-    check(
-        &rt,
-        alloc,
-        policy,
-        on[0],
-        &[asks(1, 1), leaves(8, 8)],
-        &on[..2],
-        out(8, 8),
-    )?;
-    check(&rt, alloc, policy, on[0], &given, &on, out(7, 7))?;
-
-    // Nothing is absorbed in the unrolled turns, and from then on at once.
-    let on = [from_to(0, 50), from_to(3, 4), from_to(3, 4)];
-    let given = [asks(3, 4), asks(3, 4), gives(from_to(6, 6), from_to(4, 4))];
-    check(&rt, alloc, policy, on[0], &given, &on, out(6, 6))?;
-
-    // With no unrolled turn, the given arguments are the first that grow.
-    let policy = Policy::Widen {
-        unroll: 0,
-        delay: 2,
-    };
-    let on = [from_to(0, 0), from_to(0, 1), from_to(0, 2), from_to(0, 99)];
-    let given = [
-        asks(1, 1),
-        asks(1, 2),
-        asks(1, 3),
-        gives(from_to(5, 5), from_to(1, 99)),
-    ];
-    check(&rt, alloc, policy, on[0], &given, &on, out(5, 5))?;
-    check(
-        &rt,
-        alloc,
-        policy,
-        on[0],
-        &[gives(from_to(5, 5), from_to(0, 0))],
-        &on[..1],
-        out(5, 5),
-    )?;
-    Ok(())
-}
-
-#[test]
-fn widens(rt: HostRuntime) -> Result<(), Fail> {
-    let alloc = rt.alloc();
-
-    // `count` of the crate's documentation.
-    let policy = Policy::Widen {
-        unroll: 2,
-        delay: 1,
-    };
-    let on = [
-        from_to(0, 0),
-        from_to(1, 1),
-        from_to(2, 2),
-        from_to(2, 3),
-        from_to(2, 99),
-    ];
-    let given = [
-        asks(1, 1),
-        asks(2, 2),
-        asks(3, 3),
-        asks(3, 4),
-        gives(from_to(10, 99), from_to(3, 10)),
-    ];
-    check(&rt, alloc, policy, on[0], &given, &on, out(10, 99))?;
-
-    // What absorbs the old arguments is not absorbed by them.
-    let on = [
-        from_to(5, 5),
-        from_to(6, 6),
-        from_to(20, 30),
-        from_to(19, 31),
-        from_to(19, 99),
-    ];
-    let given = [
-        asks(6, 6),
-        asks(20, 30),
-        asks(19, 31),
-        asks(20, 32),
-        asks(20, 50),
-    ];
-    check(&rt, alloc, policy, on[0], &given, &on, Asked::Out(None))?;
-
-    // A chain of widenings: each end in its turn.
-    let policy = Policy::Widen {
-        unroll: 0,
-        delay: 0,
-    };
-    let on = [from_to(5, 5), from_to(5, 99), from_to(0, 99)];
-    let given = [asks(6, 6), asks(4, 5), asks(0, 98)];
-    check(&rt, alloc, policy, on[0], &given, &on, Asked::Out(None))?;
-    check(
-        &rt,
-        alloc,
-        policy,
-        on[0],
-        &given[..2],
-        &on[..2],
-        Asked::Turn,
-    )?;
-    Ok(())
-}
-
-#[test]
-fn joins_the_leaves_of_all_turns(rt: HostRuntime) -> Result<(), Fail> {
-    let alloc = rt.alloc();
-    let policy = Policy::Widen {
-        unroll: 1,
-        delay: 1,
-    };
-    let on = [from_to(0, 0), from_to(1, 1), from_to(1, 2), from_to(1, 99)];
-
-    let given = [
-        asks(1, 1),
-        gives(from_to(7, 8), from_to(2, 2)),
-        asks(1, 3),
-        leaves(4, 5),
-    ];
-    check(&rt, alloc, policy, on[0], &given, &on, out(4, 8))?;
-    let given = [
-        gives(from_to(40, 40), from_to(1, 1)),
-        asks(2, 2),
-        asks(1, 3),
-        (None, None),
-    ];
-    check(&rt, alloc, policy, on[0], &given, &on, out(40, 40))?;
-    let given = [asks(1, 1), asks(2, 2), asks(1, 3), asks(50, 60)];
-    check(&rt, alloc, policy, on[0], &given, &on, Asked::Out(None))?;
-
-    let given = [gives(from_to(40, 41), from_to(1, 1)), leaves(3, 3)];
-    check(
-        &rt,
-        alloc,
+        &[(0, 9)],
+        Answer::Out(None),
+    ),
+    (
+        "a last turn asks for another",
+        Policy::Stop { turns: 1 },
+        &[(None, Some((1, 9)))],
+        &[(0, 9)],
+        Answer::Deep,
+    ),
+    (
+        "the next arguments replace the old, also where these would absorb them",
+        Policy::Stop { turns: 3 },
+        &[
+            (None, Some((1, 9))),
+            (None, Some((40, 50))),
+            (Some((3, 4)), None),
+        ],
+        &[(0, 9), (1, 9), (40, 50)],
+        Answer::Out(Some((3, 4))),
+    ),
+    (
+        "the last turn has leaves and asks for another",
+        Policy::Stop { turns: 3 },
+        &[
+            (None, Some((1, 9))),
+            (None, Some((40, 50))),
+            (Some((3, 4)), Some((0, 9))),
+        ],
+        &[(0, 9), (1, 9), (40, 50)],
+        Answer::Deep,
+    ),
+    (
+        "a turn is left",
+        Policy::Stop { turns: 3 },
+        &[(None, Some((1, 9))), (None, Some((40, 50)))],
+        &[(0, 9), (1, 9)],
+        Answer::Turn,
+    ),
+    (
+        "a chain ends before the last unrolled turn",
+        Policy::Widen {
+            unroll: 2,
+            delay: 0,
+        },
+        &[(Some((8, 8)), None)],
+        &[(9, 9)],
+        Answer::Out(Some((8, 8))),
+    ),
+    (
+        "a chain ends with the last unrolled turn",
+        Policy::Widen {
+            unroll: 2,
+            delay: 0,
+        },
+        &[(None, Some((1, 1))), (Some((8, 8)), None)],
+        &[(9, 9), (1, 1)],
+        Answer::Out(Some((8, 8))),
+    ),
+    (
+        "a chain ends one turn later",
+        Policy::Widen {
+            unroll: 2,
+            delay: 0,
+        },
+        &[
+            (None, Some((1, 1))),
+            (None, Some((2, 2))),
+            (Some((7, 7)), None),
+        ],
+        &[(9, 9), (1, 1), (2, 2)],
+        Answer::Out(Some((7, 7))),
+    ),
+    (
+        "nothing is absorbed in unrolled turns, and then at once",
+        Policy::Widen {
+            unroll: 2,
+            delay: 0,
+        },
+        &[
+            (None, Some((3, 4))),
+            (None, Some((3, 4))),
+            (Some((6, 6)), Some((4, 4))),
+        ],
+        &[(0, 50), (3, 4), (3, 4)],
+        Answer::Out(Some((6, 6))),
+    ),
+    (
+        "with no unrolled turn the first arguments grow",
+        Policy::Widen {
+            unroll: 0,
+            delay: 2,
+        },
+        &[
+            (None, Some((1, 1))),
+            (None, Some((1, 2))),
+            (None, Some((1, 3))),
+            (Some((5, 5)), Some((1, 99))),
+        ],
+        &[(0, 0), (0, 1), (0, 2), (0, 99)],
+        Answer::Out(Some((5, 5))),
+    ),
+    (
+        "the first arguments absorb the next",
+        Policy::Widen {
+            unroll: 0,
+            delay: 2,
+        },
+        &[(Some((5, 5)), Some((0, 0)))],
+        &[(0, 0)],
+        Answer::Out(Some((5, 5))),
+    ),
+    (
+        "`count` of the crate's documentation",
+        Policy::Widen {
+            unroll: 2,
+            delay: 1,
+        },
+        &[
+            (None, Some((1, 1))),
+            (None, Some((2, 2))),
+            (None, Some((3, 3))),
+            (None, Some((3, 4))),
+            (Some((10, 99)), Some((3, 10))),
+        ],
+        &[(0, 0), (1, 1), (2, 2), (2, 3), (2, 99)],
+        Answer::Out(Some((10, 99))),
+    ),
+    (
+        "what absorbs the old arguments is not absorbed by them",
+        Policy::Widen {
+            unroll: 2,
+            delay: 1,
+        },
+        &[
+            (None, Some((6, 6))),
+            (None, Some((20, 30))),
+            (None, Some((19, 31))),
+            (None, Some((20, 32))),
+            (None, Some((20, 50))),
+        ],
+        &[(5, 5), (6, 6), (20, 30), (19, 31), (19, 99)],
+        Answer::Out(None),
+    ),
+    (
+        "each end is widened in its turn",
+        Policy::Widen {
+            unroll: 0,
+            delay: 0,
+        },
+        &[
+            (None, Some((6, 6))),
+            (None, Some((4, 5))),
+            (None, Some((0, 98))),
+        ],
+        &[(5, 5), (5, 99), (0, 99)],
+        Answer::Out(None),
+    ),
+    (
+        "two ends are widened",
+        Policy::Widen {
+            unroll: 0,
+            delay: 0,
+        },
+        &[(None, Some((6, 6))), (None, Some((4, 5)))],
+        &[(5, 5), (5, 99)],
+        Answer::Turn,
+    ),
+    (
+        "leaves of two turns are joined",
+        Policy::Widen {
+            unroll: 1,
+            delay: 1,
+        },
+        &[
+            (None, Some((1, 1))),
+            (Some((7, 8)), Some((2, 2))),
+            (None, Some((1, 3))),
+            (Some((4, 5)), None),
+        ],
+        &[(0, 0), (1, 1), (1, 2), (1, 99)],
+        Answer::Out(Some((4, 8))),
+    ),
+    (
+        "the first turn alone has leaves",
+        Policy::Widen {
+            unroll: 1,
+            delay: 1,
+        },
+        &[
+            (Some((40, 40)), Some((1, 1))),
+            (None, Some((2, 2))),
+            (None, Some((1, 3))),
+            (None, None),
+        ],
+        &[(0, 0), (1, 1), (1, 2), (1, 99)],
+        Answer::Out(Some((40, 40))),
+    ),
+    (
+        "no turn has leaves",
+        Policy::Widen {
+            unroll: 1,
+            delay: 1,
+        },
+        &[
+            (None, Some((1, 1))),
+            (None, Some((2, 2))),
+            (None, Some((1, 3))),
+            (None, Some((50, 60))),
+        ],
+        &[(0, 0), (1, 1), (1, 2), (1, 99)],
+        Answer::Out(None),
+    ),
+    (
+        "leaves are joined where turns are counted",
         Policy::Stop { turns: 2 },
-        on[0],
-        &given,
-        &on[..2],
-        out(3, 41),
-    )?;
+        &[(Some((40, 41)), Some((1, 1))), (Some((3, 3)), None)],
+        &[(0, 0), (1, 1)],
+        Answer::Out(Some((3, 41))),
+    ),
+];
+
+#[test]
+fn drivers(rt: HostRuntime) -> Result<(), Fail> {
+    for (name, policy, given, on, answer) in CASES {
+        assert!(rt; drives(rt.alloc(), *policy, given, on, *answer)?, "{name}");
+    }
     Ok(())
 }
 

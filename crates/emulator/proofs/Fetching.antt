@@ -1,5 +1,6 @@
 -- Steps by what stands at the counter.
 use Rattle.std.proofs.Common.{◌≡◌, ℕ, Option, Some, None, [], ◌∷◌, sym, ap, ◌∙◌}
+use Rattle.std.proofs.lemmas.Option.{same_Some as same_some}
 use Rattle.spec_types.specs.declared.spec.Machine.{Machine}
 use Rattle.spec_types.specs.Specification.{Spec}
 use Rattle.tsl_values.specs.States.{State, value_of}
@@ -11,9 +12,6 @@ use Rattle.value_laws.specs.Abs.{Abs}
 use Rattle.base_trait.specs.declared.uses.Stamped.{Stamped}
 use Rattle.emulator.specs.States.{Shows, counter_in}
 use Rattle.emulator.proofs.Standing.{counter_shown}
-
-same_some : (m n : ℕ) → Some m ≡ Some n → m ≡ n
-same_some m n e = cc
 
 pub counter_is : (spec : Spec) (ty : ℕ) (s : State) (x : Abs ℕ Stamped) (at : ℕ) → Shows spec ty s x → counter_in x ≡ Some at → at ≡ s.pc
 counter_is spec ty s x at h is = same_some at s.pc (sym is ∙ counter_shown spec ty s x h)

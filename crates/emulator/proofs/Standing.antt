@@ -1,8 +1,7 @@
 -- Values that stand for states.
-use Rattle.std.proofs.Common.{◌≡◌, ℕ, suc, ◌+◌, ◌<◌, ◌≤◌, ◌^◌, true, Some, None, List, [], ◌∷◌, map as map_of, refl, sym, ap, ◌∙◌, subst, arith}
+use Rattle.std.proofs.Common.{◌≡◌, ℕ, suc, ◌+◌, ◌<◌, ◌^◌, true, Some, None, List, [], ◌∷◌, map as map_of, refl, sym, ap, ◌∙◌, subst, arith}
 use Rattle.std.specs.Prelude.{nat_le, if◌then◌else◌}
-use Rattle.std.proofs.lemmas.Bool.{lt-ltb}
-use Rattle.std.proofs.lemmas.Bool.Decides.{nat_tests}
+use Rattle.std.proofs.lemmas.Bool.{lt-ltb, le-leb as is_at_most}
 use Rattle.base_trait.specs.Lists.{IsAscendingFrom}
 use Rattle.base_trait.specs.declared.uses.Stamped.{Stamped}
 use Rattle.base_trait.proofs.Tests.{and_both}
@@ -49,8 +48,6 @@ pub counter_shown : (spec : Spec) (ty : ℕ) (s : State) (x : Abs ℕ Stamped) �
 counter_shown spec ty s x h = value_counts x ty s h.stands.describes
 
 -- ---- keys ascend
-is_at_most : (m n : ℕ) → m ≤ n → nat_le m n ≡ true
-is_at_most m n h = grind (arith, nat_tests)
 
 ascending : (low : ℕ) (cells : List (ℕ × Cell ℕ Stamped)) → IsAscendingFrom low (map_of (λ e. e.0) cells) → keys_ascend low (cells_in cells) ≡ true
 ascending low [] h = refl

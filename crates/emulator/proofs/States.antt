@@ -1,8 +1,8 @@
 -- States as values.
-use Rattle.std.proofs.Common.{◌≡◌, ℕ, zero, suc, ◌<◌, ◌^◌, ◌==◌, nat_lt, Bool, true, false, Some, None, List, [], ◌∷◌, map, get_or, length, refl, ap, sym, ◌∙◌, subst, arith}
-use Rattle.std.specs.Prelude.{◌&&◌, slice_get, if◌then◌else◌}
+use Rattle.std.proofs.Common.{◌≡◌, ℕ, zero, suc, ◌<◌, ◌^◌, ◌==◌, nat_lt, true, Some, None, List, [], ◌∷◌, map, get_or, length, refl, ap, sym, ◌∙◌, subst, arith}
+use Rattle.std.specs.Prelude.{slice_get, if◌then◌else◌}
 use Rattle.std.specs.List.{remove}
-use Rattle.std.proofs.lemmas.Bool.{lt-ltb}
+use Rattle.std.proofs.lemmas.Bool.{lt-ltb, and_parts as both}
 use Rattle.base_trait.proofs.Lists.{number_told}
 use Rattle.base_trait.specs.Uses.{Read}
 use Rattle.spec_types.specs.declared.ty.Ty.TheVariants.{Word, Data}
@@ -22,19 +22,8 @@ use Rattle.meaning.specs.Outcomes as o
 use Rattle.meaning.specs.Runs as r
 use Rattle.meaning.specs.Runs.{stepped_of}
 use Rattle.meaning_laws.specs.Accepted.{IsMachine}
+use Rattle.meaning_laws.proofs.Kept.{listed as relisted, list_again as listed}
 use Rattle.emulator.specs.Values.{state_of_parts}
-
-pub both : (a b : Bool) → (a && b) ≡ true → (a ≡ true) × (b ≡ true)
-both true b e = (refl, e)
-both false b e = cc
-
-listed : (xs : List Val) → val_list (vals xs) ≡ xs
-listed [] = refl
-listed (x ∷ xs) = ap (λ r. x ∷ r) (listed xs)
-
-relisted : (ps : Vals) → vals (val_list ps) ≡ ps
-relisted no_val = refl
-relisted (val_then p ps) = ap (val_then p) (relisted ps)
 
 pub counted : (w pc : ℕ) (parts : Vals) → pc < 2 ^ 32 → state_of_parts (val_then (word w pc) parts) ≡ Some (record { pc = pc; parts = val_list parts })
 counted w pc parts h = ap (λ b. if b then Some (record { pc = pc; parts = val_list parts }) else None) (lt-ltb pc (2 ^ 32) h)

@@ -1,8 +1,9 @@
 -- Fields of the states of accepted machines.
-use Rattle.std.proofs.Common.{◌≡◌, ℕ, zero, suc, ◌<◌, ◌^◌, ◌&&◌, Bool, true, List, [], ◌∷◌, Option, Some, None, map, length, slice_get, refl, subst, arith}
+use Rattle.std.proofs.Common.{◌≡◌, ℕ, zero, suc, ◌<◌, ◌^◌, ◌&&◌, true, List, [], ◌∷◌, Option, Some, None, map, length, slice_get, refl, subst, arith}
 use Rattle.std.specs.Prelude.{nat_lt}
 use Rattle.std.specs.List.{list_all}
 use Rattle.std.proofs.lemmas.Bool.Decides.{nat_tests}
+use Rattle.std.proofs.lemmas.Bool.{and_from as and_true, and_parts as both}
 use Rattle.spec_types.specs.declared.ty.Ty.{Ty}
 use Rattle.spec_types.specs.declared.ty.Ty.TheVariants.{Bool as Flag, Word, Data as DataTy, Map as MapOf}
 use Rattle.spec_types.specs.declared.declared.MapTy.{MapTy}
@@ -10,20 +11,15 @@ use Rattle.spec_types.specs.declared.spec.Machine.{Machine}
 use Rattle.spec_types.specs.Environment.{Environment, field_types}
 use Rattle.spec_types.specs.Specification.{Spec}
 use Rattle.spec_types.specs.WellFormed.{is_type, is_width}
+use Rattle.spec_types.proofs.Lists.{all_at as each_at}
 use Rattle.tsl_values.specs.Types.{environment_of}
 use Rattle.meaning_laws.specs.Accepted.{IsAccepted, IsMachine, IsMachineIfAny, is_map, is_key_type, is_part}
 use Rattle.cell_text.specs.Places.{Field, fields_in}
 use Rattle.state_text.specs.OneState.{types_behind}
 use Rattle.entry_laws.specs.Fitting.{has_default, is_cell}
 use Rattle.entry_laws.specs.Laws.{AcceptedHaveCells, ReadStatesAreDescribed}
-use Rattle.entry_laws.proofs.Cells.{both, and_true}
 use Rattle.entry_laws.proofs.OneStates.{one_states_are_described}
 use Rattle.entry_laws.proofs.Reading.{entries_fit}
-
-pub each_at : {A : Type 0} (P : A → Bool) (xs : List A) (i : ℕ) (x : A) → list_all P xs ≡ true → slice_get xs i ≡ Some x → P x ≡ true
-each_at P [] i x h e = cc
-each_at P (y ∷ ys) zero x h e = let same : y ≡ x = cc in subst (λ z. P z ≡ true) same (both (P y) (list_all P ys) h).0
-each_at P (y ∷ ys) (suc i) x h e = each_at P ys i x (both (P y) (list_all P ys) h).1 e
 
 pub none_within : (xs : List MapTy) (m : ℕ) → m < length xs → slice_get xs m ≡ None → ⊥
 none_within [] m h e = absurd (omega (arith, h))
@@ -51,7 +47,7 @@ module _ (env : Environment) (maps : list_all (is_map env) env.maps ≡ true) wh
       let hs = both (is_type env t) (list_all (is_type env) ts) h in
       and_true (is_cell env t) (list_all (is_cell env) ts) (cell_of t ps.0 hs.0) (cells_of ts ps.1 hs.1)
 
-behind : (fields : List Field) (t : Ty) (parts : List Ty) → map (λ f. f.1) fields ≡ t ∷ parts → types_behind fields ≡ parts
+pub behind : (fields : List Field) (t : Ty) (parts : List Ty) → map (λ f. f.1) fields ≡ t ∷ parts → types_behind fields ≡ parts
 behind [] t parts h = cc
 behind (f ∷ fields) t parts h = cc
 

@@ -1,20 +1,11 @@
 -- Cells of maps with others put among them.
-use Rattle.std.proofs.Common.{◌≡◌, ℕ, suc, ◌≤◌, ◌&&◌, ◌==◌, Bool, true, false, List, [], ◌∷◌, refl, subst, arith}
-use Rattle.std.specs.Prelude.{nat_lt, nat_le, if◌then◌else◌}
+use Rattle.std.proofs.Common.{◌≡◌, ℕ, ◌&&◌, ◌==◌, Bool, true, false, List, [], ◌∷◌, refl, arith}
+use Rattle.std.specs.Prelude.{nat_lt, if◌then◌else◌}
 use Rattle.std.specs.List.{list_all}
 use Rattle.std.proofs.lemmas.Bool.Decides.{nat_tests}
+use Rattle.std.proofs.lemmas.Bool.{and_from as and_true, and_parts as both}
 use Rattle.tsl_values.specs.declared.value.Cell.{Cell}
 use Rattle.tsl_values.specs.Values.{cell_at, put_cell}
-use Rattle.tsl_values.specs.Types.{keys_ascend}
-
--- the parts of a test of two
-pub both : (a b : Bool) → a && b ≡ true → (a ≡ true) × (b ≡ true)
-both true true h = (refl, refl)
-both true false h = cc
-both false b h = cc
-
-pub and_true : (a b : Bool) → a ≡ true → b ≡ true → a && b ≡ true
-and_true a b h k = rw (h, k) refl
 
 module _ (k : ℕ) (cell : Cell) (c : ℕ × Cell) (cells : List (ℕ × Cell)) where
   put_at_by : (rest : Cell) (j : ℕ) → cell_at rest (put_cell k cell cells) j ≡ (if k == j then cell else cell_at rest cells j)
@@ -26,21 +17,6 @@ module _ (k : ℕ) (cell : Cell) (c : ℕ × Cell) (cells : List (ℕ × Cell)) 
   put_at_by rest j ih false s false l true e at_k d = let no : (k == j) ≡ false = grind (arith, nat_tests, s, e) in rw (s, l, e, no) refl
   put_at_by rest j ih false s false l false e at_k d = rw (s, l, e) ih
 
-  put_ascends_by : (least : ℕ) → least ≤ k → nat_le least c.0 ≡ true → keys_ascend (suc c.0) cells ≡ true
-      → (suc c.0 ≤ k → keys_ascend (suc c.0) (put_cell k cell cells) ≡ true)
-      → (same : Bool) → (c.0 == k) ≡ same → (less : Bool) → nat_lt k c.0 ≡ less → keys_ascend least (put_cell k cell (c ∷ cells)) ≡ true
-  put_ascends_by least le h hs ih true s less l =
-      let t : nat_le least k ≡ true = grind (arith, nat_tests, le) in
-      let e : c.0 ≡ k = grind (arith, nat_tests, s) in
-      rw (s, t) (subst (λ n. keys_ascend (suc n) cells ≡ true) e hs)
-  put_ascends_by least le h hs ih false s true l =
-      let t : nat_le least k ≡ true = grind (arith, nat_tests, le) in
-      let u : nat_le (suc k) c.0 ≡ true = grind (arith, nat_tests, l) in
-      rw (s, l, t, u) hs
-  put_ascends_by least le h hs ih false s false l =
-      let u : suc c.0 ≤ k = grind (arith, nat_tests, s, l) in
-      rw (s, l, h) (ih u)
-
   put_keeps_by : (P : ℕ × Cell → Bool) → P (k, cell) ≡ true → P c ≡ true → list_all P cells ≡ true → list_all P (put_cell k cell cells) ≡ true
       → (same : Bool) → (c.0 == k) ≡ same → (less : Bool) → nat_lt k c.0 ≡ less → list_all P (put_cell k cell (c ∷ cells)) ≡ true
   put_keeps_by P h hc hs ih true s less l = rw s (and_true (P (k, cell)) (list_all P cells) h hs)
@@ -51,13 +27,6 @@ module _ (k : ℕ) (cell : Cell) (c : ℕ × Cell) (cells : List (ℕ × Cell)) 
 pub put_at : (rest : Cell) (k : ℕ) (cell : Cell) (cells : List (ℕ × Cell)) (j : ℕ) → cell_at rest (put_cell k cell cells) j ≡ (if k == j then cell else cell_at rest cells j)
 put_at rest k cell [] j = refl
 put_at rest k cell (c ∷ cells) j = put_at_by k cell c cells rest j (put_at rest k cell cells j) (c.0 == k) refl (nat_lt k c.0) refl (c.0 == j) refl (k == j) refl
-
--- keys still ascend
-pub put_ascends : (least k : ℕ) (cell : Cell) (cells : List (ℕ × Cell)) → least ≤ k → keys_ascend least cells ≡ true → keys_ascend least (put_cell k cell cells) ≡ true
-put_ascends least k cell [] le h = let t : nat_le least k ≡ true = grind (arith, nat_tests, le) in rw t refl
-put_ascends least k cell (c ∷ cells) le h =
-    let parts = both (nat_le least c.0) (keys_ascend (suc c.0) cells) h in
-    put_ascends_by k cell c cells least le parts.0 parts.1 (λ u. put_ascends (suc c.0) k cell cells u parts.1) (c.0 == k) refl (nat_lt k c.0) refl
 
 -- what each cell has, each still has
 pub put_keeps : (P : ℕ × Cell → Bool) (k : ℕ) (cell : Cell) (cells : List (ℕ × Cell)) → P (k, cell) ≡ true → list_all P cells ≡ true → list_all P (put_cell k cell cells) ≡ true

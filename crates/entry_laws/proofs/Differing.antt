@@ -2,46 +2,25 @@
 use Rattle.std.proofs.Common.{◌≡◌, ℕ, ◌+◌, ◌<◌, ◌≤◌, ◌||◌, Bool, true, false, not, bytes_eq, codes, None, List, [], ◌∷◌, ◌++◌, length, map, refl, sym, ◌∙◌, subst, arith}
 use Rattle.std.specs.Prelude.{⊤, nat_lt}
 use Rattle.std.specs.List.{list_any}
-use Rattle.std.proofs.lemmas.Bool.{false≢true}
+use Rattle.std.proofs.lemmas.Bool.{false≢true, and_from as and_true}
 use Rattle.std.proofs.lemmas.Bool.Decides.{nat_tests}
 use Rattle.std.proofs.lemmas.List.{length-append}
-use Rattle.std.proofs.lemmas.List.Folds.{list_any-append}
 use Rattle.std.proofs.lemmas.Slice.Eq.{bytes_eq-Decides}
 use Rattle.tsl_parser.specs.declared.tree.FieldDecl.{FieldDecl}
-use Rattle.tsl_parser.specs.declared.tree.Name.{Name}
 use Rattle.tsl_parser.specs.Tree as e
 use Rattle.tsl_parser.specs.Tree.{Constructor, Datatype, Item, Tree}
 use Rattle.spec_types.specs.Answers.{◌then◌}
-use Rattle.spec_patterns.proofs.Steps.{then_left, then_right, unless_none}
+use Rattle.spec_types.proofs.Checks.{then_left, then_right, unless_none}
 use Rattle.spec_names.specs.Limits.{most_constructors, most_fields, most_types}
 use Rattle.spec_names.specs.Names.{Names, Seen, cases_fault, case_names, fields_fault, has, item_fault, items_fault, names_fault, nothing, seen_with, too_many, twice}
 use Rattle.spec_decls.specs.Leaves.{datatypes}
 use Rattle.state_text.specs.Laws.{all_differ}
-use Rattle.entry_laws.proofs.Cells.{and_true}
-
-not_true : (b : Bool) → not b ≡ true → b ≡ false
-not_true true h = sym h
-not_true false h = refl
-
-or_left : (a b : Bool) → a ≡ true → a || b ≡ true
-or_left true b h = refl
-or_left false b h = absurd cc
-
-or_right : (a b : Bool) → b ≡ true → a || b ≡ true
-or_right true b h = refl
-or_right false b h = h
+use Rattle.accepted_specs.proofs.Names.{has_more, has_last, new_name}
 
 -- names that are new, each behind those before it
 abbrev Fresh : Names → List (List ℕ) → Type 0
 Fresh before [] = ⊤
 Fresh before (n ∷ names) = (has before n ≡ false) × Fresh (before ++ n ∷ []) names
-
-has_more : (before : Names) (x name : List ℕ) → has before name ≡ true → has (before ++ x ∷ []) name ≡ true
-has_more before x name h = list_any-append (bytes_eq name) before (x ∷ []) ∙ or_left (has before name) (has (x ∷ []) name) h
-
-has_last : (before : Names) (name : List ℕ) → has (before ++ name ∷ []) name ≡ true
-has_last before name =
-    list_any-append (bytes_eq name) before (name ∷ []) ∙ or_right (has before name) (has (name ∷ []) name) (or_left (bytes_eq name name) false ((bytes_eq-Decides name name).1 refl))
 
 -- a name that was there before is none of new ones
 none_by : (before : Names) (name n : List ℕ) (names : List (List ℕ)) → has before name ≡ true → has before n ≡ false → not (list_any (bytes_eq name) names) ≡ true
@@ -60,9 +39,6 @@ differ before [] f = refl
 differ before (n ∷ names) f = and_true (not (list_any (bytes_eq n) names)) (all_differ names) (none_of (before ++ n ∷ []) n names (has_last before n) f.1) (differ (before ++ n ∷ []) names f.1)
 
 -- ---- what the pass says
-
-new_name : (before : Names) (x : Name) → twice before x ≡ None → has before x.text ≡ false
-new_name before x h = not_true (has before x.text) (unless_none (not (has before x.text)) _ h)
 
 abbrev pub field_names : List FieldDecl → List (List ℕ)
 field_names fields = map (λ f. f.name.text) fields

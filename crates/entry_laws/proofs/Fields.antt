@@ -4,6 +4,7 @@ use Rattle.std.specs.Prelude.{⊤, nat_le, nat_lt}
 use Rattle.std.specs.List.{list_all}
 use Rattle.std.proofs.lemmas.Bool.Decides.{nat_tests}
 use Rattle.std.proofs.lemmas.List.{length-map}
+use Rattle.std.proofs.lemmas.Bool.{and_from as and_true, and_parts as both}
 use Rattle.tsl_parser.specs.declared.tree.FieldDecl.{FieldDecl}
 use Rattle.tsl_parser.specs.Tree.{Constructor, Datatype}
 use Rattle.spec_types.specs.declared.ty.Ty.{Ty}
@@ -15,23 +16,22 @@ use Rattle.spec_types.specs.Environment.{Case, Data}
 use Rattle.spec_types.specs.Specification.{Spec}
 use Rattle.spec_types.specs.Texts.{cases_of}
 use Rattle.spec_types.specs.WellFormed.{is_type, is_width}
+use Rattle.spec_types.proofs.Lists.{all_at as each_at}
 use Rattle.spec_decls.specs.TypeNames.{TypeTable, types_of}
 use Rattle.spec_decls.specs.Declarations.{case_declared, data_declared, field_in}
 use Rattle.spec_decls.specs.Leaves.{datatypes}
-use Rattle.spec_decls.proofs.States.{machines_are_there}
+use Rattle.spec_decls.proofs.States.{machines_are_there, datas_are}
 use Rattle.spec_names.specs.Limits.{most_fields}
 use Rattle.spec_names.specs.Names.{case_names}
 use Rattle.tsl_values.specs.Types.{environment_of}
 use Rattle.meaning_laws.specs.Accepted.{IsAccepted, IsMachine, IsMachineIfAny, is_key_type, is_map, is_part}
 use Rattle.accepted_specs.proofs.Accepted.{checked_are_accepted}
-use Rattle.accepted_specs.proofs.MapTypes.{datas_are}
 use Rattle.cell_text.specs.Places.{Field, fields_in, fields_of, state_fields}
 use Rattle.state_text.specs.Forms.{is_name}
 use Rattle.state_text.specs.Laws.{AreCellTypes, HasFields, IsCellType, IsKeyType, IsMapType, all_differ, are_names}
 use Rattle.state_text.specs.OneState.{types_behind}
 use Rattle.entry_laws.specs.Laws.{MachinesHaveFields}
-use Rattle.entry_laws.proofs.Accepted.{each_at, fields_behind, none_within, parts_typed}
-use Rattle.entry_laws.proofs.Cells.{and_true, both}
+use Rattle.entry_laws.proofs.Accepted.{fields_behind, none_within, parts_typed}
 use Rattle.entry_laws.proofs.Differing.{HasDifferentNames, HasFewFields, HaveDifferentNames, HaveFewFields, field_names, names_differ}
 use Rattle.entry_laws.proofs.ParsedNames.{CasesNamed, DatasNamed, FieldsNamed, parsed_names}
 

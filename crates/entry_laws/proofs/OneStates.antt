@@ -4,6 +4,7 @@ use Rattle.std.specs.Prelude.{nat_lt, is_some, if◌then◌else◌}
 use Rattle.std.specs.List.{list_all}
 use Rattle.std.proofs.lemmas.Nat.{pow_pos}
 use Rattle.std.proofs.lemmas.Bool.Decides.{nat_tests}
+use Rattle.std.proofs.lemmas.Bool.{and_from as and_true, and_parts as both}
 use Rattle.spec_types.specs.declared.ty.Ty.{Ty}
 use Rattle.spec_types.specs.declared.ty.Ty.TheVariants.{Bool as Flag, Word, Data as DataTy, Map as MapOf}
 use Rattle.spec_types.specs.declared.declared.MapTy.{MapTy}
@@ -22,9 +23,11 @@ use Rattle.cell_text.specs.Places.{state_fields}
 use Rattle.state_text.specs.Meaning.{given_fits}
 use Rattle.state_text.specs.OneState.{only_state, first_open, types_behind}
 use Rattle.state_text.specs.Reading.{Entry, single_number}
+use Rattle.state_text.proofs.Described.{key_same as key_is}
 use Rattle.entry_laws.specs.Fitting.{field_type, place_fits, key_fits, line_fits, has_default, is_cell}
 use Rattle.entry_laws.specs.Laws.{OneStatesAreDescribed}
-use Rattle.entry_laws.proofs.Cells.{both, and_true, put_at, put_ascends, put_keeps}
+use Rattle.entry_laws.proofs.Cells.{put_at, put_keeps}
+use Rattle.meaning_laws.proofs.Maps.{put_ascends}
 
 -- a value is one number
 abbrev IsOne : Given → Type 0
@@ -48,17 +51,6 @@ one_fits (Range lo hi) w h f =
     let e = single_by lo hi (lo == hi) refl h in
     let less : hi < 2 ^ w = grind (arith, nat_tests, f) in
     rw e less
-
-key_is : (a b : KeyAt) → is_key a b ≡ true → a ≡ b
-key_is Whole Whole h = refl
-key_is Rest Rest h = refl
-key_is (At j) (At k) h = let e : j ≡ k = grind (arith, nat_tests, h) in ap At e
-key_is Whole Rest h = cc
-key_is Whole (At k) h = cc
-key_is Rest Whole h = cc
-key_is Rest (At k) h = cc
-key_is (At j) Whole h = cc
-key_is (At j) Rest h = cc
 
 module _ (env : Environment) (types : List Ty) where
   -- lines fit, and each gives one number

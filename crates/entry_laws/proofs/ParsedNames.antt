@@ -4,6 +4,7 @@ use Rattle.std.specs.Prelude.{⊤}
 use Rattle.std.specs.List.{All, list_all}
 use Rattle.std.proofs.lemmas.Bool.Decides.{nat_tests}
 use Rattle.std.proofs.lemmas.List.Elements.{All-head, All-tail}
+use Rattle.std.proofs.lemmas.Bool.{and_from as and_true}
 use Rattle.tsl_lexer.specs.declared.token.Token.{Token}
 use Rattle.tsl_lexer.specs.declared.token.Kind.{Kind}
 use Rattle.tsl_lexer.specs.declared.token.Kind.TheVariants as k
@@ -21,7 +22,6 @@ use Rattle.tsl_parser.specs.Tree.{Constructor, Datatype as DataTree, Item as Ite
 use Rattle.tsl_parser.specs.Grammar.{Leveled, tokens_of, mark, Separated, Several, Field, Fields, Case, Datatype, Item, Items}
 use Rattle.spec_decls.specs.Leaves.{datatypes}
 use Rattle.state_text.specs.Forms.{begins_name, is_mark, is_name, is_word_byte}
-use Rattle.entry_laws.proofs.Cells.{and_true}
 
 -- ---- tokens
 

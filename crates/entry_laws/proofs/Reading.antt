@@ -4,6 +4,7 @@ use Rattle.std.specs.Prelude.{nat_lt, nat_le, is_some, bytes_eq, if◌then◌els
 use Rattle.std.specs.List.{list_all}
 use Rattle.std.proofs.lemmas.Bool.Decides.{nat_tests}
 use Rattle.std.proofs.lemmas.Option.{slice_get-map}
+use Rattle.std.proofs.lemmas.Bool.{and_from as and_true}
 use Rattle.hex.specs.Hex.{IsBytes}
 use Rattle.hex.proofs.HexLemmas.{decode_of-ok}
 use Rattle.spec_types.specs.declared.ty.Ty.{Ty}
@@ -33,16 +34,12 @@ use Rattle.state_text.specs.Reading.{Found, none_found, any_given, line_of, with
 use Rattle.state_text.proofs.Shown.{shown}
 use Rattle.entry_laws.specs.Fitting.{field_type, place_fits, line_fits}
 use Rattle.entry_laws.specs.Laws.{EntriesFit, Fits}
-use Rattle.entry_laws.proofs.Cells.{both, and_true}
+use Rattle.spec_patterns.proofs.Variables.{all_append}
 
 -- the type of a field by its number
 type_at : (fields : List Field) (n : ℕ) (f : Field) → slice_get fields (suc n) ≡ Some f → field_type (types_behind fields) (suc n) ≡ Some f.1
 type_at [] n f h = cc
 type_at (g ∷ fields) n f h = slice_get-map (λ x. x.1) fields n ∙ ap (option_map (λ x. x.1)) h
-
-all_append : {A : Type 0} (P : A → Bool) (xs ys : List A) → list_all P xs ≡ true → list_all P ys ≡ true → list_all P (xs ++ ys) ≡ true
-all_append P [] ys h k = k
-all_append P (x ∷ xs) ys h k = let p = both (P x) (list_all P xs) h in and_true (P x) (list_all P (xs ++ ys)) p.0 (all_append P xs ys p.1 k)
 
 -- the number of a constructor
 case_below : (n : ℕ) (cases : List Case) (name : List ℕ) (k : ℕ) → case_number n cases name ≡ Some k → k < n + length cases

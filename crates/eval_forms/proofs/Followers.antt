@@ -1,14 +1,12 @@
 -- What follows a term that is a form, where it follows the form.
 use Rattle.std.proofs.Common.{◌≡◌, ℕ, Option, Some, None, option_map, sym, subst}
 use Rattle.std.specs.Prelude.{IfOk, IfSome, Result, Ok, Err}
+use Rattle.std.proofs.lemmas.Option.{same_Some as some_is}
 use Rattle.base_trait.specs.Algebra.{Algebra}
 use Rattle.spec_types.specs.CoreTerms.{Core}
 use Rattle.eval_memo.specs.declared.setting.Setting.{Setting}
 use Rattle.eval_forms.specs.Next.{IsNext}
 use Rattle.eval_forms.specs.Plans.{Next}
-
-some_is : {A : Type 0} (x y : A) → Some x ≡ Some y → x ≡ y
-some_is x y e = cc
 
 module _ {X W N C : Type 0} (B : Algebra W N C) (cap : ℕ) (s : Setting X W N C) (rank : ℕ → ℕ) (g : ℕ) where
   pub at_next : (t k : Core) (n m : Next W N) → t ≡ k → n ≡ m → IsNext B cap s rank g k m → IsNext B cap s rank g t n

@@ -4,17 +4,18 @@ use Rattle.base_trait.specs.Algebra.{Algebra}
 use Rattle.std.specs.Prelude.{Box}
 use Rattle.base_trait.specs.declared.tri.Tri.{Tri}
 use Rattle.tsl_match.specs.Values.{Place}
-use Rattle.tsl_match.specs.Decisions.{Tree, trees, on_word, on_flag}
+use Rattle.tsl_match.specs.Decisions as plain
+use Rattle.tsl_match.specs.Decisions.{trees, on_word, on_flag}
 use Rattle.tsl_match.specs.Views.{decision_step, tree}
 use Rattle.tsl_match.specs.declared.decision.Path.{Path}
 use Rattle.tsl_match.specs.declared.decision.Decision.{Decision, OnFlag, OnWord, fold-roll-Decision}
 use Rattle.tsl_match.specs.declared.decision.Decision.TheOpen.{Decision-F}
 use Rattle.tsl_match.specs.declared.decision.Decision.TheVariants.{rolls-OnFlag, rolls-OnWord}
+use Rattle.tsl_match.proofs.Loops.{drop_here}
 use Rattle.reinterpretation.specs.Choices.{abs_at, flag_there, word_there}
 use Rattle.value_laws.specs.Abs.{Abs, cases}
 use Rattle.abs_value.specs.View.{case_of}
 use Rattle.abs_value.specs.declared.value.AV.{AV}
-use Rattle.abs_value.proofs.Merging.{drop_here}
 use Rattle.eval_forms.specs.Plans.{Plan, all_both, both, either, planned, present_plan}
 
 -- a plan behind others
@@ -43,15 +44,15 @@ module _ {W N C : Type 0} (B : Algebra W N C) (c : C) (x : Abs W N) (t : Tri) (t
   both_ways : (p q : Plan W N) → either t p q ≡ both p q
   both_ways p q = rw (true_too, false_too) refl
 
-  pub word_both : (at : Place) (n : ℕ) (a b : Tree) → t ≡ word_there B c (abs_at at x) n → planned B c x (on_word at n a b) ≡ both (planned B c x a) (planned B c x b)
+  pub word_both : (at : Place) (n : ℕ) (a b : plain.Decision) → t ≡ word_there B c (abs_at at x) n → planned B c x (on_word at n a b) ≡ both (planned B c x a) (planned B c x b)
   word_both at n a b is = ap (λ t. either t (planned B c x a) (planned B c x b)) (sym is) ∙ both_ways (planned B c x a) (planned B c x b)
 
-  pub flag_both : (at : Place) (a b : Tree) → t ≡ flag_there (abs_at at x) → planned B c x (on_flag at a b) ≡ both (planned B c x a) (planned B c x b)
+  pub flag_both : (at : Place) (a b : plain.Decision) → t ≡ flag_there (abs_at at x) → planned B c x (on_flag at a b) ≡ both (planned B c x a) (planned B c x b)
   flag_both at a b is = ap (λ t. either t (planned B c x a) (planned B c x b)) (sym is) ∙ both_ways (planned B c x a) (planned B c x b)
 
 -- ---- decisions by their tests
 pub tree_OnWord : (at : Path) (n : ℕ) (a b : Box Decision Global) → tree (OnWord at n a b) ≡ on_word at.steps.items n (tree a.value) (tree b.value)
-tree_OnWord at n a b = ap tree (sym (rolls-OnWord at n a b)) ∙ fold-roll-Decision Tree decision_step (Decision-F.OnWord at n a b)
+tree_OnWord at n a b = ap tree (sym (rolls-OnWord at n a b)) ∙ fold-roll-Decision plain.Decision decision_step (Decision-F.OnWord at n a b)
 
 pub tree_OnFlag : (at : Path) (a b : Box Decision Global) → tree (OnFlag at a b) ≡ on_flag at.steps.items (tree a.value) (tree b.value)
-tree_OnFlag at a b = ap tree (sym (rolls-OnFlag at a b)) ∙ fold-roll-Decision Tree decision_step (Decision-F.OnFlag at a b)
+tree_OnFlag at a b = ap tree (sym (rolls-OnFlag at a b)) ∙ fold-roll-Decision plain.Decision decision_step (Decision-F.OnFlag at a b)

@@ -5,7 +5,7 @@ use Rattle.std.proofs.lemmas.List.Elements.{All-cons, All-nil, All-head}
 use Rattle.base_trait.specs.Algebra.{Algebra}
 use Rattle.base_trait.specs.declared.tri.Tri.{Tri}
 use Rattle.tsl_match.specs.Values.{Place}
-use Rattle.tsl_match.specs.Decisions.{Tree, Trees, row, on_case, on_word, on_flag, no_tree, tree_then}
+use Rattle.tsl_match.specs.Decisions.{Decision, Decisions, row, on_case, on_word, on_flag, no_tree, tree_then}
 use Rattle.spec_types.specs.CoreTerms as form
 use Rattle.spec_types.specs.CoreTerms.{Core, Cores}
 use Rattle.value_laws.specs.Abs.{Abs, Cases, no_case, absent, present}
@@ -60,7 +60,7 @@ module _ {W N C : Type 0} (B : Algebra W N C) (c : C) (x : Abs W N) where
   row_size r (Some vs) = omega arith
 
   mutual
-    pub planned_size : (by : Tree) → size (planned B c x by) ≤ tree_weight by
+    pub planned_size : (by : Decision) → size (planned B c x by) ≤ tree_weight by
     planned_size (row r binds) = row_size r (abs_named x binds)
     planned_size (on_case at ts) = present_size nothing ts (cases_there (abs_at at x))
     planned_size (on_word at n a b) =
@@ -74,7 +74,7 @@ module _ {W N C : Type 0} (B : Algebra W N C) (c : C) (x : Abs W N) where
         let q = planned_size b in
         omega (arith, e, p, q)
 
-    present_size : (first : Plan W N) (ts : Trees) (cs : Cases W N) → size (present_plan B c x first ts cs) ≤ size first + trees_weight ts
+    present_size : (first : Plan W N) (ts : Decisions) (cs : Cases W N) → size (present_plan B c x first ts cs) ≤ size first + trees_weight ts
     present_size first no_tree cs = omega arith
     present_size first (tree_then t ts) no_case = omega arith
     present_size first (tree_then t ts) (absent cs) = let k = present_size first ts cs in omega (arith, k)
@@ -121,13 +121,13 @@ module _ {X W N C : Type 0} (B : Algebra W N C) (cap : ℕ) (s : Setting X W N C
     row_fits r (Some vs) h = h
 
     mutual
-      pub planned_fits : (by : Tree) → PlanFitsHere (planned B s.ctx.now x by)
+      pub planned_fits : (by : Decision) → PlanFitsHere (planned B s.ctx.now x by)
       planned_fits (row r binds) = row_fits r (abs_named x binds) (named_fit binds)
       planned_fits (on_case at ts) = present_fits nothing ts (cases_there (abs_at at x)) tt
       planned_fits (on_word at n a b) = either_fits (word_there B s.ctx.now (abs_at at x) n) (planned B s.ctx.now x a) (planned B s.ctx.now x b) (planned_fits a) (planned_fits b)
       planned_fits (on_flag at a b) = either_fits (flag_there (abs_at at x)) (planned B s.ctx.now x a) (planned B s.ctx.now x b) (planned_fits a) (planned_fits b)
 
-      present_fits : (first : Plan W N) (ts : Trees) (cs : Cases W N) → PlanFitsHere first → PlanFitsHere (present_plan B s.ctx.now x first ts cs)
+      present_fits : (first : Plan W N) (ts : Decisions) (cs : Cases W N) → PlanFitsHere first → PlanFitsHere (present_plan B s.ctx.now x first ts cs)
       present_fits first no_tree cs h = h
       present_fits first (tree_then t ts) no_case h = h
       present_fits first (tree_then t ts) (absent cs) h = present_fits first ts cs h
@@ -146,7 +146,7 @@ module _ {X W N C : Type 0} (B : Algebra W N C) (cap : ℕ) (s : Setting X W N C
         (omega (arith, k, e), either_fits (flag_there (Some p)) (arm 0 []) (arm 1 []) (All-nil FitsHere) (All-nil FitsHere))
     if_next c x y (p ∷ q ∷ ps) = tt
 
-    pub choose_next : (x : Core) (by : Tree) (arms : Cores) (ps : List (Abs W N)) → All FitsHere ps → IfSome (of_choice B cap s by ps) (IsNext B cap s rank g (form.choose x by arms))
+    pub choose_next : (x : Core) (by : Decision) (arms : Cores) (ps : List (Abs W N)) → All FitsHere ps → IfSome (of_choice B cap s by ps) (IsNext B cap s rank g (form.choose x by arms))
     choose_next x by arms [] h = tt
     choose_next x by arms (p ∷ []) h =
         let k = some_weight x in

@@ -1,7 +1,7 @@
 -- What follows a form, kind by kind, on the values of its parts.
 use Rattle.std.specs.Prelude.{ℕ, ◌&&◌, ◌==◌, Bool, List, [], Option, Some, option_map, if◌then◌else◌}
 use Rattle.base_trait.specs.Algebra.{Algebra}
-use Rattle.tsl_match.specs.Decisions.{Tree}
+use Rattle.tsl_match.specs.Decisions.{Decision}
 use Rattle.value_laws.specs.Abs.{Abs}
 use Rattle.reinterpretation.specs.Choices.{flag_there}
 use Rattle.reinterpretation.specs.Terms.{asked_with, leaf}
@@ -21,7 +21,7 @@ of_condition ps = option_map (λ p. goes (either (flag_there (Some p)) (arm 0 []
 
 module _ {X W N C : Type 0} (B : Algebra W N C) (cap : ℕ) (s : Setting X W N C) where
   -- the arms that a decision may pick
-  abbrev pub of_choice : Tree → List (Abs W N) → Option (Next W N)
+  abbrev pub of_choice : Decision → List (Abs W N) → Option (Next W N)
   of_choice by ps = option_map (λ p. goes (planned B s.ctx.now p by)) (one ps)
 
   -- a call, which in tail position and of the group itself is a turn

@@ -3,7 +3,7 @@ use Rattle.std.specs.Prelude.{ℕ, ◌+◌, ◌&&◌, ◌==◌, Bool, List, [], 
 use Rattle.base_trait.specs.Algebra.{Algebra}
 use Rattle.base_trait.specs.Uses.{Seen}
 use Rattle.base_trait.specs.declared.tri.Tri.{Tri}
-use Rattle.tsl_match.specs.Decisions.{Tree, Trees, row, on_case, on_word, on_flag, tree_then}
+use Rattle.tsl_match.specs.Decisions.{Decision, Decisions, row, on_case, on_word, on_flag, tree_then}
 use Rattle.spec_types.specs.CoreTerms as t
 use Rattle.spec_types.specs.CoreTerms.{Core, Cores}
 use Rattle.tsl_values.specs.Types.{environment_of}
@@ -60,14 +60,14 @@ row_plan r (Some vs) = arm r vs
 -- those that a decision may pick
 module _ {W N C : Type 0} (B : Algebra W N C) (c : C) (x : Abs W N) where
   abbrev mutual
-    pub planned : Tree → Plan W N
+    pub planned : Decision → Plan W N
     planned (row r binds) = row_plan r (abs_named x binds)
     planned (on_case at ts) = present_plan nothing ts (cases_there (abs_at at x))
     planned (on_word at n a b) = either (word_there B c (abs_at at x) n) (planned a) (planned b)
     planned (on_flag at a b) = either (flag_there (abs_at at x)) (planned a) (planned b)
 
     -- those of the constructors that are present, behind those of earlier ones
-    pub present_plan : Plan W N → Trees → Cases W N → Plan W N
+    pub present_plan : Plan W N → Decisions → Cases W N → Plan W N
     present_plan first (tree_then t ts) (absent cs) = present_plan first ts cs
     present_plan first (tree_then t ts) (present xs cs) = present_plan (plan_then first (planned t)) ts cs
     present_plan first _ _ = first

@@ -1,16 +1,16 @@
 -- How large terms and decisions are: each is larger than its parts, with the plan of branches that may follow them.
 use Rattle.std.specs.Prelude.{ℕ, ◌+◌, ◌*◌, List, [], ◌∷◌}
-use Rattle.tsl_match.specs.Decisions.{Tree, Trees, row, on_case, on_word, on_flag, no_tree, tree_then}
+use Rattle.tsl_match.specs.Decisions.{Decision, Decisions, row, on_case, on_word, on_flag, no_tree, tree_then}
 use Rattle.spec_types.specs.CoreTerms.{Core, Cores, var, flag, word, un, bin, test, cast, let_in, if_else, choose, make, call, get, put, no_core, core_then}
 
 abbrev mutual
-  pub tree_weight : Tree → ℕ
+  pub tree_weight : Decision → ℕ
   tree_weight (row r binds) = 1
   tree_weight (on_case at ts) = 1 + trees_weight ts
   tree_weight (on_word at n a b) = 1 + (tree_weight a + tree_weight b)
   tree_weight (on_flag at a b) = 1 + (tree_weight a + tree_weight b)
 
-  pub trees_weight : Trees → ℕ
+  pub trees_weight : Decisions → ℕ
   trees_weight no_tree = 0
   trees_weight (tree_then t ts) = 1 + (tree_weight t + trees_weight ts)
 

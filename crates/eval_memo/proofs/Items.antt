@@ -1,9 +1,5 @@
 -- Lists, item by item.
-use Rattle.std.proofs.Common.{◌≡◌, ◌↔◌, ◌++◌, ℕ, ◌+◌, ◌<◌, false, List, [], ◌∷◌, map, drop, length, add-one, get_or, refl, ap, subst, ◌∙◌, IsTrue}
-use Rattle.std.proofs.Math.Seq.{drop-cons}
-
-pub drop_here : {A : Type 0} (xs : List A) (i : ℕ) (x : A) → x ≡ get_or xs i x → i < length xs → drop i xs ≡ x ∷ drop (i + 1) xs
-drop_here xs i x e h = rw (add-one, drop-cons xs i x h, ← e) refl
+use Rattle.std.proofs.Common.{◌≡◌, ◌↔◌, false, List, ◌∷◌, map, ap, subst, ◌∙◌, IsTrue}
 
 head_same : {A : Type 0} (x y : A) (xs ys : List A) → x ∷ xs ≡ y ∷ ys → x ≡ y
 head_same x y xs ys e = cc
@@ -24,8 +20,3 @@ module _ {X A : Type 0} (f : X → A) (whole : Type 0) where
   same_stops xs ys ps qs x y ex ey ne h =
       let now : (map f (x ∷ ps) ≡ map f (y ∷ qs)) ↔ whole = subst (λ z. (map f z ≡ map f (y ∷ qs)) ↔ whole) ex (subst (λ z. (map f xs ≡ map f z) ↔ whole) ey h) in
       (λ k. absurd cc, λ w. absurd (ne (head_same (f x) (f y) (map f ps) (map f qs) (now.1 w))))
-
--- one more value
-pub pushed : {A X : Type 0} (g : A → X) (out : List A) (z : A) (rest : List X) → map g (out ++ z ∷ []) ++ rest ≡ map g out ++ g z ∷ rest
-pushed g [] z rest = refl
-pushed g (x ∷ out) z rest = ap (λ l. g x ∷ l) (pushed g out z rest)

@@ -3,7 +3,7 @@ use Rattle.std.specs.Prelude.{⊤, ℕ, zero, suc, Bool, true, false, List, slic
 use Rattle.base_trait.specs.Algebra.{Algebra}
 use Rattle.base_trait.specs.Uses.{Seen}
 use Rattle.base_trait.specs.declared.tri.Tri.{Tri}
-use Rattle.tsl_match.specs.Decisions.{Tree, Trees}
+use Rattle.tsl_match.specs.Decisions.{Decision, Decisions}
 use Rattle.spec_types.specs.CoreTerms as form
 use Rattle.spec_types.specs.CoreTerms.{Core, Cores}
 use Rattle.spec_types.specs.Specification.{Spec}
@@ -56,14 +56,14 @@ module _ {X W N C : Type 0} (B : Algebra W N C) (cap : ℕ) (calls : ℕ → Lis
       abbrev pub given_branch : Tri → Core → Core → Evaluation (Yield (GroupArgs W N) (Abs W N))
       given_branch o x y = branch join_yields o (given_of tail env x) (given_of tail env y)
 
-      abbrev pub given_decided : Cores → Abs W N → Tree → Evaluation (Yield (GroupArgs W N) (Abs W N))
+      abbrev pub given_decided : Cores → Abs W N → Decision → Evaluation (Yield (GroupArgs W N) (Abs W N))
       given_decided arms x by = choices.decided B s.ctx.now join_yields (λ r vs m. given_arm tail env arms r vs m) x by
 
-      abbrev pub given_between : Cores → Abs W N → Tri → Tree → Tree → Evaluation (Yield (GroupArgs W N) (Abs W N))
+      abbrev pub given_between : Cores → Abs W N → Tri → Decision → Decision → Evaluation (Yield (GroupArgs W N) (Abs W N))
       given_between arms x o a b = branch join_yields o (given_decided arms x a) (given_decided arms x b)
 
       -- those of the constructors that are present, joined with what is given already
-      abbrev pub given_present : Cores → Abs W N → Option (Yield (GroupArgs W N) (Abs W N)) → Trees → Cases W N → Evaluation (Yield (GroupArgs W N) (Abs W N))
+      abbrev pub given_present : Cores → Abs W N → Option (Yield (GroupArgs W N) (Abs W N)) → Decisions → Cases W N → Evaluation (Yield (GroupArgs W N) (Abs W N))
       given_present arms x first ts cs = joined_from join_yields first (choices.arms_present B s.ctx.now join_yields (λ r vs m. given_arm tail env arms r vs m) x ts cs)
 
     -- what a turn of the group gives

@@ -1,4 +1,4 @@
--- When an evaluation may take place.
+-- Laws of activations, and when an evaluation may take place.
 use Rattle.std.specs.Prelude.{◌≡◌, ℕ, true, Some, List, length, slice_get}
 use Rattle.base_trait.specs.Algebra.{Algebra}
 use Rattle.map_laws.specs.Laws.{HasRoom}

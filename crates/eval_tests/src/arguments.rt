@@ -8,11 +8,12 @@ ghost use Rattle.eval_memo.specs.Settings.{spec_of};
 
 use abs_value::AV;
 use base_trait::Base;
+use case_lines::{Read, Unread};
 use eval_memo::Setting;
 use group_turns::are_typed;
 use spec_types::{Spec, Ty};
 use std::alloc::Global;
-use written_values::{Read, Unread, pushed, value};
+use written_values::{pushed, value};
 
 /// The function of a name, by its number.
 pub(crate) fn function(spec: &Spec, name: &str) -> Option<u32> {

@@ -10,6 +10,7 @@ ghost use Rattle.generic_eval.specs.Calls.{MayEvaluate};
 
 use crate::arguments::{arguments, function};
 use crate::called::called;
+use case_lines::Unread;
 use cir_lower::lower;
 use concrete_base::Concrete;
 use defuse_base::DefUse;
@@ -22,7 +23,6 @@ use run_steps::specified;
 use shown_bases::Shown;
 use spec_types::{Spec, Use};
 use std::alloc::{AllocError as NoMemory, Global};
-use written_values::Unread;
 
 /// The address of the instruction.
 const AT: u32 = 4096;

@@ -2,10 +2,8 @@
 use Rattle.std.proofs.Common.{◌≡◌, List, [], ◌∷◌, Some, map, subst, sym, ap}
 use Rattle.std.specs.Prelude.{All}
 use Rattle.std.proofs.lemmas.List.Elements.{All-head, All-tail}
+use Rattle.std.proofs.lemmas.Option.{same_Some as some_is}
 use Rattle.eval_values.specs.Operands.{one, two, three}
-
-some_is : {A : Type 0} (x y : A) → Some x ≡ Some y → x ≡ y
-some_is x y e = cc
 
 module _ {A D : Type 0} (P : D → Type 0) (f : A → D) where
   pub one_fits : (xs : List A) (y : D) → All (λ x. P (f x)) xs → Some y ≡ one (map f xs) → P y

@@ -33,10 +33,10 @@ lists_sides xs ys a b h k = are_among_from (xs ++ ys) (a ++ b) (λ s m. either s
     either s (inl m) = among_left s a b (are_among_at xs a s h m)
     either s (inr m) = among_right s a b (are_among_at ys b s k m)
 
-lists_first : (xs ys stamps : List Stamped) → AreAmong (xs ++ ys) stamps → AreAmong xs stamps
+pub lists_first : (xs ys stamps : List Stamped) → AreAmong (xs ++ ys) stamps → AreAmong xs stamps
 lists_first xs ys stamps h = are_among_from xs stamps (λ s m. are_among_at (xs ++ ys) stamps s h (among_left s xs ys m))
 
-lists_second : (xs ys stamps : List Stamped) → AreAmong (xs ++ ys) stamps → AreAmong ys stamps
+pub lists_second : (xs ys stamps : List Stamped) → AreAmong (xs ++ ys) stamps → AreAmong ys stamps
 lists_second xs ys stamps h = are_among_from ys stamps (λ s m. are_among_at (xs ++ ys) stamps s h (among_right s xs ys m))
 
 -- a part that is widened does not rise

@@ -1,7 +1,7 @@
 -- The verdict of a table is right.
-use Rattle.std.proofs.Common.{◌≡◌, ◌∙◌, ℕ, ◌+◌, ◌<◌, ◌≤◌, ◌==◌, Bool, true, false, List, [], ◌∷◌, Option, None, Some, IsTrue, if◌then◌else◌, arith, inl, inr, ap, refl, sym, subst}
+use Rattle.std.proofs.Common.{◌≡◌, ◌∙◌, ℕ, ◌+◌, ◌<◌, ◌≤◌, ◌==◌, true, false, List, [], ◌∷◌, Option, None, Some, IsTrue, if◌then◌else◌, arith, inl, inr, ap, refl, sym, subst}
 use Rattle.std.specs.Prelude.{IsSomeAnd, not, ◌&&◌, ◌⊎◌}
-use Rattle.std.proofs.lemmas.Bool.{cases_lt}
+use Rattle.std.proofs.lemmas.Bool.{cases_lt, not-false as not_false}
 use Rattle.base_trait.specs.Identity.{IsIdentity, IsReflexive, same_list, same_list_is, same_list_itself}
 use Rattle.base_trait.specs.Lists.{Each, IsAmong, IsAscending, IsAscendingFrom}
 use Rattle.base_trait.specs.Stamps.{same_stamp}
@@ -54,10 +54,6 @@ uses_told = same_list_is same_use use_told
 
 pub uses_itself : IsReflexive (same_list same_use)
 uses_itself = same_list_itself same_use use_itself
-
-not_false : (b : Bool) → not b ≡ false → b ≡ true
-not_false true h = refl
-not_false false h = cc
 
 module _ {E W S : Type 0} (A : Analysis E W S) (t : Listings E) where
   -- ---- open addresses

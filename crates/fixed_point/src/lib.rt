@@ -61,8 +61,8 @@
 //! instructions puts there that its specification is accepted and the problem well posed; one whose values all keep
 //! the laws puts `⊤` there.
 //!
-//! A domain of the product becomes an `Analyser` by a struct that holds the domain, the specification, the decoder,
-//! the image, the entry and the limit. Its elements and their laws are the domain's; `start`, `entry` and `code`
+//! A domain becomes an `Analyser` by a struct that holds it with the specification, the decoder, the image, the entry
+//! and the limit; that is `ImageAnalysis`, in the crate `transfer`. Its elements and their laws are the domain's; `start`, `entry` and `code`
 //! are those of entry and image. `transfer` fetches the word, decodes it, opens the element as a state, evaluates
 //! the instruction, takes the members of the new counter as targets, and closes. What it has to show of `transfer`:
 //!
@@ -77,7 +77,7 @@
 //!
 //! So a domain (`Domain`, in the crate `domain_trait`) has for its ghost members the same `Plain` and `view`,
 //! its elements as a record of specs/Elements, and besides the values of `entry`, `open` and `close` as functions,
-//! with their laws. docs/DESIGN.md, "What a domain is", says how each kind of element will meet them.
+//! with their laws. docs/DESIGN.md, "What a domain is", says how each kind of element meets them.
 #![tactic(auto)]
 
 mod analyser;

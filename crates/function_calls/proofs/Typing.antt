@@ -1,7 +1,6 @@
 -- Arguments have the types for which they are written.
-use Rattle.std.proofs.Common.{◌≡◌, ℕ, ◌^◌, Bool, true, false, ◌&&◌, ◌==◌, Option, Some, None, List, [], ◌∷◌, option_map, refl, ap, subst, arith}
+use Rattle.std.proofs.Common.{◌≡◌, ℕ, ◌^◌, Bool, true, false, ◌&&◌, Option, Some, None, List, [], ◌∷◌, option_map, refl, ap, subst}
 use Rattle.std.specs.Prelude.{bytes_eq, codes, if◌then◌else◌, nat_lt, option_and_then, slice_get}
-use Rattle.std.proofs.lemmas.Bool.Decides.{nat_tests}
 use Rattle.cell_text.specs.Digits.{hex_number}
 use Rattle.spec_types.specs.declared.ty.Ty.{Ty}
 use Rattle.spec_types.specs.declared.ty.Ty.TheVariants.{Bool as Flag, Word, Data, Map}
@@ -13,6 +12,8 @@ use Rattle.meaning.specs.Runs.{meaning}
 use Rattle.function_calls.specs.Arguments.{argument_in, arguments_in, word_of}
 use Rattle.function_calls.specs.Written.{IsWrittenCall}
 use Rattle.function_calls.specs.Calls.{arguments_of, call_end, called, end_of_meaning, is_written, number_of, bad_words, end_of_call}
+use Rattle.tsl_match.proofs.Truth.{equal_itself as same_width}
+use Rattle.concrete_values.proofs.Views.{some_same as same_some}
 
 none_some : {A B : Type 0} {x : A} → None ≡ Some x → B
 none_some e = absurd cc
@@ -22,15 +23,9 @@ pub both_given : {A B : Type 0} (first : Option A) (next : A → Option B) (y : 
 both_given None next y e = none_some e
 both_given (Some x) next y e = (x, refl, e)
 
-same_some : {A : Type 0} {x y : A} → Some x ≡ Some y → x ≡ y
-same_some e = cc
-
-if_given : {A : Type 0} (test : Bool) (found : Option A) (x : A) → (if test then found else None) ≡ Some x → (test ≡ true) × (found ≡ Some x)
+pub if_given : {A : Type 0} (test : Bool) (found : Option A) (x : A) → (if test then found else None) ≡ Some x → (test ≡ true) × (found ≡ Some x)
 if_given true found x e = (refl, e)
 if_given false found x e = none_some e
-
-same_width : (w : ℕ) → (w == w) ≡ true
-same_width w = grind (arith, nat_tests)
 
 module _ (env : Environment) where
   word_typed : (w : ℕ) (found : Option ℕ) (v : Val) → option_and_then (word_of w) found ≡ Some v → has_type env v (Word w) ≡ true

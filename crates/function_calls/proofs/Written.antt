@@ -1,6 +1,7 @@
 -- What a call of an accepted specification gives is written.
-use Rattle.std.proofs.Common.{◌≡◌, ℕ, ◌^◌, ◌<◌, Bool, true, false, ◌&&◌, ◌==◌, Option, Some, None, List, [], refl, sym, subst, ltb-true, eqb-true}
+use Rattle.std.proofs.Common.{◌≡◌, ℕ, ◌^◌, ◌<◌, true, false, ◌&&◌, ◌==◌, Option, Some, None, List, [], refl, sym, subst, ltb-true, eqb-true}
 use Rattle.std.specs.Prelude.{nat_lt}
+use Rattle.std.proofs.lemmas.Bool.{and_parts as both_parts}
 use Rattle.spec_types.specs.declared.ty.Ty.{Ty}
 use Rattle.spec_types.specs.declared.ty.Ty.TheVariants.{Bool as Flag, Word, Data, Map}
 use Rattle.spec_types.specs.Environment.{Environment}
@@ -14,10 +15,6 @@ use Rattle.meaning_laws.proofs.Turns.{meanings_have_types}
 use Rattle.function_calls.specs.Calls.{call_end, called, end_of_call, end_of_meaning, is_written, value}
 use Rattle.function_calls.specs.Laws.{IsWritten, ValuesAreWritten}
 use Rattle.function_calls.proofs.Typing.{arguments_typed, is_called}
-
-both_parts : (a b : Bool) → a && b ≡ true → (a ≡ true) × (b ≡ true)
-both_parts true b h = (refl, h)
-both_parts false b h = absurd cc
 
 no_truth : {A : Type 0} → false ≡ true → A
 no_truth e = absurd cc

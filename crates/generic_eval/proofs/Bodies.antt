@@ -23,9 +23,9 @@ use Rattle.eval_state.specs.Views.{all_abs, yield}
 use Rattle.eval_state.specs.declared.given.Given.{Given}
 use Rattle.generic_eval.specs.Runs.{HaveGrown, Runs}
 use Rattle.eval_memo.proofs.Answering.{passed}
-use Rattle.eval_memo.proofs.Items.{drop_here}
 use Rattle.generic_eval.proofs.Growing.{grown_then, no_more}
 use Rattle.generic_eval.proofs.Turning.{bodies_fail, bodies_next, body_fails, body_gives, each_head, each_next}
+use Rattle.tsl_match.proofs.Loops.{drop_here}
 
 -- ---- one body
 module _ {X W N C : Type 0} (B : Algebra W N C) (cap : ℕ) (on : ℕ → List (Abs W N) → Answer (Abs W N)) (s : Setting X W N C) (g : ℕ) where

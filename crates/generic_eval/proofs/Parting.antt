@@ -1,13 +1,11 @@
 -- Parts and branches of forms, by their places.
 use Rattle.std.proofs.Common.{◌≡◌, ◌<◌, ◌≤◌, ◌+◌, ℕ, zero, suc, Bool, false, Some, None, refl, ap, subst, add-one, arith}
+use Rattle.std.proofs.lemmas.Option.{same_Some as some_is}
 use Rattle.spec_types.specs.CoreTerms as form
 use Rattle.spec_types.specs.CoreTerms.{Core, Cores, no_core, core_then}
 use Rattle.eval_forms.specs.Forms.{branches, count, part_at, parts, parts_from}
 use Rattle.eval_memo.specs.Order.{AllInOrder, InOrder}
 use Rattle.eval_forms.specs.Weights.{weight, weights}
-
-some_is : {A : Type 0} (x y : A) → Some x ≡ Some y → x ≡ y
-some_is x y e = cc
 
 from_suc : (ts : Cores) (i : ℕ) (x : Core) → part_at ts i ≡ Some x → parts_from i ts ≡ core_then x (parts_from (suc i) ts)
 from_suc no_core i x e = absurd cc

@@ -1,9 +1,10 @@
 -- What plans give, and what follows forms.
 use Rattle.std.proofs.Common.{◌≡◌, ◌∙◌, ◌++◌, cond, ℕ, zero, suc, Bool, true, false, List, [], ◌∷◌, Option, Some, None, refl, sym, ap}
+use Rattle.std.proofs.lemmas.Option.{same_Some as some_is}
 use Rattle.base_trait.specs.Algebra.{Algebra}
 use Rattle.base_trait.specs.Uses.{Seen}
 use Rattle.base_trait.specs.declared.tri.Tri.{Tri}
-use Rattle.tsl_match.specs.Decisions.{Tree, Trees, row, on_case, on_word, on_flag, no_tree, tree_then}
+use Rattle.tsl_match.specs.Decisions.{Decision, Decisions, row, on_case, on_word, on_flag, no_tree, tree_then}
 use Rattle.spec_types.specs.CoreTerms.{Core, Cores, no_core, core_then}
 use Rattle.value_laws.specs.Abs.{Abs, Cases, no_case, absent, present}
 use Rattle.recursion_fix.specs.Answer.{Yield, fails, gives}
@@ -15,9 +16,6 @@ use Rattle.eval_memo.specs.declared.setting.Setting.{Setting}
 use Rattle.eval_forms.specs.Forms.{part_at}
 use Rattle.eval_forms.specs.Plans.{Plan, arm, both, either, given_plan, nothing, plan_then, planned, present_plan, row_plan}
 use Rattle.eval_memo.specs.Settings.{given_arm, given_decided, given_of, join_yields}
-
-some_is : {A : Type 0} (x y : A) → Some x ≡ Some y → x ≡ y
-some_is x y e = cc
 
 module _ {X W N C : Type 0} (B : Algebra W N C) (cap : ℕ) (on : ℕ → List (Abs W N) → Answer (Abs W N)) (s : Setting X W N C) (g : ℕ) (tail : Bool) (env : List (Abs W N)) where
   pub arm_is : (ts : Cores) (r : ℕ) (vs : List (Abs W N)) (x : Core) (l : List Seen) → part_at ts r ≡ Some x → given_arm B cap on s g tail env ts r vs l ≡ given_of B cap on s g tail (env ++ vs) x l
@@ -75,7 +73,7 @@ module _ {X W N C : Type 0} (B : Algebra W N C) (cap : ℕ) (on : ℕ → List (
     then_so (both p o) q l = refl
 
     module _ (x : Abs W N) where
-      abbrev decided_so : Tree → Evaluation (Yield (GroupArgs W N) (Abs W N))
+      abbrev decided_so : Decision → Evaluation (Yield (GroupArgs W N) (Abs W N))
       decided_so by = given_decided B cap on s g tail env arms x by
 
       row_so : (r : ℕ) (o : Option (List (Abs W N))) (l : List Seen) → given_so (row_plan r o) l ≡ arm_on (λ vs m. given_arm B cap on s g tail env arms r vs m) o l
@@ -83,13 +81,13 @@ module _ {X W N C : Type 0} (B : Algebra W N C) (cap : ℕ) (on : ℕ → List (
       row_so r (Some vs) l = refl
 
       mutual
-        pub given_planned : (by : Tree) (l : List Seen) → given_so (planned B s.ctx.now x by) l ≡ decided_so by l
+        pub given_planned : (by : Decision) (l : List Seen) → given_so (planned B s.ctx.now x by) l ≡ decided_so by l
         given_planned (row r binds) l = row_so r (abs_named x binds) l
         given_planned (on_case at ts) l = given_present nothing ts (cases_there (abs_at at x)) l
         given_planned (on_word at n a b) l = given_either (word_there B s.ctx.now (abs_at at x) n) (planned B s.ctx.now x a) (planned B s.ctx.now x b) (decided_so a) (decided_so b) (given_planned a) (given_planned b) l
         given_planned (on_flag at a b) l = given_either (flag_there (abs_at at x)) (planned B s.ctx.now x a) (planned B s.ctx.now x b) (decided_so a) (decided_so b) (given_planned a) (given_planned b) l
 
-        given_present : (first : Plan W N) (ts : Trees) (cs : Cases W N) (l : List Seen)
+        given_present : (first : Plan W N) (ts : Decisions) (cs : Cases W N) (l : List Seen)
             → given_so (present_plan B s.ctx.now x first ts cs) l ≡ then_on (given_so first l) (λ y l. joined_from j y (arms_present B s.ctx.now j (λ r vs m. given_arm B cap on s g tail env arms r vs m) x ts cs) l)
         given_present first no_tree cs l = stays (given_so first l)
           where

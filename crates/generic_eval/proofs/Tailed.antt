@@ -3,7 +3,7 @@ use Rattle.std.proofs.Common.{◌≡◌, ℕ, Bool, true, false, cond, List, [],
 use Rattle.base_trait.specs.Algebra.{Algebra}
 use Rattle.base_trait.specs.Uses.{Seen}
 use Rattle.base_trait.specs.declared.tri.Tri.{Tri}
-use Rattle.tsl_match.specs.Decisions.{Tree, Trees, row, on_case, on_word, on_flag, no_tree, tree_then}
+use Rattle.tsl_match.specs.Decisions.{Decision, Decisions, row, on_case, on_word, on_flag, no_tree, tree_then}
 use Rattle.spec_types.specs.CoreTerms as form
 use Rattle.spec_types.specs.CoreTerms.{Core, Cores}
 use Rattle.value_laws.specs.Abs.{Abs, Cases, no_case, absent, present}
@@ -57,10 +57,10 @@ module _ {X W N C : Type 0} (B : Algebra W N C) (cap : ℕ) (calls : ℕ → Lis
   leaf_arm (Some vs) arm l = refl
 
   module _ (arm : ℕ → List (Abs W N) → Evaluation (Abs W N)) (x : Abs W N) where
-    abbrev plainly : Tree → Evaluation (Abs W N)
+    abbrev plainly : Decision → Evaluation (Abs W N)
     plainly by = decided B s.ctx.now j arm x by
 
-    abbrev leafly : Tree → Evaluation (Yield (GroupArgs W N) (Abs W N))
+    abbrev leafly : Decision → Evaluation (Yield (GroupArgs W N) (Abs W N))
     leafly by = decided B s.ctx.now (join_yields B cap calls s) (λ r vs l. leaf_of B cap calls s (arm r vs l)) x by
 
     same_branch : (o : Tri) (f g : Evaluation (Abs W N)) (f' g' : Evaluation (Yield (GroupArgs W N) (Abs W N))) → ((l : List Seen) → leaf_of B cap calls s (f l) ≡ f' l) → ((l : List Seen) → leaf_of B cap calls s (g l) ≡ g' l) → (l : List Seen)
@@ -79,13 +79,13 @@ module _ {X W N C : Type 0} (B : Algebra W N C) (cap : ℕ) (calls : ℕ → Lis
             ∙ ap (λ a. then_on a (λ y l. joined_from (join_yields B cap calls s) (join_some (join_yields B cap calls s) None y) (g' ∷ []) l)) (hf l)
 
     mutual
-      pub leaf_decided : (by : Tree) (l : List Seen) → leaf_of B cap calls s (plainly by l) ≡ leafly by l
+      pub leaf_decided : (by : Decision) (l : List Seen) → leaf_of B cap calls s (plainly by l) ≡ leafly by l
       leaf_decided (row r binds) l = leaf_arm (abs_named x binds) (arm r) l
       leaf_decided (on_case at ts) l = leaf_present ts (cases_there (abs_at at x)) None l
       leaf_decided (on_word at n a b) l = same_branch (word_there B s.ctx.now (abs_at at x) n) (plainly a) (plainly b) (leafly a) (leafly b) (leaf_decided a) (leaf_decided b) l
       leaf_decided (on_flag at a b) l = same_branch (flag_there (abs_at at x)) (plainly a) (plainly b) (leafly a) (leafly b) (leaf_decided a) (leaf_decided b) l
 
-      leaf_present : (ts : Trees) (cs : Cases W N) (first : Option (Abs W N)) (l : List Seen)
+      leaf_present : (ts : Decisions) (cs : Cases W N) (first : Option (Abs W N)) (l : List Seen)
           → leaf_of B cap calls s (joined_from j first (arms_present B s.ctx.now j arm x ts cs) l) ≡ joined_from (join_yields B cap calls s) (option_map leaf first) (arms_present B s.ctx.now (join_yields B cap calls s) (λ r vs l. leaf_of B cap calls s (arm r vs l)) x ts cs) l
       leaf_present no_tree cs first l = leaf_gives first l
       leaf_present (tree_then t ts) no_case first l = leaf_gives first l
@@ -136,7 +136,7 @@ module _ {X W N C : Type 0} (B : Algebra W N C) (cap : ℕ) (calls : ℕ → Lis
         at true = refl
         at false = leaf_bind (value_of B cap calls s env k l) (λ p l. branch j (flag_there (Some p)) (value_of B cap calls s env x) (value_of B cap calls s env y) l) ∙ branches_so (value_of B cap calls s env k l)
 
-    pub given_choose : (x : Core) (by : Tree) (arms : Cores) → given_of B cap calls s g tail env (form.choose x by arms) l ≡ (value_of B cap calls s env x l >>= λ p l. given_decided B cap calls s g tail env arms p by l)
+    pub given_choose : (x : Core) (by : Decision) (arms : Cores) → given_of B cap calls s g tail env (form.choose x by arms) l ≡ (value_of B cap calls s env x l >>= λ p l. given_decided B cap calls s g tail env arms p by l)
     given_choose x by arms = at tail
       where
         arm_so : ℕ → List (Abs W N) → Evaluation (Abs W N)

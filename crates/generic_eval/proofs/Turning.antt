@@ -2,7 +2,7 @@
 use Rattle.std.proofs.Common.{◌≡◌, ◌∙◌, ℕ, zero, suc, ◌+◌, ◌≤◌, true, List, [], ◌∷◌, length, map, Option, Some, None, option_map, slice_get, refl, ap, subst, add-one}
 use Rattle.std.specs.Prelude.{All, IfSome}
 use Rattle.std.proofs.lemmas.List.Elements.{All-cons, All-nil}
-use Rattle.std.proofs.lemmas.Option.{slice_get-map}
+use Rattle.std.proofs.lemmas.Option.{slice_get-map, same_Some as some_is}
 use Rattle.base_trait.specs.Algebra.{Algebra}
 use Rattle.base_trait.specs.Uses.{Seen}
 use Rattle.spec_types.specs.CoreTerms.{Core}
@@ -24,9 +24,6 @@ use Rattle.eval_memo.specs.Ready.{EachFrom, IsReady}
 use Rattle.eval_memo.specs.Settings.{body_turn, from_number, given_bodies, given_of, group_of, join_yields, spec_of}
 use Rattle.eval_forms.specs.Weights.{total, weight}
 use Rattle.generic_eval.proofs.Weighing.{of_total}
-
-some_is : {A : Type 0} (x y : A) → Some x ≡ Some y → x ≡ y
-some_is x y e = cc
 
 -- ---- lists that are there, each such as its function has
 pub each_head : {A : Type 0} (P : ℕ → A → Type 0) (i : ℕ) (o : Option A) (xs : List (Option A)) → EachFrom P i (o ∷ xs) → IfSome o (P i)

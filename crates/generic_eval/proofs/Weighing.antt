@@ -1,11 +1,9 @@
 -- Weights of parts.
 use Rattle.std.proofs.Common.{◌≡◌, ℕ, zero, suc, ◌+◌, ◌*◌, ◌<◌, ◌≤◌, List, [], ◌∷◌, Some, slice_get, ap, arith}
 use Rattle.std.proofs.Math.Nat.{mul-le-mul_left}
+use Rattle.std.proofs.lemmas.Option.{same_Some as some_is}
 use Rattle.spec_types.specs.CoreTerms.{Core, cores}
 use Rattle.eval_forms.specs.Weights.{depths, total, weight, weights}
-
-some_is : {A : Type 0} (x y : A) → Some x ≡ Some y → x ≡ y
-some_is x y e = cc
 
 pub of_total : (ts : List Core) (i : ℕ) (t : Core) → slice_get ts i ≡ Some t → weight t ≤ total ts
 of_total [] i t e = absurd cc

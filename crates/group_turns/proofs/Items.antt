@@ -1,7 +1,7 @@
 -- Items of lists that are seen as values.
 use Rattle.std.proofs.Common.{◌≡◌, ℕ, zero, suc, ◌+◌, ◌<◌, ◌≤◌, min, ◌&&◌, Bool, true, false, List, [], ◌∷◌, ◌++◌, Option, Some, None, length, drop, map, get_or, refl, sym, subst, ap, ◌∙◌, append_assoc, length-drop, arith}
 use Rattle.std.specs.Prelude.{IfSome, option_map, slice_get}
-use Rattle.std.proofs.lemmas.Option.{get_or_from_slice_get, slice_get-get_or, slice_get-map, slice_get_read, slice_get_within}
+use Rattle.std.proofs.lemmas.Option.{get_or_from_slice_get, slice_get-map, slice_get_read, slice_get_within}
 use Rattle.base_trait.specs.Algebra.{Algebra}
 use Rattle.spec_types.specs.declared.ty.Ty.{Ty}
 use Rattle.spec_types.specs.Environment.{Environment}
@@ -11,14 +11,10 @@ use Rattle.value_types.specs.Types.{has_type, have_types}
 use Rattle.abs_value.specs.View.{abs}
 use Rattle.abs_value.specs.declared.value.AV.{AV}
 use Rattle.abs_value.proofs.Both.{IsBoth}
-use Rattle.abs_value.proofs.Merging.{drop_here}
 use Rattle.reinterpretation.specs.Calls.{all_absorb}
 use Rattle.reinterpretation.specs.Terms.{merge_all}
 use Rattle.group_turns.specs.Merging.{merged_with}
-
--- an item, whatever stands for one past the end
-pub item_itself : {A : Type 0} (xs : List A) (i : ℕ) (d : A) → i < length xs → get_or xs i d ≡ get_or xs i (get_or xs i d)
-item_itself xs i d l = sym (get_or_from_slice_get xs i (get_or xs i d) (get_or xs i d) (slice_get-get_or xs i d l))
+use Rattle.tsl_match.proofs.Loops.{drop_here}
 
 module _ {A D : Type 0} (f : A → D) where
   pub item_seen : (xs : List A) (i : ℕ) (x : A) → i < length xs → x ≡ get_or xs i x → slice_get (map f xs) i ≡ Some (f x)

@@ -11,7 +11,7 @@ use Rattle.transfer_laws.specs.Analysis.{analysis_of}
 use Rattle.transfer_laws.specs.Runs.{IsTrueOfRuns}
 use Rattle.transfer_laws.proofs.Runs.{closed_tables_are_true}
 use Rattle.transfer.specs.Analysis.{IsReady, calls_of, problem}
-use Rattle.transfer.specs.Laws.{is_analysed}
+use Rattle.transfer.specs.Instance.{is_analysed}
 use Rattle.transfer.specs.declared.analysis.ImageAnalysis.{ImageAnalysis}
 
 module _ {X Y Z U V T E W N C : Type 0} (B : Algebra W N C) (laws : Laws W N C B) (cap : ℕ) (D : Elements E State) (M : Meaning E W N C) (is_for : Spec → Bool)

@@ -2,21 +2,12 @@
 use Rattle.std.proofs.Common.{◌≡◌, ℕ, zero, suc, ◌+◌, ◌-◌, ◌*◌, ◌/◌, ◌%◌, ◌<◌, ◌≤◌, ◌^◌, ◌==◌, Bool, true, false, ◌&&◌, Some, List, [], ◌∷◌, ◌++◌, length, drop, refl, ap, ap₂, sym, ◌∙◌, subst, arith, eqb-true, eq-eqb}
 use Rattle.std.specs.Prelude.{◌||◌, not, nat_le, min, max, is_some, if◌then◌else◌}
 use Rattle.std.specs.List.{list_all, list_any}
-use Rattle.std.proofs.lemmas.Bool.{leb-true, le-leb, ltb-false}
+use Rattle.std.proofs.lemmas.Bool.{leb-true, le-leb, ltb-false, not-true as not_true, and_parts as both, or_right}
+use Rattle.std.specs.Cmp.{both_ways as same_test}
 use Rattle.insn_decode.specs.declared.order.Order.{Order}
 use Rattle.insn_decode.specs.Image.{Segment, addresses, addresses_from, has_word, word_in, word_of, words_of, end_of}
 use Rattle.insn_decode.specs.Faults.{ascend, follows, is_segment, overlaps}
 use Rattle.insn_decode.specs.Laws.{AddressesAreThoseOfWords, ascend_from}
-use Rattle.insn_decode.proofs.Placing.{both}
-
-same_test : (x y : Bool) → (x ≡ true → y ≡ true) → (y ≡ true → x ≡ true) → x ≡ y
-same_test true y f g = sym (f refl)
-same_test false true f g = g refl
-same_test false false f g = refl
-
-or_right : (x y : Bool) → y ≡ true → (x || y) ≡ true
-or_right true y e = refl
-or_right false y e = e
 
 any-append : (test : ℕ → Bool) (xs ys : List ℕ) → list_any test (xs ++ ys) ≡ (list_any test xs || list_any test ys)
 any-append test [] ys = refl
@@ -104,10 +95,6 @@ clear_by (suc n) least base = nat_le least base
 
 abbrev clear : ℕ → Segment → Bool
 clear least q = clear_by (words_of q) least q.base
-
-not_true : (b : Bool) → not b ≡ true → b ≡ false
-not_true true e = cc
-not_true false e = refl
 
 clear_after : (s q : Segment) (n : ℕ) → words_of s ≡ suc n → follows s q ≡ true → clear (suc (s.base + 4 * n)) q ≡ true
 clear_after s q n e h = by (words_of q) refl

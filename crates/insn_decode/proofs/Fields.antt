@@ -3,11 +3,11 @@ use Rattle.std.proofs.Common.{◌≡◌, ℕ, ◌≤◌, List, [], ◌∷◌, le
 use Rattle.std.specs.Prelude.{option_map}
 use Rattle.std.specs.Option.{option_copied}
 use Rattle.spec_types.specs.declared.ty.Ty.{Ty}
+use Rattle.spec_types.proofs.Lists.{drop_past}
 use Rattle.tsl_values.specs.declared.value.Value.{Value}
 use Rattle.tsl_values.specs.Values.{no_val, vals}
 use Rattle.tsl_values.specs.Views.{val}
 use Rattle.insn_decode.specs.Listing.{field_texts}
-use Rattle.insn_decode.proofs.Steps.{drop_past}
 
 no_values : (fields : List (List ℕ × Ty)) → field_texts fields no_val ≡ []
 no_values [] = refl

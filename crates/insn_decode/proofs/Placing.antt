@@ -3,7 +3,7 @@ use Rattle.std.proofs.Common.{◌≡◌, ℕ, suc, ◌+◌, ◌≤◌, ◌<◌, 
 use Rattle.std.specs.Prelude.{◌||◌, not, nat_le, if◌then◌else◌}
 use Rattle.std.specs.List.{list_all, list_any}
 use Rattle.std.specs.List.{insert}
-use Rattle.std.proofs.lemmas.Bool.{leb-true, leb-false, le-leb}
+use Rattle.std.proofs.lemmas.Bool.{leb-true, leb-false, le-leb, and_parts as both, or_parts as neither}
 use Rattle.std.proofs.lemmas.List.{take-map, drop-map, map-append}
 use Rattle.insn_decode.specs.declared.segment.Segment.{Segment as Coded}
 use Rattle.insn_decode.specs.Image.{Segment, placed}
@@ -22,14 +22,6 @@ swap_and true true c = refl
 swap_and true false c = refl
 swap_and false true c = refl
 swap_and false false c = refl
-
-pub both : (a b : Bool) → (a && b) ≡ true → (a ≡ true) × (b ≡ true)
-both true b e = (refl, e)
-both false b e = cc
-
-pub neither : (a b : Bool) → (a || b) ≡ false → (a ≡ false) × (b ≡ false)
-neither true b e = cc
-neither false b e = (refl, e)
 
 module _ (s q : Segment) (segments xs : List Segment) where
   any_by : (p : Segment → Bool) (b : Bool) → list_any p xs ≡ (p s || list_any p segments) → list_any p (if b then q ∷ xs else s ∷ q ∷ segments) ≡ (p s || (p q || list_any p segments))

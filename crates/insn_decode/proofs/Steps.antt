@@ -1,22 +1,11 @@
 -- Steps of loops over lists.
-use Rattle.std.proofs.Common.{◌≡◌, ℕ, zero, suc, ◌+◌, ◌<◌, ◌≤◌, List, [], ◌∷◌, ◌++◌, length, take, drop, map, get_or, refl, ap, ◌∙◌, arith, add-one, Some}
+use Rattle.std.proofs.Common.{◌≡◌, ℕ, zero, suc, ◌+◌, ◌<◌, List, [], ◌∷◌, ◌++◌, length, take, drop, map, get_or, refl, ap, ◌∙◌, arith, add-one, Some}
 use Rattle.std.specs.Prelude.{slice_get}
-use Rattle.std.proofs.Math.Seq.{drop-cons, take-suc}
-
-pub drop_from : {A : Type 0} (xs : List A) (i : ℕ) (d : A) → i < length xs → drop i xs ≡ get_or xs i d ∷ drop (i + 1) xs
-drop_from xs i d h = rw (add-one, drop-cons xs i d h) refl
-
-pub drop_here : {A : Type 0} (xs : List A) (i : ℕ) (x : A) → x ≡ get_or xs i x → i < length xs → drop i xs ≡ x ∷ drop (i + 1) xs
-drop_here xs i x e h = rw (add-one, drop-cons xs i x h, ← e) refl
+use Rattle.std.proofs.Math.Seq.{take-suc}
+use Rattle.tsl_match.proofs.Loops.{drop_here}
 
 pub take_here : {A : Type 0} (xs : List A) (i : ℕ) (x : A) → x ≡ get_or xs i x → i < length xs → take (i + 1) xs ≡ take i xs ++ x ∷ []
 take_here xs i x e h = rw (add-one, take-suc xs i x h, ← e) refl
-
-pub drop_past : {A : Type 0} (xs : List A) (i : ℕ) → length xs ≤ i → drop i xs ≡ []
-drop_past [] zero h = refl
-drop_past [] (suc i) h = refl
-drop_past (x ∷ xs) zero h = absurd (omega (arith, h))
-drop_past (x ∷ xs) (suc i) h = drop_past xs i (omega (arith, h))
 
 -- the same of the images of a list
 module _ {A B : Type 0} (f : A → B) (xs : List A) (i : ℕ) (x : A) (e : x ≡ get_or xs i x) (h : i < length xs) where

@@ -1,14 +1,13 @@
 -- The bits of a word in the parts of a row.
-use Rattle.std.proofs.Common.{◌≡◌, ℕ, zero, suc, ◌+◌, ◌-◌, ◌/◌, ◌%◌, ◌^◌, ◌<◌, ◌≤◌, true, ◌==◌, Some, List, [], ◌∷◌, drop, ap, sym, ◌∙◌, subst, arith, shr-shr, eqb-true, pow_mono, lt_of_lt_of_le}
+use Rattle.std.proofs.Common.{◌≡◌, ℕ, zero, suc, ◌+◌, ◌-◌, ◌/◌, ◌%◌, ◌^◌, ◌<◌, true, ◌==◌, Some, List, [], ◌∷◌, drop, ap, sym, ◌∙◌, subst, arith, shr-shr, eqb-true}
 use Rattle.std.specs.Prelude.{slice_get}
 use Rattle.std.proofs.lemmas.Nat.{field_of}
-use Rattle.std.proofs.Math.Nat.{div-eq_of_lt}
+use Rattle.std.proofs.lemmas.Bool.{and_parts as both}
 use Rattle.word_ops.proofs.Powers.{mod_pow}
 use Rattle.spec_types.specs.declared.row.Part.{Part}
 use Rattle.spec_types.specs.declared.row.Part.TheVariants.{Fixed, Field}
 use Rattle.meaning.specs.Decode.{agrees, bits_above, width_sum}
 use Rattle.insn_decode.specs.Tree.{bit}
-use Rattle.insn_decode.proofs.Placing.{both}
 
 -- a bit of the bits above others
 pub bit-bits_above : (code n w left : ℕ) → left < w → bit (bits_above n w code) left ≡ bit code (left + n)
@@ -32,10 +31,6 @@ agrees_at code (Fixed u x ∷ parts) zero v w at agree =
 agrees_at code (Field x ∷ parts) zero v w at agree = cc
 agrees_at code (Fixed u x ∷ parts) (suc i) v w at agree = agrees_at code parts i v w at (both (bits_above (width_sum parts) x code == u) (agrees code parts) agree).1
 agrees_at code (Field x ∷ parts) (suc i) v w at agree = agrees_at code parts i v w at agree
-
--- numbers of 64 bits have no bits further up
-pub none_past : (v n : ℕ) → v < 2 ^ 64 → 64 ≤ n → v / 2 ^ n ≡ 0
-none_past v n below past = div-eq_of_lt (lt_of_lt_of_le below (pow_mono past))
 
 -- a fixed part fixes its bits
 pub fixed_here : (parts : List Part) (i v w left code : ℕ) → slice_get parts i ≡ Some (Fixed v w) → left < w → agrees code parts ≡ true → bit code (left + width_sum (drop (suc i) parts)) ≡ bit v left

@@ -2,12 +2,11 @@
 use Rattle.std.proofs.Common.{◌≡◌, ℕ, ◌+◌, ◌-◌, ◌%◌, ◌==◌, Bool, true, false, ◌&&◌, Some, List, [], ◌∷◌, drop, refl, ap, ap₂, sym, ◌∙◌, subst, arith, eqb-true, eq-eqb, inl, inr}
 use Rattle.std.specs.Prelude.{not, nat_le, min, max, if◌then◌else◌}
 use Rattle.std.specs.List.{list_all}
-use Rattle.std.proofs.lemmas.Bool.{leb-true, le-leb, lt-ltb, ltb-true}
+use Rattle.std.proofs.lemmas.Bool.{leb-true, le-leb, lt-ltb, ltb-true, and_parts as both}
 use Rattle.insn_decode.specs.declared.order.Order.{Order}
 use Rattle.insn_decode.specs.Image.{Segment, HasWord, IsWordAt, has_word, word_in, word_of, end_of}
 use Rattle.insn_decode.specs.Faults.{HasByte, ascend, follows, overlaps}
 use Rattle.insn_decode.specs.Laws.{OverlapsAreSharedBytes, WordsAreFound}
-use Rattle.insn_decode.proofs.Placing.{both}
 
 pub overlaps_are_shared_bytes : OverlapsAreSharedBytes
 overlaps_are_shared_bytes s q = (

@@ -6,7 +6,7 @@ pub mod DivS
 pub mod DivU
 pub mod Equal
 pub mod Join
-pub mod Laws
+pub mod Instance
 pub mod Meaning
 pub mod Members
 pub mod Mul

@@ -15,7 +15,7 @@
 //! Two single numbers give the exact result.
 //!
 //! *Files.* Each operation has a file in src/ and its definition in specs/, with the law that it holds each result: `add_of`
-//! and `add_sound` in specs/Add. specs/Operations puts them together, specs/Laws proves the laws of `Base`.
+//! and `add_sound` in specs/Add. specs/Operations puts them together, specs/Instance proves the laws of `Base`.
 //!
 //! The laws of `laws` say what is best: sums, differences, negations, complements and casts give the least interval of
 //! the results, and a comparison may have exactly the truth values that it has of some two numbers. Of the other

@@ -1,6 +1,6 @@
 //! Intervals as text.
 
-use case_lines::{Notation, is_word, number};
+use case_lines::{Notation, Read, word};
 use interval_base::{Interval, Range};
 use std::alloc::{AllocError, Global};
 
@@ -10,15 +10,8 @@ pub(crate) struct Intervals;
 impl Notation for Intervals {
     type Of = Interval;
 
-    fn word(_ctx: &(), w: u32, text: &str) -> Option<Range> {
-        let (low, high) = text.split_once("..")?;
-        let lo = number(low)?;
-        let hi = number(high)?;
-        if lo <= hi && is_word(w, hi) {
-            Some(Range { lo, hi })
-        } else {
-            None
-        }
+    fn word(alloc: Global, ctx: &(), w: u32, text: &str) -> Read<Range> {
+        word::<Interval>(alloc, ctx, w, text)
     }
 
     fn text(alloc: Global, _w: u32, x: &Range) -> Result<String, AllocError> {

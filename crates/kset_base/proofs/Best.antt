@@ -10,7 +10,7 @@ use Rattle.base_trait.proofs.Lists.{ascending_same, among_map, map_among, range_
 use Rattle.base_trait.proofs.Tests.{or_sorted, at_choice}
 use Rattle.kset_base.specs.Adding.{bounded_few, bounded_many}
 use Rattle.kset_base.specs.Best.{IsSetOf, IsBest, IsImage, IsProduct, IsOfEither, BestResults, ExactComparisons, NoNumbers}
-use Rattle.kset_base.specs.Laws.{set_has, set_keeps, set_only, set_ascends, among_rows, rows_among, some_pair_at, outcome_itself}
+use Rattle.kset_base.specs.Instance.{set_has, set_keeps, set_only, set_ascends, among_rows, rows_among, some_pair_at, outcome_itself}
 use Rattle.kset_base.specs.Meaning.{some_pair, outcome}
 use Rattle.kset_base.specs.Sets.{bounded, set_of, set_with, from_to}
 

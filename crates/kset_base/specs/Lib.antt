@@ -1,7 +1,7 @@
 pub mod Adding
 pub mod Best
 pub mod Changes
-pub mod Laws
+pub mod Instance
 pub mod Meaning
 pub mod Same
 pub mod Sets

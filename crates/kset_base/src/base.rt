@@ -23,7 +23,7 @@ impl<const K: usize> Base for KSet<K> {
     ghost use Rattle.base_trait.specs.Laws.{IsExtension};
     ghost use Rattle.base_trait.specs.NoNotes.{no_notes};
     ghost use Rattle.base_trait.specs.Notes.{own_calls};
-    ghost use Rattle.kset_base.specs.Laws.{kset_laws};
+    ghost use Rattle.kset_base.specs.Instance.{kset_laws};
     ghost use Rattle.kset_base.specs.Meaning.{absorbs_set, Fits, kset};
     ghost use Rattle.kset_base.specs.Same.{same_set_is};
     ghost use Rattle.kset_base.specs.Sets.{bounded, from_to, images, products, union};
@@ -40,7 +40,7 @@ impl<const K: usize> Base for KSet<K> {
 
     ghost algebra = { kset K };
 
-    /// The set of one number, or any where K is 0.
+    /// The set of one number, or any where K is 0: 5 is `{5}`. Best.
     fn constant(_alloc: Global, _ctx: &(), w: u32, v: u64) -> Result<Set<K>, NoMemory>
         requires width { IsWidth w }
         requires number { v < 2 ^ w }
@@ -53,7 +53,7 @@ impl<const K: usize> Base for KSet<K> {
         Ok(out)
     }
 
-    /// Every number of the width. It is not the full set: of 1 bit, `any` and `{0, 1}` are two words.
+    /// Every number of the width, at 8 bits 0 to 255. Not the full set: of 1 bit `any` and `{0, 1}` are two words.
     fn any(_alloc: Global, _ctx: &(), w: u32) -> Result<Set<K>, NoMemory>
         requires width { IsWidth w }
         ensures value { IfOk result (λ r. r ≡ None) }
@@ -75,8 +75,7 @@ impl<const K: usize> Base for KSet<K> {
         Ok(Set::from_to(low, high))
     }
 
-    /// The set of all results, or any where they are more than K: best among words. At 8 bits, Neg of
-    /// `{1, 2}` is `{254, 255}`.
+    /// The set of all results, and of any, any: best among words. At 8 bits, Neg of `{1, 2}` is `{254, 255}`.
     fn op1(_alloc: Global, _ctx: &(), op: Op1, w: u32, x: &Set<K>) -> Result<Set<K>, NoMemory>
         requires width { IsWidth w }
         requires word { Fits K w x.now }
@@ -87,8 +86,8 @@ impl<const K: usize> Base for KSet<K> {
         Ok(image(Change::Operation { op, w }, x))
     }
 
-    /// The set of all results, or any where they are more than K: best among words. `{1, 2} + {3, 4}`
-    /// is `{4, 5, 6}`.
+    /// Of two sets that of all results, or any where they are more than K: best among words. `{1, 2} + {3, 4}` is
+    /// `{4, 5, 6}`. With any it is any, and not always the best: `any & {0}` is any, though each result is 0.
     fn op2(
         _alloc: Global,
         _ctx: &(),
@@ -107,12 +106,14 @@ impl<const K: usize> Base for KSet<K> {
         Ok(dispatch!(op (op, w, x, y) { _ => product }))
     }
 
-    /// The truth values of all pairs; of any, both. `{1, 9} < {5}` may be both.
+    /// Of two sets exactly the truth values of all pairs, and with any both. `{1, 9} < {5}` may be both.
+    /// `any < {0}` is said to be both, though it is never true.
     fn cmp(_ctx: &(), c: Cmp, w: u32, x: &Set<K>, y: &Set<K>) -> Tri {
         dispatch!(c (c, w, x, y) { _ => compare })
     }
 
-    /// The same numbers: best.
+    /// The same numbers, which is best: from 4 to 8 bits `{7, 8}` stays `{7, 8}`. Of any it is any: from
+    /// 1 to 8 bits `{0, 1}` would be the best where K is at least 2.
     fn zext(_alloc: Global, _ctx: &(), from: u32, to: u32, x: &Set<K>) -> Result<Set<K>, NoMemory>
         requires widths { IsExtension from to }
         requires word { Fits K from x.now }
@@ -123,7 +124,8 @@ impl<const K: usize> Base for KSet<K> {
         Ok(image(Change::Zero { from, to }, x))
     }
 
-    /// The set of all results: best. From 4 to 8 bits, `{7, 8}` becomes `{7, 248}`.
+    /// The set of all results, which is best: from 4 to 8 bits `{7, 8}` becomes `{7, 248}`. Of any it is any: from
+    /// 1 to 8 bits `{0, 255}` would be the best where K is at least 2.
     fn sext(_alloc: Global, _ctx: &(), from: u32, to: u32, x: &Set<K>) -> Result<Set<K>, NoMemory>
         requires widths { IsExtension from to }
         requires word { Fits K from x.now }
@@ -134,7 +136,7 @@ impl<const K: usize> Base for KSet<K> {
         Ok(image(Change::Sign { from, to }, x))
     }
 
-    /// The set of all results: best. From 8 to 4 bits, `{1, 17}` becomes `{1}`.
+    /// The set of all results, and of any, any: best. From 8 to 4 bits, `{1, 17}` becomes `{1}`.
     fn trunc(_alloc: Global, _ctx: &(), from: u32, to: u32, x: &Set<K>) -> Result<Set<K>, NoMemory>
         requires widths { IsExtension to from }
         requires word { Fits K from x.now }
@@ -157,8 +159,8 @@ impl<const K: usize> Base for KSet<K> {
         Ok(both(x, y))
     }
 
-    /// The old set where it has the numbers of the new one, else any: `{1, 2}` widened with `{2}` stays, and
-    /// with `{3}` it is any.
+    /// The old set where it has the numbers of the new one, else any. `{1, 2}` widened with `{2}` stays, and with
+    /// `{3}` it is any. The best would be `{1, 2, 3}` where K is at least 3.
     fn widen(
         _alloc: Global,
         ctx: &(),
@@ -180,7 +182,8 @@ impl<const K: usize> Base for KSet<K> {
         }
     }
 
-    /// Whether the old set has each number of the new one; any has every number: `{1, 2}` absorbs `{2}`.
+    /// Whether the old set has each number of the new one; any has every number: `{1, 2}` absorbs `{2}`, and not
+    /// `{3}`. No set absorbs any, though of 1 bit `{0, 1}` has as many numbers.
     fn absorbs(_ctx: &(), _w: u32, old: &Set<K>, new: &Set<K>) -> bool {
         match (old.listed(), new.listed()) {
             (None, _) => true,
@@ -189,12 +192,12 @@ impl<const K: usize> Base for KSet<K> {
         }
     }
 
-    /// 0 for any, else 1: a set is widened once at most.
+    /// 0 for any, else 1: a set, as `{1, 2}`, is widened once at most.
     fn rank(_ctx: &(), _w: u32, x: &Set<K>) -> u64 {
         if x.is_any() { 0 } else { 1 }
     }
 
-    /// The number of a set of one.
+    /// The number, exactly where there is one: 5 of `{5}`, and none of `{5, 6}` and of any.
     fn exact(_ctx: &(), _w: u32, x: &Set<K>) -> Option<u64> {
         match x.listed() {
             Some([number]) => Some(*number),
@@ -202,7 +205,7 @@ impl<const K: usize> Base for KSet<K> {
         }
     }
 
-    /// Whether the set has the number; any may be each.
+    /// Exactly whether the set has the number; any may be each: `{1, 2}` may be 2, and not 3.
     fn may(_ctx: &(), _w: u32, x: &Set<K>, k: u64) -> bool {
         match x.listed() {
             Some(numbers) => has(numbers, k),
@@ -210,7 +213,8 @@ impl<const K: usize> Base for KSet<K> {
         }
     }
 
-    /// The numbers of the set; of any, all of the width. `{1, 2}` has no list at the limit 1.
+    /// The numbers of the set; of any, all of the width. `{1, 2}` has no list at the limit 1. Any of 2 bits is
+    /// 0, 1, 2, 3 at the limit 4.
     fn members(
         alloc: Global,
         _ctx: &(),
@@ -228,6 +232,7 @@ impl<const K: usize> Base for KSet<K> {
         }
     }
 
+    /// The same word once more: of `{1, 2}` it is `{1, 2}`.
     fn copy(_alloc: Global, _ctx: &(), x: &Set<K>) -> Result<Set<K>, NoMemory>
         ensures value { IfOk result (λ r. r ≡ x.now) }
         ensures ok { IsOk result }

@@ -30,7 +30,7 @@ module _ {A : Type 0} where
   first_ascends low (suc n) [] h = tt
   first_ascends low (suc n) (e ∷ es) h = (h.0, first_ascends (e.0 + 1) n es h.1)
 
-  first_each : (P : ℕ → Type 0) (n : ℕ) (es : List (ℕ × A)) → Each P (map (λ e. e.0) es) → Each P (map (λ e. e.0) (take n es))
+  pub first_each : (P : ℕ → Type 0) (n : ℕ) (es : List (ℕ × A)) → Each P (map (λ e. e.0) es) → Each P (map (λ e. e.0) (take n es))
   first_each P zero es h = tt
   first_each P (suc n) [] h = tt
   first_each P (suc n) (e ∷ es) h = (h.0, first_each P n es h.1)
@@ -47,7 +47,7 @@ module _ {A : Type 0} where
 each_below : (n : ℕ) (ks : List ℕ) → ((k : ℕ) → IsAmong k ks → k < n) → Each (λ k. k < n) ks
 each_below n ks h = each_from (λ k. k < n) ks h
 
-each_zero : (ks : List ℕ) → Each (λ k. 0 ≤ k) ks
+pub each_zero : (ks : List ℕ) → Each (λ k. 0 ≤ k) ks
 each_zero [] = tt
 each_zero (k ∷ ks) = (omega arith, each_zero ks)
 

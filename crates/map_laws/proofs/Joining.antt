@@ -1,5 +1,6 @@
 -- Absorption, and join.
 use Rattle.std.proofs.Common.{◌≡◌, ℕ, ◌≤◌, Bool, true, false, List, [], ◌∷◌, length, take, drop, zero, suc, refl, sym, ap, ◌∙◌, subst, arith, IsTrue, cond, ◌⊎◌, inl, inr}
+use Rattle.std.proofs.lemmas.List.{drop_all}
 use Rattle.word_ops.specs.Width.{IsWidth}
 use Rattle.base_trait.specs.Algebra.{Algebra}
 use Rattle.base_trait.specs.Laws.{Laws}
@@ -20,12 +21,6 @@ take_all zero [] h = refl
 take_all zero (x ∷ xs) h = absurd (omega (arith, h))
 take_all (suc n) [] h = refl
 take_all (suc n) (x ∷ xs) h = ap (λ l. x ∷ l) (take_all n xs (omega (arith, h)))
-
-pub drop_all : {A : Type 0} (n : ℕ) (xs : List A) → length xs ≤ n → drop n xs ≡ []
-drop_all zero [] h = refl
-drop_all zero (x ∷ xs) h = absurd (omega (arith, h))
-drop_all (suc n) [] h = refl
-drop_all (suc n) (x ∷ xs) h = drop_all n xs (omega (arith, h))
 
 pub length_made : {W N : Type 0} (ks : List ℕ) (f : ℕ → Cell W N) → length (cells_at ks f) ≡ length ks
 length_made [] f = refl

@@ -21,7 +21,7 @@ use Rattle.map_laws.proofs.Absorbing.{absorbed_rest, absorbed_at, absorbs_from}
 use Rattle.map_laws.proofs.Reading.{joined_each}
 use Rattle.map_laws.proofs.Joining.{fit_at}
 
-among_filter : (test : ℕ → Bool) (k : ℕ) (ks : List ℕ) → IsTrue (test k) → IsAmong k ks → IsAmong k (filter test ks)
+pub among_filter : (test : ℕ → Bool) (k : ℕ) (ks : List ℕ) → IsTrue (test k) → IsAmong k ks → IsAmong k (filter test ks)
 among_filter test k [] t a = absurd a
 among_filter test k (j ∷ js) t a = place a (λ b. among_filter test k js t b)
   where

@@ -7,7 +7,8 @@ use Rattle.word_ops.proofs.Widths.{ones_of}
 use Rattle.tsl_match.specs.declared.shape.Shape.{Shape}
 use Rattle.tsl_match.specs.declared.shape.Shape.TheVariants.{Bool as Flag, Word, Data, Opaque}
 use Rattle.tsl_match.specs.declared.pattern.Pattern.{Pattern}
-use Rattle.tsl_match.specs.Patterns.{Pat, Pats, any, bind, flag_is, word_is, case_is, no_pat, pat_then}
+use Rattle.tsl_match.specs.Patterns as plain
+use Rattle.tsl_match.specs.Patterns.{any, bind, flag_is, word_is, case_is, no_pat, pat_then}
 use Rattle.tsl_match.specs.Shapes.{Types, fields_of, Suits, AllSuit, AreTypes, IsShape, AreShapes, RanksBelow}
 use Rattle.match_tests.specs.Premises.{shape_fits, shapes_fit, cases_fit, types_fit, pattern_fits, patterns_fit, rows_fit}
 use Rattle.tsl_match.specs.Views.{pat}
@@ -28,7 +29,7 @@ word_less w n h l = let e = ones_of w h in omega (arith, e)
 
 module _ (types : Types) where
   mutual
-    pub fit_suits : (s : Shape) (p : Pat) → pattern_fits types s p ≡ true → Suits types s p
+    pub fit_suits : (s : Shape) (p : plain.Pattern) → pattern_fits types s p ≡ true → Suits types s p
     fit_suits s any h = tt
     fit_suits s (bind n) h = tt
     fit_suits Flag (flag_is b) h = tt
@@ -40,7 +41,7 @@ module _ (types : Types) where
         (unwrap_or o [], there o (and_left (is_some o) (patterns_fit types (unwrap_or o []) ps) h), fits_suit (unwrap_or o []) ps (and_right (is_some o) (patterns_fit types (unwrap_or o []) ps) h))
     fit_suits s p h = absurd (cc)
 
-    fits_suit : (shapes : List Shape) (ps : Pats) → patterns_fit types shapes ps ≡ true → AllSuit types shapes ps
+    fits_suit : (shapes : List Shape) (ps : plain.Patterns) → patterns_fit types shapes ps ≡ true → AllSuit types shapes ps
     fits_suit [] no_pat h = tt
     fits_suit (s ∷ shapes) (pat_then p ps) h = (fit_suits s p (and_left (pattern_fits types s p) (patterns_fit types shapes ps) h), fits_suit shapes ps (and_right (pattern_fits types s p) (patterns_fit types shapes ps) h))
     fits_suit shapes ps h = absurd (cc)

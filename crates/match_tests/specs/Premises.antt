@@ -2,7 +2,7 @@
 use Rattle.std.specs.Prelude.{ℕ, ◌+◌, ◌-◌, ◌/◌, ◌^◌, Bool, true, false, ◌&&◌, nat_lt, nat_le, List, [], ◌∷◌, length, is_some, unwrap_or}
 use Rattle.tsl_match.specs.declared.shape.Shape.{Shape}
 use Rattle.tsl_match.specs.declared.shape.Shape.TheVariants.{Bool as Flag, Word, Data, Opaque}
-use Rattle.tsl_match.specs.Patterns.{Pat, Pats, any, bind, flag_is, word_is, case_is, no_pat, pat_then}
+use Rattle.tsl_match.specs.Patterns.{Pattern, Patterns, any, bind, flag_is, word_is, case_is, no_pat, pat_then}
 use Rattle.tsl_match.specs.Shapes.{Types, fields_of}
 
 -- a shape that a field of type n may have
@@ -27,7 +27,7 @@ types_fit n (cases ∷ types) = (nat_lt 0 (length cases) && nat_lt (length cases
 
 module _ (types : Types) where
   abbrev mutual
-    pub pattern_fits : Shape → Pat → Bool
+    pub pattern_fits : Shape → Pattern → Bool
     pattern_fits s any = true
     pattern_fits s (bind n) = true
     pattern_fits Flag (flag_is b) = true
@@ -35,11 +35,11 @@ module _ (types : Types) where
     pattern_fits (Data t) (case_is c ps) = is_some (fields_of types t c) && patterns_fit (unwrap_or (fields_of types t c) []) ps
     pattern_fits _ _ = false
 
-    pub patterns_fit : List Shape → Pats → Bool
+    pub patterns_fit : List Shape → Patterns → Bool
     patterns_fit [] no_pat = true
     patterns_fit (s ∷ shapes) (pat_then p ps) = pattern_fits s p && patterns_fit shapes ps
     patterns_fit _ _ = false
 
-  abbrev pub rows_fit : Shape → List Pat → Bool
+  abbrev pub rows_fit : Shape → List Pattern → Bool
   rows_fit s [] = true
   rows_fit s (p ∷ rows) = pattern_fits s p && rows_fit s rows

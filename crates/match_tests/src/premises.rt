@@ -1,4 +1,4 @@
-//! Whether the premises of a match hold, for the tests.
+//! Whether the premises of a match hold.
 
 ghost use Rattle.std.specs.Prelude.{◌≡◌, true, Some, IfSome, map};
 ghost use Rattle.tsl_match.specs.Shapes.{fields_of};

@@ -9,7 +9,7 @@ use Rattle.word_ops.specs.Cmp.{cmp_of}
 use Rattle.word_ops.specs.Casts.{zext_of, sext_of, trunc_of}
 use Rattle.base_trait.specs.declared.uses.Stamped.TheVariants.{At}
 use Rattle.base_trait.specs.Uses.{Read}
-use Rattle.tsl_match.specs.Patterns.{Pat, Pats, bind, case_is, pat_then}
+use Rattle.tsl_match.specs.Patterns.{Pattern, Patterns, bind, case_is, pat_then}
 use Rattle.tsl_match.specs.Values as m
 use Rattle.tsl_match.specs.Values.{Value, Values}
 use Rattle.spec_types.specs.declared.term.CastKind.{CastKind}
@@ -98,11 +98,11 @@ abbrev mutual
 
 abbrev mutual
   -- what the variables of a pattern name in a value that meets it, from left to right
-  pub bound : Pat → Val → List Val
+  pub bound : Pattern → Val → List Val
   bound (bind n) v = v ∷ []
   bound (case_is c ps) (made t d vs) = all_bound ps vs
   bound _ v = []
 
-  pub all_bound : Pats → Vals → List Val
+  pub all_bound : Patterns → Vals → List Val
   all_bound (pat_then p ps) (val_then v vs) = bound p v ++ all_bound ps vs
   all_bound _ _ = []

@@ -2,9 +2,9 @@
 use Rattle.std.proofs.Common.{◌≡◌, ℕ, ◌+◌, ◌<◌, true, ◌==◌, Option, Some, None, List, [], ◌∷◌, ◌++◌, length, slice_get, refl, sym, subst}
 use Rattle.std.specs.Prelude.{is_some}
 use Rattle.std.specs.List.{list_all}
-use Rattle.std.proofs.lemmas.Bool.{false≢true}
+use Rattle.std.proofs.lemmas.Bool.{false≢true, eqb-true as same_number, lt-ltb as less_is}
 use Rattle.std.proofs.lemmas.Option.{slice_get_within}
-use Rattle.tsl_match.specs.Patterns.{Pat, Pats, any, bind, flag_is, word_is, case_is, no_pat, pat_then}
+use Rattle.tsl_match.specs.Patterns.{Pattern, Patterns, any, bind, flag_is, word_is, case_is, no_pat, pat_then}
 use Rattle.tsl_match.specs.Meets.{meets, all_meet}
 use Rattle.tsl_match.proofs.Truth.{and_left, and_right, both, equal_itself}
 use Rattle.spec_types.specs.declared.ty.Ty.{Ty}
@@ -14,16 +14,17 @@ use Rattle.spec_types.specs.Texts.{cases_of, case_at, fields_at}
 use Rattle.spec_types.specs.TermTypes.{PatternTyped, PatternsTyped}
 use Rattle.spec_types.specs.WellFormed.{IsWellFormed, is_type}
 use Rattle.spec_types.specs.Cores.{variable_types, all_variable_types}
+use Rattle.spec_types.proofs.Lists.{all_at}
 use Rattle.tsl_values.specs.Values as v
 use Rattle.tsl_values.specs.Values.{Val, Vals, vals}
 use Rattle.tsl_values.specs.Types.{of_case, has_type, have_types}
 use Rattle.meaning.specs.Steps.{shown, all_shown, bound, all_bound}
-use Rattle.meaning_laws.proofs.Values.{all_at, same_number, less_is, IsOf, AreOf, are_append, are_to}
+use Rattle.meaning_laws.proofs.Values.{IsOf, AreOf, are_append, are_to}
 
 -- the types of the variables of a pattern are those that are computed
 module _ (env : Environment) where
   mutual
-    pub variables_have : (n : ℕ) (ty : Ty) (p : Pat) (vars : List Ty) → PatternTyped env n ty p vars → variable_types env ty p ≡ vars
+    pub variables_have : (n : ℕ) (ty : Ty) (p : Pattern) (vars : List Ty) → PatternTyped env n ty p vars → variable_types env ty p ≡ vars
     variables_have n ty any vars h = sym h
     variables_have n ty (bind i) vars h = sym h.1
     variables_have n Flag (flag_is b) vars h = sym h
@@ -31,7 +32,7 @@ module _ (env : Environment) where
     variables_have n (DataTy t) (case_is i ps) vars h = all_have n (fields_at (case_at env (DataTy t) i)) ps vars h
     variables_have n ty p vars h = absurd h
 
-    all_have : (n : ℕ) (ts : List Ty) (ps : Pats) (vars : List Ty) → PatternsTyped env n ts ps vars → all_variable_types env ts ps ≡ vars
+    all_have : (n : ℕ) (ts : List Ty) (ps : Patterns) (vars : List Ty) → PatternsTyped env n ts ps vars → all_variable_types env ts ps ≡ vars
     all_have n [] no_pat vars h = sym h
     all_have n (t ∷ ts) (pat_then p ps) vars h = rw (variables_have n t p h.0 h.2, all_have (n + length h.0) ts ps h.1 h.3) (sym h.4)
     all_have n ts ps vars h = absurd h
@@ -63,7 +64,7 @@ module _ (env : Environment) (wf : IsWellFormed env) where
 
   -- ---- patterns
   -- a constructor that a value meets
-  case_bound : (n t c d : ℕ) (o : Option Case) (ps : Pats) (more : List Ty) (qs : Vals) → case_at env (DataTy t) d ≡ o → c ≡ d → of_case o (have_types env qs) ≡ true
+  case_bound : (n t c d : ℕ) (o : Option Case) (ps : Patterns) (more : List Ty) (qs : Vals) → case_at env (DataTy t) d ≡ o → c ≡ d → of_case o (have_types env qs) ≡ true
       → PatternsTyped env n (fields_at (case_at env (DataTy t) c)) ps more
       → ((ts : List Ty) → PatternsTyped env n ts ps more → have_types env qs ts ≡ true → list_all (is_type env) ts ≡ true → AreOf env more (all_bound ps qs)) → AreOf env more (all_bound ps qs)
   case_bound n t c d None ps more qs e same h k go = absurd (false≢true h)
@@ -72,7 +73,7 @@ module _ (env : Environment) (wf : IsWellFormed env) where
       go (field_types case) (subst (λ o. PatternsTyped env n (fields_at o) ps more) e here) h (fields_are t d case e)
 
   mutual
-    pub bound_of : (n : ℕ) (ty : Ty) (pat : Pat) (more : List Ty) (p : Val) → PatternTyped env n ty pat more → IsOf env ty p → meets pat (shown p) ≡ true → AreOf env more (bound pat p)
+    pub bound_of : (n : ℕ) (ty : Ty) (pat : Pattern) (more : List Ty) (p : Val) → PatternTyped env n ty pat more → IsOf env ty p → meets pat (shown p) ≡ true → AreOf env more (bound pat p)
     bound_of n ty any more p h k m = subst (λ ts. AreOf env ts (bound any p)) (sym h) tt
     bound_of n ty (bind i) more p h k m = subst (λ ts. AreOf env ts (p ∷ [])) (sym h.1) (k, tt)
     bound_of n Flag (flag_is b) more p h k m = subst (λ ts. AreOf env ts (bound (flag_is b) p)) (sym h) tt
@@ -93,7 +94,7 @@ module _ (env : Environment) (wf : IsWellFormed env) where
         case_bound n t c d (case_at env (DataTy t) d) ps more qs refl (same_number c d (and_left (c == d) (all_meet ps (all_shown qs)) m)) (and_right (s == t) (of_case (case_at env (DataTy t) d) (have_types env qs)) k.has) h
         (λ ts g f i. all_bound_of n ts ps more qs g f i (and_right (c == d) (all_meet ps (all_shown qs)) m))
 
-    all_bound_of : (n : ℕ) (ts : List Ty) (ps : Pats) (more : List Ty) (qs : Vals) → PatternsTyped env n ts ps more → have_types env qs ts ≡ true → list_all (is_type env) ts ≡ true → all_meet ps (all_shown qs) ≡ true
+    all_bound_of : (n : ℕ) (ts : List Ty) (ps : Patterns) (more : List Ty) (qs : Vals) → PatternsTyped env n ts ps more → have_types env qs ts ≡ true → list_all (is_type env) ts ≡ true → all_meet ps (all_shown qs) ≡ true
         → AreOf env more (all_bound ps qs)
     all_bound_of n [] no_pat more qs h k i m = subst (λ ts. AreOf env ts (all_bound no_pat qs)) (sym h) tt
     all_bound_of n [] (pat_then p ps) more qs h k i m = absurd h

@@ -2,7 +2,7 @@
 use Rattle.std.proofs.Common.{◌≡◌, ℕ, zero, suc, ◌^◌, ◌/◌, ◌<◌, ◌&&◌, Bool, true, false, cond, ◌==◌, Option, Some, None, option_map, List, [], ◌∷◌, map, slice_get, refl, sym, ap, ◌∙◌, subst}
 use Rattle.std.specs.Prelude.{nat_lt, is_some}
 use Rattle.std.specs.List.{list_all}
-use Rattle.std.proofs.lemmas.Bool.{false≢true}
+use Rattle.std.proofs.lemmas.Bool.{false≢true, eqb-true as same_number, lt-ltb as less_is}
 use Rattle.word_ops.proofs.Fits.{trunc_of_fits}
 use Rattle.base_trait.specs.Uses.{Read}
 use Rattle.tsl_match.proofs.Truth.{and_left, and_right, both, equal_itself}
@@ -31,7 +31,6 @@ use Rattle.meaning_laws.specs.Rows.{field_widths, is_word_of, arg_fits, args_fit
 use Rattle.meaning_laws.specs.Accepted.{IsAccepted, IsMachine, IsMachineIfAny}
 use Rattle.meaning_laws.specs.Typed.{are_reads, IsOutcomeOf}
 use Rattle.meaning_laws.specs.KeptTypes.{IsTypedState, IsTypedStep, IsTypedEnd, InstructionsHaveTheirType, EntryStatesHaveTheirType, StepsKeepTypes, RunsKeepTypes}
-use Rattle.meaning_laws.proofs.Values.{same_number, less_is}
 use Rattle.meaning_laws.proofs.Turns.{typed}
 
 -- ---- instructions
@@ -104,9 +103,13 @@ pub instructions_have_their_type : InstructionsHaveTheirType
 instructions_have_their_type spec m code p ok e h = met_typed (environment_of spec) m.instr code spec.rows p (machine_is spec spec.machine m ok.machine e).rows h
 
 -- ---- states
-listed : (ps : Vals) → vals (val_list ps) ≡ ps
+pub listed : (ps : Vals) → vals (val_list ps) ≡ ps
 listed v.no_val = refl
 listed (v.val_then p ps) = ap (v.val_then p) (listed ps)
+
+pub list_again : (ps : List Val) → val_list (vals ps) ≡ ps
+list_again [] = refl
+list_again (p ∷ ps) = ap (λ qs. p ∷ qs) (list_again ps)
 
 module _ (spec : Spec) (m : Machine) (is : IsMachine spec m) where
   case_is : (c : ℕ) → case_at (environment_of spec) (DataTy m.state) c ≡ slice_get (is.one ∷ []) c

@@ -2,7 +2,7 @@
 use Rattle.std.proofs.Common.{◌≡◌, ℕ, suc, ◌^◌, ◌≤◌, ◌&&◌, Bool, true, false, cond, ◌==◌, Option, Some, None, option_map, List, [], ◌∷◌, length, slice_get, refl, sym, ap, subst, arith}
 use Rattle.std.specs.Prelude.{nat_le, nat_lt}
 use Rattle.std.specs.List.{list_all}
-use Rattle.std.proofs.lemmas.Bool.{false≢true}
+use Rattle.std.proofs.lemmas.Bool.{false≢true, eqb-true as same_number, lt-ltb as less_is, ltb-true as is_less, le-leb as at_most_is}
 use Rattle.std.proofs.lemmas.Bool.Decides.{nat_tests}
 use Rattle.std.proofs.lemmas.Option.{slice_get_within}
 use Rattle.base_trait.specs.Uses.{Read}
@@ -13,6 +13,7 @@ use Rattle.spec_types.specs.declared.declared.MapTy.{MapTy}
 use Rattle.spec_types.specs.Environment.{Environment, Data, Case, field_types, key_type, value_type, key_of as type_of_key, value_of}
 use Rattle.spec_types.specs.Texts.{cases_of}
 use Rattle.spec_types.specs.WellFormed.{is_width}
+use Rattle.spec_types.proofs.Lists.{all_at}
 use Rattle.tsl_values.specs.declared.value.Cell.{Cell}
 use Rattle.tsl_values.specs.Values as v
 use Rattle.tsl_values.specs.Values.{Val, Vals, cell_at, put_cell}
@@ -20,11 +21,9 @@ use Rattle.tsl_values.specs.Types.{key_count, keys_ascend, cell_fits, listed_fit
 use Rattle.meaning.specs.Steps.{number, key_of, read_at, accessed, stamped, updated}
 use Rattle.meaning_laws.specs.Accepted.{is_enumeration, is_key_type, is_map}
 use Rattle.meaning_laws.specs.Typed.{is_read}
-use Rattle.meaning_laws.proofs.Values.{all_at, same_number, is_less, less_is, at_most_is, IsOf, There, number_there, word_of}
+use Rattle.meaning_laws.proofs.Values.{IsOf, There, number_there, word_of}
 
 -- ---- cells
-same_key : (j k : ℕ) → (j == k) ≡ true → j ≡ k
-same_key j k h = grind (arith, nat_tests)
 
 pub cell_at_fits : (keys w : ℕ) (rest : Cell) (cells : List (ℕ × Cell)) (k : ℕ) → cell_fits w rest ≡ true → list_all (listed_fits keys w) cells ≡ true → cell_fits w (cell_at rest cells k) ≡ true
 cell_at_fits keys w rest [] k h l = h
@@ -36,7 +35,7 @@ cell_at_fits keys w rest (c ∷ cells) k h l =
     at true here later = here
     at false here later = later
 
-put_ascends : (least k : ℕ) (cell : Cell) (cells : List (ℕ × Cell)) → least ≤ k → keys_ascend least cells ≡ true → keys_ascend least (put_cell k cell cells) ≡ true
+pub put_ascends : (least k : ℕ) (cell : Cell) (cells : List (ℕ × Cell)) → least ≤ k → keys_ascend least cells ≡ true → keys_ascend least (put_cell k cell cells) ≡ true
 put_ascends least k cell [] le h = both (nat_le least k) true (at_most_is least k le) refl
 put_ascends least k cell (c ∷ cells) le h = at (c.0 == k) refl (nat_lt k c.0) refl (λ g. put_ascends (suc c.0) k cell cells g later)
   where
@@ -45,7 +44,7 @@ put_ascends least k cell (c ∷ cells) le h = at (c.0 == k) refl (nat_lt k c.0) 
 
     at : (b : Bool) → (c.0 == k) ≡ b → (before : Bool) → nat_lt k c.0 ≡ before → (suc c.0 ≤ k → keys_ascend (suc c.0) (put_cell k cell cells) ≡ true)
         → keys_ascend least (cond b ((k, cell) ∷ cells) (cond before ((k, cell) ∷ c ∷ cells) (c ∷ put_cell k cell cells))) ≡ true
-    at true e before f go = both (nat_le least k) (keys_ascend (suc k) cells) (at_most_is least k le) (subst (λ n. keys_ascend (suc n) cells ≡ true) (same_key c.0 k e) later)
+    at true e before f go = both (nat_le least k) (keys_ascend (suc k) cells) (at_most_is least k le) (subst (λ n. keys_ascend (suc n) cells ≡ true) (same_number c.0 k e) later)
     at false e true f go =
         let lt = is_less k c.0 f in
         both (nat_le least k) (keys_ascend (suc k) (c ∷ cells)) (at_most_is least k le) (both (nat_le (suc k) c.0) (keys_ascend (suc c.0) cells) (at_most_is (suc k) c.0 (omega (arith, lt))) later)

@@ -5,7 +5,7 @@ use Rattle.std.proofs.lemmas.Bool.{false≢true}
 use Rattle.std.proofs.lemmas.List.Folds.{list_all-append}
 use Rattle.base_trait.specs.Uses.{Read}
 use Rattle.tsl_match.specs.Meets.{meets, bindings}
-use Rattle.tsl_match.specs.Patterns.{Pat}
+use Rattle.tsl_match.specs.Patterns.{Pattern}
 use Rattle.tsl_match.specs.Picks.{Choice, numbered, first_match}
 use Rattle.tsl_match.specs.Values.{Value}
 use Rattle.tsl_match.proofs.Truth.{both}
@@ -85,7 +85,7 @@ module _ (env : Environment) where
 abbrev meets_one : Arms → Value → Bool
 meets_one arms x = list_any (λ p. meets p x) (patterns_of arms)
 
-met : (n : ℕ) (rows : List Pat) (x : Value) (c : Choice) → first_match (numbered n rows) x ≡ Some c → list_any (λ p. meets p x) rows ≡ true
+met : (n : ℕ) (rows : List Pattern) (x : Value) (c : Choice) → first_match (numbered n rows) x ≡ Some c → list_any (λ p. meets p x) rows ≡ true
 met n [] x c h = absurd cc
 met n (p ∷ rows) x c h = at (λ k. met (n + 1) rows x c k) (meets p x) h
   where
@@ -97,7 +97,7 @@ meets_later : (b c : Bool) → (b || c) ≡ true → b ≡ false → c ≡ true
 meets_later true c h e = absurd (false≢true (sym e))
 meets_later false c h e = h
 
-map_at : (maps : List MapTy) (m : ℕ) → m < length maps → (d : MapTy) × (slice_get maps m ≡ Some d)
+pub map_at : (maps : List MapTy) (m : ℕ) → m < length maps → (d : MapTy) × (slice_get maps m ≡ Some d)
 map_at [] m h = absurd (omega (arith, h))
 map_at (d ∷ maps) zero h = (d, refl)
 map_at (d ∷ maps) (suc m) h = map_at maps m (omega (arith, h))

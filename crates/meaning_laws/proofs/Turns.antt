@@ -2,13 +2,15 @@
 use Rattle.std.proofs.Common.{◌≡◌, ◌⊎◌, ℕ, zero, suc, ◌<◌, Bool, true, false, cond, ◌==◌, Option, Some, None, option_map, List, [], ◌∷◌, length, slice_get, refl, sym, ap, ◌∙◌, subst, inl, inr, arith}
 use Rattle.std.specs.List.{All, list_all}
 use Rattle.std.proofs.lemmas.Bool.Decides.{nat_tests}
-use Rattle.std.proofs.lemmas.Option.{slice_get-map}
+use Rattle.std.proofs.lemmas.Option.{slice_get-map, same_Some as some_same}
+use Rattle.std.proofs.lemmas.Bool.{eqb-true as same_number}
 use Rattle.base_trait.specs.Uses.{Read}
 use Rattle.tsl_match.proofs.Truth.{and_left}
 use Rattle.spec_types.specs.declared.ty.Ty.{Ty}
 use Rattle.spec_types.specs.Environment.{Signature}
 use Rattle.spec_types.specs.WellFormed.{is_type, is_signature}
 use Rattle.spec_types.specs.Specification.{Spec, Fun}
+use Rattle.spec_types.proofs.Lists.{all_at}
 use Rattle.spec_calls.specs.declared.call.Call.{Call}
 use Rattle.spec_calls.specs.Calls as k
 use Rattle.tsl_values.specs.Values.{Val, vals}
@@ -18,7 +20,7 @@ use Rattle.meaning.specs.Outcomes.{Outcome}
 use Rattle.meaning.specs.Direct.{den, with_own, group_at, group_of, body_or_wrong, turns, run}
 use Rattle.meaning_laws.specs.Accepted.{IsAccepted, IsInOrder}
 use Rattle.meaning_laws.specs.Typed.{are_reads, IsOutcomeOf, MeaningsHaveTypes}
-use Rattle.meaning_laws.proofs.Values.{all_at, same_number, IsOf, AreOf, are_from}
+use Rattle.meaning_laws.proofs.Values.{IsOf, AreOf, are_from}
 use Rattle.meaning_laws.proofs.Terms.{Each, Is, den_of}
 
 pub each_from : (P : Call → Type 0) (cs : List Call) → All P cs → Each P cs
@@ -32,9 +34,6 @@ each_more P Q (c ∷ cs) f h = (f c h.0, each_more P Q cs f h.1)
 -- the signature of a function
 abbrev pub signature_of : Fun → Signature
 signature_of f = record { name = f.name; params = f.params; result_type = f.result_type }
-
-some_same : (s r : Signature) → Some s ≡ Some r → s ≡ r
-some_same s r h = cc
 
 -- the function of a signature
 pub record FunOf (spec : Spec) (f : ℕ) (s : Signature) : Type 0 where

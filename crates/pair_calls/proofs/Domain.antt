@@ -5,7 +5,7 @@ use Rattle.base_trait.specs.Algebra.{Algebra}
 use Rattle.base_trait.specs.Laws.{Laws}
 use Rattle.base_trait.specs.Lists.{AreAmong, IsAmong}
 use Rattle.base_trait.specs.declared.uses.Stamped.{Stamped}
-use Rattle.base_trait.proofs.Lists.{among_either, among_left, among_right, are_among_at, are_among_from}
+use Rattle.base_trait.proofs.Lists.{among_either, are_among_at, are_among_from}
 use Rattle.base_trait.proofs.Tests.{and_both, and_parts}
 use Rattle.paired_base.specs.Meaning.{paired}
 use Rattle.map_laws.specs.Laws.{HasRoom}
@@ -13,7 +13,7 @@ use Rattle.spec_types.specs.Specification.{Spec}
 use Rattle.tsl_values.specs.States.{State, value_of}
 use Rattle.fixed_point.specs.Elements.{Elements}
 use Rattle.fixed_point.specs.Pairs.{paired as paired_elements}
-use Rattle.fixed_point.proofs.Pairs.{paired_laws}
+use Rattle.fixed_point.proofs.Pairs.{paired_laws, lists_first as to_first, lists_second as to_second}
 use Rattle.value_laws.specs.Abs.{Abs}
 use Rattle.value_laws.specs.Describes.{Describes}
 use Rattle.domain_laws.specs.Domain.{DomainLaws, Meaning}
@@ -32,12 +32,6 @@ from_both xs ys stamps h g = are_among_from (xs ++ ys) stamps (λ s k. sorted s 
     sorted : (s : Stamped) → IsAmong s xs ⊎ IsAmong s ys → IsAmong s stamps
     sorted s (inl k) = are_among_at xs stamps s h k
     sorted s (inr k) = are_among_at ys stamps s g k
-
-to_first : (xs ys stamps : List Stamped) → AreAmong (xs ++ ys) stamps → AreAmong xs stamps
-to_first xs ys stamps h = are_among_from xs stamps (λ s k. are_among_at (xs ++ ys) stamps s h (among_left s xs ys k))
-
-to_second : (xs ys stamps : List Stamped) → AreAmong (xs ++ ys) stamps → AreAmong ys stamps
-to_second xs ys stamps h = are_among_from ys stamps (λ s k. are_among_at (xs ++ ys) stamps s h (among_right s xs ys k))
 
 module _ {E F V W M N C D : Type 0} (A : Algebra V M C) (B : Algebra W N D) (a : Laws V M C A) (b : Laws W N D B) (cap : ℕ) (first : Meaning E V M C) (second : Meaning F W N D)
     (share : ShareWorld A B cap first second) where

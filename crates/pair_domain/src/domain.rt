@@ -22,7 +22,7 @@ impl<A: Domain, B: Domain> Domain for PairDomain<A, B> {
     ghost use Rattle.std.specs.Prelude.{◌&&◌, max};
     ghost use Rattle.fixed_point.specs.Pairs.{paired as paired_elements};
     ghost use Rattle.pair_calls.specs.Domain.{may_pair, pair_meaning};
-    ghost use Rattle.pair_domain.specs.Laws.{pairs_are_domains};
+    ghost use Rattle.pair_domain.specs.Instance.{pairs_are_domains};
 
     type B = Paired<A::B, B::B>;
 

@@ -1,9 +1,9 @@
 -- Lists that grow by one: what is out, with what is left behind it, is the whole.
 use Rattle.std.proofs.Common.{◌≡◌, ℕ, ◌+◌, ◌<◌, ◌≤◌, zero, suc, List, [], ◌∷◌, ◌++◌, length, get_or, drop, drop-cons, Some, Result, Ok, Err, refl, sym, ap, ◌∙◌, arith, append_assoc}
-use Rattle.std.specs.Prelude.{slice_get, IfOk, MatchResult}
+use Rattle.std.specs.Prelude.{slice_get, IfOk, IsOkAnd}
+use Rattle.std.proofs.lemmas.List.{drop_all}
 use Rattle.map_laws.specs.declared.cell.Cell.{Cell}
 use Rattle.map_laws.specs.Maps.{cells_at}
-use Rattle.map_laws.proofs.Joining.{drop_all}
 
 module _ {S : Type 0} where
   -- what is left from a place on
@@ -31,13 +31,13 @@ module _ {S : Type 0} where
 
 -- the next of a list, where there is one
 module _ {S E : Type 0} where
-  pub pushed_next : (xs : List S) (i : ℕ) (out out' whole : List S) (next : Result S E) → MatchResult next (λ z. out' ≡ out ++ z ∷ []) (λ e. ⊥) → IfOk next (λ z. slice_get xs i ≡ Some z) → out ++ drop i xs ≡ whole → out' ++ drop (i + 1) xs ≡ whole
+  pub pushed_next : (xs : List S) (i : ℕ) (out out' whole : List S) (next : Result S E) → IsOkAnd next (λ z. out' ≡ out ++ z ∷ []) → IfOk next (λ z. slice_get xs i ≡ Some z) → out ++ drop i xs ≡ whole → out' ++ drop (i + 1) xs ≡ whole
   pushed_next xs i out out' whole (Ok z) more is h = one_out xs i z out out' whole is more h
   pushed_next xs i out out' whole (Err e) more is h = absurd more
 
 -- the cell at the next key, where there is one
 module _ {W N : Type 0} (f : ℕ → Cell W N) (ks : List ℕ) (i : ℕ) where
-  pub cells_more : {E : Type 0} (d : ℕ) (out out' whole : List (ℕ × Cell W N)) (next : Result (ℕ × Cell W N) E) → i < length ks → MatchResult next (λ z. out' ≡ out ++ z ∷ []) (λ e. ⊥)
+  pub cells_more : {E : Type 0} (d : ℕ) (out out' whole : List (ℕ × Cell W N)) (next : Result (ℕ × Cell W N) E) → i < length ks → IsOkAnd next (λ z. out' ≡ out ++ z ∷ [])
       → IfOk next (λ z. z ≡ (get_or ks i d, f (get_or ks i d))) → out ++ cells_at (drop i ks) f ≡ whole → out' ++ cells_at (drop (i + 1) ks) f ≡ whole
   cells_more d out out' whole (Ok z) l more is h =
       let next : suc i ≡ i + 1 = omega arith in

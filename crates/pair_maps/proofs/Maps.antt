@@ -2,25 +2,23 @@
 use Rattle.std.proofs.Common.{◌≡◌, ℕ, ◌<◌, ◌≤◌, Bool, true, false, List, [], ◌∷◌, map, length, take, drop, zero, suc, refl, sym, ap, subst, ◌∙◌, arith, cond, Some, Result, Ok, Err}
 use Rattle.std.specs.Prelude.{◌^◌, slice_get, IfOk, IsOkAnd, Vec}
 use Rattle.std.specs.declared.alloc.Global.{Global}
+use Rattle.std.proofs.lemmas.List.{drop_all}
 use Rattle.base_trait.specs.Algebra.{Algebra}
-use Rattle.base_trait.specs.Lists.{Each, IsAscending}
+use Rattle.base_trait.specs.Lists.{IsAscending}
 use Rattle.paired_base.specs.Meaning.{paired}
 use Rattle.map_laws.specs.declared.cell.Cell.{Cell}
 use Rattle.map_laws.specs.Calls.{access_of, folded, rest_with}
 use Rattle.map_laws.specs.Cells.{CellFits}
 use Rattle.map_laws.specs.Keys.{either_key, some}
 use Rattle.map_laws.specs.Maps.{EachCell, Fits, Map, cell, keys}
-use Rattle.map_laws.proofs.Joining.{drop_all, fit_at, take_all}
+use Rattle.map_laws.proofs.Joining.{fit_at, take_all}
 use Rattle.map_laws.proofs.KeyLists.{either_ascends}
 use Rattle.map_laws.proofs.Places.{each_cell, each_made, keys_of_cells}
+use Rattle.map_laws.proofs.Fitting.{each_zero}
 use Rattle.abs_map.specs.Unfolded.{FitsUnfolded}
 use Rattle.abs_map.proofs.Whole.{if_ok, made_is}
 use Rattle.pair_calls.specs.Calls.{mapped_cell, mapped_cells, zip_cells, zipped}
 use Rattle.pair_calls.proofs.ZippedMaps.{zipped_keys_each}
-
-each_zero : (ks : List ℕ) → Each (λ k. 0 ≤ k) ks
-each_zero [] = tt
-each_zero (k ∷ ks) = (omega arith, each_zero ks)
 
 -- ---- cells put together
 module _ {W N E : Type 0} where

@@ -5,10 +5,11 @@ use Rattle.std.specs.List.{AllPairs, Contains}
 use Rattle.std.specs.List.Sorted.{IsStrictlyIncreasing}
 use Rattle.std.proofs.lemmas.List.Elements.{Contains-append_cases, Contains-append_left, Contains-append_right}
 use Rattle.std.proofs.lemmas.List.Kept.{AllPairs-from_increasing}
-use Rattle.base_trait.specs.Lists.{Each, IsAmong, IsAscending, IsAscendingFrom}
+use Rattle.base_trait.specs.Lists.{IsAmong, IsAscending, IsAscendingFrom}
 use Rattle.base_trait.proofs.Lists.{ascending_same}
 use Rattle.map_laws.specs.Keys.{either_key}
 use Rattle.map_laws.proofs.KeyLists.{either_ascends, either_left, either_only, either_right}
+use Rattle.map_laws.proofs.Fitting.{each_zero}
 
 -- ---- items, by their places and by cases
 among_at : (n : ℕ) (xs : List ℕ) (k : ℕ) → k < length xs → slice_index_or xs k n ≡ n → IsAmong n xs
@@ -31,10 +32,6 @@ rising low (x ∷ xs) l h = (
   l 0 (omega arith),
   rising (x + 1) xs (λ j m. let above = h 0 (suc j) 0 (omega arith) (omega arith) in omega (arith, above)) (λ i j d a b. h (suc i) (suc j) d (omega arith) (omega arith)),
 )
-
-each_zero : (ks : List ℕ) → Each (λ k. 0 ≤ k) ks
-each_zero [] = tt
-each_zero (k ∷ ks) = (omega arith, each_zero ks)
 
 -- the items of both lists in order, each once
 pub either_is : (xs ys first all out : List ℕ) → first ≡ xs → all ≡ first ++ ys → IsAscending ys → IsStrictlyIncreasing out → ((k : ℕ) → Contains all k → Contains out k) → ((k : ℕ) → Contains out k → Contains all k)

@@ -8,10 +8,11 @@ ghost use Rattle.abs_map.specs.Unfolded.{FitsUnfolded};
 ghost use Rattle.abs_map.specs.View.{keys_of};
 ghost use Rattle.pair_calls.specs.Calls.{zip_cells};
 
+use crate::keyed::keyed;
 use crate::keys::either_key;
-use crate::lists::{keyed, pushed};
 use abs_map::{AMap, KeySet};
 use base_trait::Base;
+use grown_lists::pushed;
 use map_laws::Cell;
 use std::alloc::{AllocError as NoMemory, Global};
 
@@ -160,7 +161,7 @@ fn cells_at<A: Base, B: Base>(
     requires right { Fits B.algebra ctx.now.1 B.CAP y.now }
     ensures { IfOk result (λ r. r.items ≡ cells_at keys.now (λ k. zip_cells (cell x.now k) (cell y.now k))) }
 {
-    let mut cells = Vec::new(alloc);
+    let mut cells = Vec::with_capacity(alloc, keys.len())?;
     for key in keys {
         cells = pushed(cells, zipped_cell(alloc, ctx, x, y, *key))?;
     }

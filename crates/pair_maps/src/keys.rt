@@ -7,9 +7,9 @@ ghost use Rattle.base_trait.specs.Lists.{IsAscending};
 ghost use Rattle.map_laws.specs.Keys.{either_key};
 ghost use Rattle.map_laws.specs.Maps.{keys};
 
-use crate::lists::pushed;
 use abs_map::AMap;
 use base_trait::Base;
+use grown_lists::pushed;
 use std::alloc::{AllocError as NoMemory, Global};
 
 /// The keys that either lists, ascending.

@@ -16,14 +16,13 @@
 #![tactic(auto)]
 
 mod cells;
+mod keyed;
 mod keys;
-mod lists;
 mod mapped_maps;
 mod part;
 mod projections;
 mod zipped_maps;
 
-pub use lists::pushed;
 pub use mapped_maps::mapped_map;
 pub use part::{First, Part, Second};
 pub use projections::{first_map, second_map};

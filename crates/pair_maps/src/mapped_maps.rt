@@ -5,10 +5,11 @@ ghost use Rattle.map_laws.specs.Maps.{Fits};
 ghost use Rattle.pair_calls.specs.Calls.{mapped_cell, mapped_cells, mapped_map};
 
 use crate::cells::{CellOf, made, with_note};
-use crate::lists::{keyed, pushed};
+use crate::keyed::keyed;
 use crate::part::Part;
 use abs_map::AMap;
 use base_trait::Base;
+use grown_lists::pushed;
 use std::alloc::{AllocError as NoMemory, Global};
 
 /// The part of a cell.

@@ -1,10 +1,9 @@
 -- One more element of lists of parts or cases.
 use Rattle.std.proofs.Common.{◌≡◌, ℕ, ◌+◌, ◌≤◌, List, [], ◌∷◌, ◌++◌, length, drop, min, Option, Some, None, Result, Ok, Err, refl, sym, ap, subst, ◌∙◌, arith, length-drop}
-use Rattle.std.specs.Prelude.{map as map_of, IfOk, IsOkAnd, MatchResult, Vec}
+use Rattle.std.specs.Prelude.{map as map_of, IfOk, IsOkAnd, Vec}
 use Rattle.std.specs.declared.alloc.Global.{Global}
-use Rattle.std.proofs.lemmas.List.{map_push}
+use Rattle.std.proofs.lemmas.List.{map_push, drop_all}
 use Rattle.base_trait.specs.Algebra.{Algebra}
-use Rattle.map_laws.proofs.Joining.{drop_all}
 use Rattle.value_laws.specs.Abs.{Abs, Cases, Parts, flag, word, made, map, no_case, absent, present, no_part, part, case_onto, cases, cases_onto, parts, parts_onto}
 use Rattle.value_laws.specs.Fits.{CaseFits, CasesFit, Fits, PartsFit}
 use Rattle.abs_value.specs.View.{abs, case_of}
@@ -36,7 +35,7 @@ module _ {W N C : Type 0} (B : Algebra W N C) (c : C) (low high : ℕ) (l : low 
 
 -- ---- one more behind those that are out
 module _ {S D E : Type 0} (h : S → D) where
-  pub pushed_view : (out out' : List S) (next : Result S E) (v : D) → MatchResult next (λ z. out' ≡ out ++ z ∷ []) (λ e. ⊥) → IfOk next (λ z. h z ≡ v) → map_of h out' ≡ map_of h out ++ v ∷ []
+  pub pushed_view : (out out' : List S) (next : Result S E) (v : D) → IsOkAnd next (λ z. out' ≡ out ++ z ∷ []) → IfOk next (λ z. h z ≡ v) → map_of h out' ≡ map_of h out ++ v ∷ []
   pushed_view out out' (Ok z) v more is = ap (map_of h) more ∙ map_push h out z ∙ ap (λ t. map_of h out ++ t ∷ []) is
   pushed_view out out' (Err e) v more is = absurd more
 

@@ -1,10 +1,10 @@
 //! Lists that grow by one, and what a constructor has.
 
-ghost use Rattle.std.specs.Prelude.{◌≡◌, ◌++◌, ◌∷◌, [], IfOk, IsOkAnd, MatchResult, Some};
+ghost use Rattle.std.specs.Prelude.{◌≡◌, ◌++◌, ◌∷◌, [], IfOk, IsOkAnd, Some};
 
 use abs_value::AV;
 use base_trait::Base;
-use pair_maps::pushed;
+use grown_lists::pushed;
 use std::alloc::AllocError as NoMemory;
 
 /// Fields with one more behind them, if there is one.
@@ -12,7 +12,7 @@ pub(crate) fn pushed_field<B: Base>(
     fields: Vec<AV<B>>,
     next: Result<AV<B>, NoMemory>,
 ) -> Result<Vec<AV<B>>, NoMemory>
-    ensures { IfOk result (λ r. MatchResult next (λ x. r.items ≡ fields.items ++ x ∷ []) (λ _e. ⊥)) }
+    ensures { IfOk result (λ r. IsOkAnd next (λ x. r.items ≡ fields.items ++ x ∷ [])) }
 {
     pushed(fields, next)
 }
@@ -22,7 +22,7 @@ pub(crate) fn pushed_case<B: Base>(
     cases: Vec<Option<Vec<AV<B>>>>,
     next: Result<Option<Vec<AV<B>>>, NoMemory>,
 ) -> Result<Vec<Option<Vec<AV<B>>>>, NoMemory>
-    ensures { IfOk result (λ r. MatchResult next (λ x. r.items ≡ cases.items ++ x ∷ []) (λ _e. ⊥)) }
+    ensures { IfOk result (λ r. IsOkAnd next (λ x. r.items ≡ cases.items ++ x ∷ [])) }
 {
     pushed(cases, next)
 }

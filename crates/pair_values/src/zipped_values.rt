@@ -1,6 +1,6 @@
 //! Values side by side.
 
-ghost use Rattle.std.specs.Prelude.{◌≡◌, ◌++◌, ◌∷◌, [], IfOk, IsOkAnd, MatchResult, map, max};
+ghost use Rattle.std.specs.Prelude.{◌≡◌, ◌++◌, ◌∷◌, [], IfOk, IsOkAnd, map, max};
 ghost use Rattle.paired_base.specs.Meaning.{both_allow, paired};
 ghost use Rattle.map_laws.specs.Maps.{Fits as MapFits};
 ghost use Rattle.value_laws.specs.Abs as plain;
@@ -120,7 +120,7 @@ fn with_field<A: Base, B: Base>(
     fields: Vec<AV<Paired<A, B>>>,
     next: Result<AV<Paired<A, B>>, NoMemory>,
 ) -> Result<Vec<AV<Paired<A, B>>>, NoMemory>
-    ensures { IfOk result (λ r. MatchResult next (λ x. r.items ≡ fields.items ++ x ∷ []) (λ _e. ⊥)) }
+    ensures { IfOk result (λ r. IsOkAnd next (λ x. r.items ≡ fields.items ++ x ∷ [])) }
 {
     pushed_field(fields, next)
 }
@@ -130,7 +130,7 @@ fn with_case<A: Base, B: Base>(
     cases: PairCases<A, B>,
     next: Result<Option<Vec<AV<Paired<A, B>>>>, NoMemory>,
 ) -> Result<PairCases<A, B>, NoMemory>
-    ensures { IfOk result (λ r. MatchResult next (λ x. r.items ≡ cases.items ++ x ∷ []) (λ _e. ⊥)) }
+    ensures { IfOk result (λ r. IsOkAnd next (λ x. r.items ≡ cases.items ++ x ∷ [])) }
 {
     pushed_case(cases, next)
 }

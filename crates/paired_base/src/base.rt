@@ -1,12 +1,16 @@
 //! The base of pairs.
 
+use super::beside::beside;
 use super::members::allowed;
 use base_trait::{Base, Tri};
 use std::alloc::{AllocError as NoMemory, Global};
 use std::marker::PhantomData;
 use word_ops::{Cmp, Op1, Op2};
 
-/// The words, notes and contexts of two bases.
+/// The words, notes and contexts of two bases. A pair stands for the numbers that both parts stand for.
+///
+/// The examples have sets of at most 2 numbers beside sets of at most 1, or beside intervals. Parts do not sharpen
+/// each other, so a result is not always the best: `({1, 9}, [0, 5])` stands for 1 alone and stays as it is.
 pub struct Paired<A: Base, B: Base> {
     parts: PhantomData<(A, B)>,
 }
@@ -14,7 +18,7 @@ pub struct Paired<A: Base, B: Base> {
 impl<A: Base, B: Base> Base for Paired<A, B> {
     ghost use Rattle.std.specs.Prelude.{ℕ, max};
     ghost use Rattle.base_trait.specs.PairedNotes.{paired_calls};
-    ghost use Rattle.paired_base.specs.Laws.{paired_laws, same_pairs, paired_capacity};
+    ghost use Rattle.paired_base.specs.Instance.{paired_laws, same_pairs, paired_capacity};
     ghost use Rattle.paired_base.specs.Meaning.{paired};
 
     type Word = (A::Word, B::Word);
@@ -29,20 +33,21 @@ impl<A: Base, B: Base> Base for Paired<A, B> {
 
     ghost algebra = { paired A.algebra B.algebra };
 
-    /// The number in both parts.
+    /// The number in both parts: 5 is `({5}, {5})`. Best where it is so in one part.
     fn constant(alloc: Global, ctx: &Self::Ctx, w: u32, v: u64) -> Result<Self::Word, NoMemory> {
-        Ok((
-            A::constant(alloc, &ctx.0, w, v)?,
-            B::constant(alloc, &ctx.1, w, v)?,
-        ))
+        beside(
+            A::constant(alloc, &ctx.0, w, v),
+            B::constant(alloc, &ctx.1, w, v),
+        )
     }
 
-    /// Any in both parts.
+    /// Any in both parts: `(any, any)`, at 8 bits 0 to 255.
     fn any(alloc: Global, ctx: &Self::Ctx, w: u32) -> Result<Self::Word, NoMemory> {
-        Ok((A::any(alloc, &ctx.0, w)?, B::any(alloc, &ctx.1, w)?))
+        beside(A::any(alloc, &ctx.0, w), B::any(alloc, &ctx.1, w))
     }
 
-    /// The ranges of both parts. A set of at most 2 with a set of at most 1 has 3 to 4 as `{3, 4}` and any.
+    /// The ranges of both parts: of 3 to 4 it is `({3, 4}, any)`, which stands for 3 and 4. It holds no other
+    /// number where one part holds none.
     fn range(
         alloc: Global,
         ctx: &Self::Ctx,
@@ -50,13 +55,14 @@ impl<A: Base, B: Base> Base for Paired<A, B> {
         low: u64,
         high: u64,
     ) -> Result<Self::Word, NoMemory> {
-        Ok((
-            A::range(alloc, &ctx.0, w, low, high)?,
-            B::range(alloc, &ctx.1, w, low, high)?,
-        ))
+        beside(
+            A::range(alloc, &ctx.0, w, low, high),
+            B::range(alloc, &ctx.1, w, low, high),
+        )
     }
 
-    /// Both parts, each by itself: a number is described where both describe it.
+    /// Both parts, each by itself: at 8 bits Neg of `({1, 2}, any)` is `({254, 255}, any)`. Not always the best: of
+    /// `({1, 9}, [0, 5])`, which is 1, it is `({247, 255}, [0, 255])`, which has 247 too.
     fn op1(
         alloc: Global,
         ctx: &Self::Ctx,
@@ -64,13 +70,14 @@ impl<A: Base, B: Base> Base for Paired<A, B> {
         w: u32,
         x: &Self::Word,
     ) -> Result<Self::Word, NoMemory> {
-        Ok((
-            A::op1(alloc, &ctx.0, op, w, &x.0)?,
-            B::op1(alloc, &ctx.1, op, w, &x.1)?,
-        ))
+        beside(
+            A::op1(alloc, &ctx.0, op, w, &x.0),
+            B::op1(alloc, &ctx.1, op, w, &x.1),
+        )
     }
 
-    /// Both parts, each by itself: `({1, 2}, any)` and `({3}, {4})` add up to `({4, 5}, any)`.
+    /// Both parts, each by itself: `({1, 2}, any)` and `({3}, {3})` add up to `({4, 5}, any)`. Not always the best:
+    /// at 8 bits `({1, 9}, [0, 5])` less `({1}, [1, 1])` is `({0, 8}, [0, 255])`, which has 8 too.
     fn op2(
         alloc: Global,
         ctx: &Self::Ctx,
@@ -79,13 +86,14 @@ impl<A: Base, B: Base> Base for Paired<A, B> {
         x: &Self::Word,
         y: &Self::Word,
     ) -> Result<Self::Word, NoMemory> {
-        Ok((
-            A::op2(alloc, &ctx.0, op, w, &x.0, &y.0)?,
-            B::op2(alloc, &ctx.1, op, w, &x.1, &y.1)?,
-        ))
+        beside(
+            A::op2(alloc, &ctx.0, op, w, &x.0, &y.0),
+            B::op2(alloc, &ctx.1, op, w, &x.1, &y.1),
+        )
     }
 
-    /// What both parts allow: `({1}, any)` is surely below `({2}, any)`.
+    /// What both parts allow: `({1}, any)` is surely below `({2}, any)`. Not always exact: `({1, 9}, [0, 5])`,
+    /// which is 1, may be equal to `({9}, [0, 255])`.
     fn cmp(ctx: &Self::Ctx, c: Cmp, w: u32, x: &Self::Word, y: &Self::Word) -> Tri {
         let first = A::cmp(&ctx.0, c, w, &x.0, &y.0);
         let second = B::cmp(&ctx.1, c, w, &x.1, &y.1);
@@ -95,7 +103,8 @@ impl<A: Base, B: Base> Base for Paired<A, B> {
         }
     }
 
-    /// Both parts.
+    /// Both parts, each by itself: from 4 to 8 bits `({7, 8}, any)` is `({7, 8}, any)`, which is 7 and 8. Exact
+    /// where both parts are.
     fn zext(
         alloc: Global,
         ctx: &Self::Ctx,
@@ -103,13 +112,14 @@ impl<A: Base, B: Base> Base for Paired<A, B> {
         to: u32,
         x: &Self::Word,
     ) -> Result<Self::Word, NoMemory> {
-        Ok((
-            A::zext(alloc, &ctx.0, from, to, &x.0)?,
-            B::zext(alloc, &ctx.1, from, to, &x.1)?,
-        ))
+        beside(
+            A::zext(alloc, &ctx.0, from, to, &x.0),
+            B::zext(alloc, &ctx.1, from, to, &x.1),
+        )
     }
 
-    /// Both parts.
+    /// Both parts, each by itself: from 4 to 8 bits `({7, 8}, any)` is `({7, 248}, any)`, which is 7 and 248. Exact
+    /// where both parts are.
     fn sext(
         alloc: Global,
         ctx: &Self::Ctx,
@@ -117,13 +127,14 @@ impl<A: Base, B: Base> Base for Paired<A, B> {
         to: u32,
         x: &Self::Word,
     ) -> Result<Self::Word, NoMemory> {
-        Ok((
-            A::sext(alloc, &ctx.0, from, to, &x.0)?,
-            B::sext(alloc, &ctx.1, from, to, &x.1)?,
-        ))
+        beside(
+            A::sext(alloc, &ctx.0, from, to, &x.0),
+            B::sext(alloc, &ctx.1, from, to, &x.1),
+        )
     }
 
-    /// Both parts.
+    /// Both parts, each by itself: from 8 to 4 bits `({1, 17}, any)` is `({1}, any)`. Not always the best:
+    /// `({1, 18}, [0, 17])`, which is 1, becomes `({1, 2}, [0, 15])`, which has 2 too.
     fn trunc(
         alloc: Global,
         ctx: &Self::Ctx,
@@ -131,13 +142,14 @@ impl<A: Base, B: Base> Base for Paired<A, B> {
         to: u32,
         x: &Self::Word,
     ) -> Result<Self::Word, NoMemory> {
-        Ok((
-            A::trunc(alloc, &ctx.0, from, to, &x.0)?,
-            B::trunc(alloc, &ctx.1, from, to, &x.1)?,
-        ))
+        beside(
+            A::trunc(alloc, &ctx.0, from, to, &x.0),
+            B::trunc(alloc, &ctx.1, from, to, &x.1),
+        )
     }
 
-    /// The joins of both parts.
+    /// The joins of both parts: `({1}, {1})` and `({2}, {2})` join to `({1, 2}, any)`. It is the least as far as
+    /// `absorbs` can tell.
     fn join(
         alloc: Global,
         ctx: &Self::Ctx,
@@ -145,13 +157,14 @@ impl<A: Base, B: Base> Base for Paired<A, B> {
         x: &Self::Word,
         y: &Self::Word,
     ) -> Result<Self::Word, NoMemory> {
-        Ok((
-            A::join(alloc, &ctx.0, w, &x.0, &y.0)?,
-            B::join(alloc, &ctx.1, w, &x.1, &y.1)?,
-        ))
+        beside(
+            A::join(alloc, &ctx.0, w, &x.0, &y.0),
+            B::join(alloc, &ctx.1, w, &x.1, &y.1),
+        )
     }
 
-    /// The widenings of both parts: where the pair grows, the rank of one part falls.
+    /// The widenings of both parts: where the pair grows, the rank of one part falls. `({1}, {1})` with
+    /// `({2}, {2})` is `(any, any)`, and the join would be less.
     fn widen(
         alloc: Global,
         ctx: &Self::Ctx,
@@ -159,23 +172,25 @@ impl<A: Base, B: Base> Base for Paired<A, B> {
         old: &Self::Word,
         new: &Self::Word,
     ) -> Result<Self::Word, NoMemory> {
-        Ok((
-            A::widen(alloc, &ctx.0, w, &old.0, &new.0)?,
-            B::widen(alloc, &ctx.1, w, &old.1, &new.1)?,
-        ))
+        beside(
+            A::widen(alloc, &ctx.0, w, &old.0, &new.0),
+            B::widen(alloc, &ctx.1, w, &old.1, &new.1),
+        )
     }
 
-    /// Whether both parts absorb.
+    /// Whether both parts absorb: `({1, 2}, any)` absorbs `({2}, {2})`. If so the old pair has each number of the
+    /// new; `({1, 2}, {1})` does not absorb `({1}, any)`, though both stand for 1.
     fn absorbs(ctx: &Self::Ctx, w: u32, old: &Self::Word, new: &Self::Word) -> bool {
         A::absorbs(&ctx.0, w, &old.0, &new.0) && B::absorbs(&ctx.1, w, &old.1, &new.1)
     }
 
-    /// The sum of both ranks.
+    /// The sum of both ranks: 2 of `({1}, {1})`, 1 of `({1}, any)` and 0 of `(any, any)`.
     fn rank(ctx: &Self::Ctx, w: u32, x: &Self::Word) -> u64 {
         A::rank(&ctx.0, w, &x.0).saturating_add(B::rank(&ctx.1, w, &x.1))
     }
 
-    /// The first part's number, or else the second's.
+    /// The first part's number, or else the second's: of `({1, 2}, {1})` it is 1. Of `({1, 9}, [0, 5])` there is
+    /// none, though it stands for 1 alone.
     fn exact(ctx: &Self::Ctx, w: u32, x: &Self::Word) -> Option<u64> {
         match A::exact(&ctx.0, w, &x.0) {
             Some(number) => Some(number),
@@ -183,12 +198,13 @@ impl<A: Base, B: Base> Base for Paired<A, B> {
         }
     }
 
-    /// What both parts allow.
+    /// What both parts allow, and exact where both are: `({1, 9}, [0, 5])` may be 1, and neither 2 nor 9.
     fn may(ctx: &Self::Ctx, w: u32, x: &Self::Word, k: u64) -> bool {
         A::may(&ctx.0, w, &x.0, k) && B::may(&ctx.1, w, &x.1, k)
     }
 
-    /// The first part's list, or else the second's, less what the other part excludes.
+    /// The first part's list, or else the second's, less what the other part excludes: `({1, 9}, [0, 5])` is 1 at
+    /// the limit 2. At the limit 1 there is no list, as the parts have 2 and 6 members.
     fn members(
         alloc: Global,
         ctx: &Self::Ctx,
@@ -196,17 +212,18 @@ impl<A: Base, B: Base> Base for Paired<A, B> {
         x: &Self::Word,
         limit: u32,
     ) -> Result<Option<Vec<u64>>, NoMemory> {
-        if let Some(numbers) = A::members(alloc, &ctx.0, w, &x.0, limit)? {
-            return Ok(Some(allowed::<B>(alloc, &ctx.1, w, &x.1, &numbers)?));
+        match A::members(alloc, &ctx.0, w, &x.0, limit)? {
+            Some(numbers) => allowed::<B>(alloc, &ctx.1, w, &x.1, numbers),
+            None => match B::members(alloc, &ctx.1, w, &x.1, limit)? {
+                Some(numbers) => allowed::<A>(alloc, &ctx.0, w, &x.0, numbers),
+                None => Ok(None),
+            },
         }
-        if let Some(numbers) = B::members(alloc, &ctx.1, w, &x.1, limit)? {
-            return Ok(Some(allowed::<A>(alloc, &ctx.0, w, &x.0, &numbers)?));
-        }
-        Ok(None)
     }
 
+    /// The same pair once more: of `({1}, any)` it is `({1}, any)`.
     fn copy(alloc: Global, ctx: &Self::Ctx, x: &Self::Word) -> Result<Self::Word, NoMemory> {
-        Ok((A::copy(alloc, &ctx.0, &x.0)?, B::copy(alloc, &ctx.1, &x.1)?))
+        beside(A::copy(alloc, &ctx.0, &x.0), B::copy(alloc, &ctx.1, &x.1))
     }
 
     ghost capacity = { paired_capacity A.CAP B.CAP A.algebra.joins B.algebra.joins A.capacity B.capacity };

@@ -7,6 +7,7 @@
 #![tactic(auto)]
 
 mod base;
+mod beside;
 mod members;
 
 pub use base::Paired;

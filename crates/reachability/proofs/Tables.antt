@@ -1,8 +1,7 @@
 -- Each graph has a table of which nodes reach which: paths through more and more of the nodes (Warshall's way).
 use Rattle.std.proofs.Common.{◌≡◌, ◌⊎◌, ℕ, zero, suc, ◌+◌, ◌<◌, ◌≤◌, Bool, true, false, ◌&&◌, ◌||◌, ◌==◌, List, [], ◌∷◌, length, get_or, refl, sym, ap, ◌∙◌, subst, inl, inr, arith, zero-add}
 use Rattle.std.specs.List.{Contains, list_any}
-use Rattle.std.proofs.lemmas.Bool.{cases_eq, cases_lt, false≢true}
-use Rattle.std.proofs.lemmas.Bool.Decides.{nat_tests}
+use Rattle.std.proofs.lemmas.Bool.{cases_eq, cases_lt, false≢true, eqb-true as same_number, or_right, or_left, eq-eqb as one_number, or_cases as or_parts}
 use Rattle.std.proofs.lemmas.List.{get_or_past}
 use Rattle.reachability.specs.Graph.{IsEdge, Reaches, edge, onward}
 use Rattle.reachability.specs.Table.{IsTableOf, says}
@@ -10,24 +9,6 @@ use Rattle.reachability.proofs.Searching.{leads}
 use Rattle.reachability.proofs.Ranks.{joined}
 
 -- ---- elements of lists of numbers
-
-pub same_number : (x b : ℕ) → (x == b) ≡ true → x ≡ b
-same_number x b h = grind (arith, nat_tests)
-
-pub one_number : (x b : ℕ) → x ≡ b → (x == b) ≡ true
-one_number x b h = grind (arith, nat_tests)
-
-pub or_parts : (x y : Bool) → x || y ≡ true → (x ≡ true) ⊎ (y ≡ true)
-or_parts true y h = inl refl
-or_parts false y h = inr h
-
-pub or_right : (x y : Bool) → y ≡ true → x || y ≡ true
-or_right true y h = refl
-or_right false y h = h
-
-pub or_left : (x y : Bool) → x ≡ true → x || y ≡ true
-or_left true y h = refl
-or_left false y h = absurd (false≢true h)
 
 found : (xs : List ℕ) (b : ℕ) → list_any (λ c. c == b) xs ≡ true → Contains xs b
 found [] b h = absurd (false≢true h)

@@ -4,7 +4,7 @@ use Rattle.base_trait.specs.Algebra.{Algebra}
 use Rattle.base_trait.specs.Uses.{Seen}
 use Rattle.base_trait.specs.declared.tri.Tri.{Tri}
 use Rattle.tsl_match.specs.Values.{Place}
-use Rattle.tsl_match.specs.Decisions.{Tree, Trees, row, on_case, on_word, on_flag, no_tree, tree_then}
+use Rattle.tsl_match.specs.Decisions.{Decision, Decisions, row, on_case, on_word, on_flag, no_tree, tree_then}
 use Rattle.spec_types.specs.declared.ty.Ty.{Ty}
 use Rattle.spec_types.specs.Environment.{Case, Environment}
 use Rattle.spec_types.specs.Texts.{cases_of}
@@ -63,13 +63,13 @@ module _ {A : Type 0} (j : A → A → A) where
 module _ {W N C A : Type 0} (B : Algebra W N C) (c : C) (j : A → A → A) (arm other : ℕ → List (Abs W N) → Evaluation A) (x : Abs W N) (env : Environment) (ty : Ty)
     (Row : ℕ → List (ℕ × Place) → Type 0) (row_alike : (r : ℕ) (binds : List (ℕ × Place)) → Row r binds → AreAlike (arm_on (arm r) (abs_named x binds)) (arm_on (other r) (abs_named x binds))) where
   mutual
-    pub decided_alike : (t : Tree) → Decides env Row ty t → AreAlike (decided B c j arm x t) (decided B c j other x t)
+    pub decided_alike : (t : Decision) → Decides env Row ty t → AreAlike (decided B c j arm x t) (decided B c j other x t)
     decided_alike (row r binds) h l = row_alike r binds h l
     decided_alike (on_case at arms) h l = joined_alike j _ _ (arms_alike arms (cases_of (slice_get env.datas h.0)) (cases_there (abs_at at x)) h.2) l
     decided_alike (on_word at n a b) h l = branch_alike j (word_there B c (abs_at at x) n) _ _ _ _ (decided_alike a h.3) (decided_alike b h.4) l
     decided_alike (on_flag at a b) h l = branch_alike j (flag_there (abs_at at x)) _ _ _ _ (decided_alike a h.1) (decided_alike b h.2) l
 
-    arms_alike : (ts : Trees) (ds : List Case) (cs : Cases W N) → AllDecide env Row ty ts ds → AllAlike (arms_present B c j arm x ts cs) (arms_present B c j other x ts cs)
+    arms_alike : (ts : Decisions) (ds : List Case) (cs : Cases W N) → AllDecide env Row ty ts ds → AllAlike (arms_present B c j arm x ts cs) (arms_present B c j other x ts cs)
     arms_alike no_tree ds cs h = tt
     arms_alike (tree_then t ts) [] cs h = absurd h
     arms_alike (tree_then t ts) (d ∷ ds) no_case h = tt

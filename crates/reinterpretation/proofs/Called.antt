@@ -30,7 +30,7 @@ use Rattle.reinterpretation.proofs.Stepped.{Invariant}
 use Rattle.std.proofs.Common.{pow_mono}
 use Rattle.std.specs.Prelude.{nat_le}
 use Rattle.std.proofs.lemmas.Option.{slice_get_within}
-use Rattle.std.proofs.lemmas.Bool.{false≢true}
+use Rattle.std.proofs.lemmas.Bool.{false≢true, leb-true as is_at_most}
 use Rattle.std.proofs.lemmas.List.{length-map}
 use Rattle.tsl_match.proofs.Truth.{and_left, and_right}
 use Rattle.recursion_fix.specs.declared.policy.Policy.{Policy}
@@ -46,8 +46,8 @@ use Rattle.std.proofs.lemmas.Option.{slice_get-map}
 use Rattle.value_types.proofs.Depths.{there}
 use Rattle.spec_types.specs.Environment.{Data, field_types, key_of, shape_of as shape_of_type, shapes_of}
 use Rattle.spec_types.specs.Texts.{cases_of}
+use Rattle.spec_types.proofs.Lists.{all_at}
 use Rattle.meaning_laws.specs.Accepted.{IsAccepted, is_map}
-use Rattle.meaning_laws.proofs.Values.{all_at, is_at_most}
 use Rattle.meaning_laws.proofs.Turns.{FunOf, fun_of}
 use Rattle.core_meaning.proofs.CoreTyped.{cores_have_types}
 use Rattle.core_meaning.proofs.Order.{cores_call_in_order}

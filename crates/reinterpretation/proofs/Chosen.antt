@@ -5,7 +5,7 @@ use Rattle.std.proofs.lemmas.Bool.{false≢true}
 use Rattle.tsl_match.proofs.Truth.{and_left, and_right}
 use Rattle.base_trait.specs.Algebra.{Algebra}
 use Rattle.tsl_match.specs.Values.{Place}
-use Rattle.tsl_match.specs.Decisions.{Tree, Trees, row, on_case, on_word, on_flag, no_tree, tree_then}
+use Rattle.tsl_match.specs.Decisions.{Decision, Decisions, row, on_case, on_word, on_flag, no_tree, tree_then}
 use Rattle.spec_types.specs.declared.ty.Ty.{Ty}
 use Rattle.spec_types.specs.declared.ty.Ty.TheVariants.{Bool as Flag, Word, Data as DataTy, Map as MapOf}
 use Rattle.spec_types.specs.Environment.{Environment, Data, Case, field_types}
@@ -91,13 +91,13 @@ module _ {W N C : Type 0} (B : Algebra W N C) (c : C) (cap : ℕ) (env : Environ
   module _ {A : Type 0} (Fine : Type 0) (R : A → Type 0) (j : A → A → A) (keeps : (x y : A) → R x → R y → R (j x y)) (arm : ℕ → List (Abs W N) → Evaluation A) (x : Abs W N) (ty : Ty)
       (Row : ℕ → List (ℕ × Place) → Type 0) (row_kept : (r : ℕ) (binds : List (ℕ × Place)) → Row r binds → Keeping Fine R (arm_on (arm r) (abs_named x binds))) where
     mutual
-      pub decided_kept : (t : Tree) → Decides env Row ty t → Keeping Fine R (decided B c j arm x t)
+      pub decided_kept : (t : Decision) → Decides env Row ty t → Keeping Fine R (decided B c j arm x t)
       decided_kept (row r binds) h l = row_kept r binds h l
       decided_kept (on_case at arms) h l = joined_kept Fine R j keeps _ (arms_kept arms (cases_of (slice_get env.datas h.0)) (cases_there (abs_at at x)) h.2) l
       decided_kept (on_word at n a b) h l = branch_kept Fine R j keeps (word_there B c (abs_at at x) n) _ _ (decided_kept a h.3) (decided_kept b h.4) l
       decided_kept (on_flag at a b) h l = branch_kept Fine R j keeps (flag_there (abs_at at x)) _ _ (decided_kept a h.1) (decided_kept b h.2) l
 
-      pub arms_kept : (ts : Trees) (ds : List Case) (cs : Cases W N) → AllDecide env Row ty ts ds → AllKeeping Fine R (arms_present B c j arm x ts cs)
+      pub arms_kept : (ts : Decisions) (ds : List Case) (cs : Cases W N) → AllDecide env Row ty ts ds → AllKeeping Fine R (arms_present B c j arm x ts cs)
       arms_kept no_tree ds cs h = tt
       arms_kept (tree_then t ts) [] cs h = absurd h
       arms_kept (tree_then t ts) (d ∷ ds) no_case h = tt

@@ -1,7 +1,8 @@
 -- A decision on a value that stands for a concrete one meets what the row gives that this picks.
 use Rattle.std.proofs.Common.{◌≡◌, ℕ, zero, suc, ◌<◌, ◌^◌, ◌⊎◌, inl, inr, Bool, true, false, cond, List, [], ◌∷◌, Option, Some, None, slice_get, refl, sym, subst, IsTrue}
 use Rattle.std.specs.Prelude.{◌==◌, not, option_and_then, IfSome}
-use Rattle.std.proofs.lemmas.Bool.{false≢true}
+use Rattle.std.proofs.lemmas.Bool.{false≢true, lt-ltb as less_is}
+use Rattle.std.proofs.lemmas.Option.{same_Some as some_same}
 use Rattle.word_ops.specs.declared.kinds.Cmp.TheVariants.{Eq}
 use Rattle.base_trait.specs.Algebra.{Algebra, can_be}
 use Rattle.base_trait.specs.Laws.{Laws}
@@ -9,7 +10,7 @@ use Rattle.base_trait.specs.Uses.{Seen, Read}
 use Rattle.base_trait.specs.declared.tri.Tri.{Tri}
 use Rattle.tsl_match.specs.Values as m
 use Rattle.tsl_match.specs.Values.{Place, Value, value_at}
-use Rattle.tsl_match.specs.Decisions.{Tree, Trees, row, on_case, on_word, on_flag, no_tree, tree_then}
+use Rattle.tsl_match.specs.Decisions.{Decision, Decisions, row, on_case, on_word, on_flag, no_tree, tree_then}
 use Rattle.tsl_match.specs.Picks.{Choice, arm_at, case_at, flag_branch, picks, word_branch}
 use Rattle.spec_types.specs.declared.ty.Ty.{Ty}
 use Rattle.spec_types.specs.declared.ty.Ty.TheVariants.{Word}
@@ -21,12 +22,10 @@ use Rattle.tsl_values.specs.Values as v
 use Rattle.tsl_values.specs.Values.{Val, Vals}
 use Rattle.core_meaning.specs.CoreTypes.{Decides, AllDecide}
 use Rattle.core_meaning.specs.Places.{type_at}
-use Rattle.core_meaning.proofs.Lists.{some_same}
 use Rattle.value_laws.specs.Abs.{Abs, Cases, flag, word, made, map, no_case, absent, present}
 use Rattle.value_laws.specs.Describes.{Describes, CaseDescribes}
 use Rattle.reinterpretation.specs.Answers.{Evaluation, branch, joined}
 use Rattle.reinterpretation.specs.Choices.{abs_at, abs_named, arm_on, arms_present, cases_there, decided, flag_there, neither, word_there}
-use Rattle.meaning_laws.proofs.Values.{less_is}
 use Rattle.reinterpretation.specs.Sound.{IsSingle, IsSingleCase, AreAbsent}
 use Rattle.reinterpretation.proofs.Kept.{Keeping}
 use Rattle.reinterpretation.proofs.Typed.{IsOf, word_there as word_form}
@@ -68,13 +67,13 @@ module _ {W N C : Type 0} (B : Algebra W N C) (laws : Laws W N C B) (c : C) (cap
       (arm : ℕ → List (Abs W N) → Evaluation A) (x : Abs W N) (p : Val) (ty : Ty) (typed : IsOf B c cap env P ty x) (stands : Stands B world exact x p)
       (Row : ℕ → List (ℕ × Place) → Type 0) (row_kept : (r : ℕ) (binds : List (ℕ × Place)) → Row r binds → Keeping (MayFail exact) Q (arm_on (arm r) (abs_named x binds)))
       (reads : List Read) (choice : Choice) (o : Outcome V) (picked : (l : List Seen) → IsMet exact stamped R l reads (arm_on (arm choice.0) (abs_named x choice.1) l) o) where
-    kept : (t : Tree) → Decides env Row ty t → Keeping (MayFail exact) Q (decided B c j arm x t)
+    kept : (t : Decision) → Decides env Row ty t → Keeping (MayFail exact) Q (decided B c j arm x t)
     kept t h = decided_kept B c cap env a P inv (MayFail exact) Q j keeps arm x ty Row row_kept t h
 
-    abbrev Met : Tree → Type 0
+    abbrev Met : Decision → Type 0
     Met t = (l : List Seen) → IsMet exact stamped R l reads (decided B c j arm x t l) o
 
-    none_present : (ts : Trees) (cs : Cases W N) → AreAbsent cs → arms_present B c j arm x ts cs ≡ []
+    none_present : (ts : Decisions) (cs : Cases W N) → AreAbsent cs → arms_present B c j arm x ts cs ≡ []
     none_present no_tree cs h = refl
     none_present (tree_then t ts) no_case h = refl
     none_present (tree_then t ts) (absent cs) h = none_present ts cs h
@@ -84,7 +83,7 @@ module _ {W N C : Type 0} (B : Algebra W N C) (laws : Laws W N C B) (c : C) (cap
     one_of [] f e = tt
     one_of (g ∷ fs) f e = absurd cc
 
-    one_present : (ts : Trees) (cs : Cases W N) (k : ℕ) (ps : Vals) → IsSingleCase cs → CaseDescribes B world cs k ps → arm_at ts k (shown p) ≡ Some choice → IsOne (arms_present B c j arm x ts cs)
+    one_present : (ts : Decisions) (cs : Cases W N) (k : ℕ) (ps : Vals) → IsSingleCase cs → CaseDescribes B world cs k ps → arm_at ts k (shown p) ≡ Some choice → IsOne (arms_present B c j arm x ts cs)
     one_present no_tree cs k ps s d e = absurd cc
     one_present (tree_then t ts) no_case k ps s d e = absurd s
     one_present (tree_then t ts) (absent cs) zero ps s d e = absurd d
@@ -93,7 +92,7 @@ module _ {W N C : Type 0} (B : Algebra W N C) (laws : Laws W N C B) (c : C) (cap
     one_present (tree_then t ts) (present xs cs) (suc k) ps s d e = absurd (no_absent B world exact cs k ps s.1 d)
 
     -- ---- a flag
-    flag_met : (at : Place) (u w : Tree) (q : Bool) → Decides env Row ty u → Decides env Row ty w → (y : Abs W N) (s : Val) → shown s ≡ m.flag q → abs_at at x ≡ Some y → Stands B world exact y s
+    flag_met : (at : Place) (u w : Decision) (q : Bool) → Decides env Row ty u → Decides env Row ty w → (y : Abs W N) (s : Val) → shown s ≡ m.flag q → abs_at at x ≡ Some y → Stands B world exact y s
         → ((l : List Seen) → IsMet exact stamped R l reads (cond q (decided B c j arm x u) (decided B c j arm x w) l) o) → Met (on_flag at u w)
     flag_met at u w q hu hw (flag t) (v.flag b) f is st go l =
         let same : b ≡ q = cc in
@@ -106,7 +105,7 @@ module _ {W N C : Type 0} (B : Algebra W N C) (laws : Laws W N C B) (c : C) (cap
     flag_met at u w q hu hw (made ty' cs) (v.flag b) f is st go l = absurd st.describes
     flag_met at u w q hu hw (map n z) (v.flag b) f is st go l = absurd st.describes
 
-    flag_test : (at : Place) (u w : Tree) → Decides env Row ty u → Decides env Row ty w → (z : Option Value) → value_at (shown p) at ≡ z → flag_branch z (picks u (shown p)) (picks w (shown p)) ≡ Some choice
+    flag_test : (at : Place) (u w : Decision) → Decides env Row ty u → Decides env Row ty w → (z : Option Value) → value_at (shown p) at ≡ z → flag_branch z (picks u (shown p)) (picks w (shown p)) ≡ Some choice
         → (picks u (shown p) ≡ Some choice → Met u) → (picks w (shown p) ≡ Some choice → Met w) → Met (on_flag at u w)
     flag_test at u w hu hw (Some (m.flag true)) f e gu gw =
         let q = shown_at at p (m.flag true) f in
@@ -129,7 +128,7 @@ module _ {W N C : Type 0} (B : Algebra W N C) (laws : Laws W N C B) (c : C) (cap
         there None e h = absurd cc
         there (Some y') e h = subst (IsOf B c cap env P s) (some_same y' y e) h
 
-    word_met : (at : Place) (w n k : ℕ) (u z : Tree) → type_at env ty at ≡ Some (Word w) → n < 2 ^ w → Decides env Row ty u → Decides env Row ty z → (y : Abs W N) (s : Val) → shown s ≡ m.word k → abs_at at x ≡ Some y → Stands B world exact y s
+    word_met : (at : Place) (w n k : ℕ) (u z : Decision) → type_at env ty at ≡ Some (Word w) → n < 2 ^ w → Decides env Row ty u → Decides env Row ty z → (y : Abs W N) (s : Val) → shown s ≡ m.word k → abs_at at x ≡ Some y → Stands B world exact y s
         → ((l : List Seen) → IsMet exact stamped R l reads (cond (k == n) (decided B c j arm x u) (decided B c j arm x z) l) o) → Met (on_word at n u z)
     word_met at w n k u z te small hu hz y (v.word w' k') f is st go l =
         let form = word_form B c cap env P w y (typed_at at (Word w) y te is) in
@@ -146,7 +145,7 @@ module _ {W N C : Type 0} (B : Algebra W N C) (laws : Laws W N C B) (c : C) (cap
     word_met at w n k u z te small hu hz y (v.made ty' i ps) f is st go l = absurd cc
     word_met at w n k u z te small hu hz y (v.map i rest cells) f is st go l = absurd cc
 
-    word_test : (at : Place) (w n : ℕ) (u z : Tree) → type_at env ty at ≡ Some (Word w) → n < 2 ^ w → Decides env Row ty u → Decides env Row ty z → (y : Option Value) → value_at (shown p) at ≡ y
+    word_test : (at : Place) (w n : ℕ) (u z : Decision) → type_at env ty at ≡ Some (Word w) → n < 2 ^ w → Decides env Row ty u → Decides env Row ty z → (y : Option Value) → value_at (shown p) at ≡ y
         → word_branch y n (picks u (shown p)) (picks z (shown p)) ≡ Some choice → (picks u (shown p) ≡ Some choice → Met u) → (picks z (shown p) ≡ Some choice → Met z) → Met (on_word at n u z)
     word_test at w n u z te small hu hz (Some (m.word k)) f e gu gz =
         let q = shown_at at p (m.word k) f in
@@ -162,7 +161,7 @@ module _ {W N C : Type 0} (B : Algebra W N C) (laws : Laws W N C B) (c : C) (cap
     word_test at w n u z te small hu hz None f e gu gz = absurd cc
 
     -- ---- a constructor
-    case_met : (at : Place) (ts : Trees) (ds : List Case) (k : ℕ) → AllDecide env Row ty ts ds → (y : Abs W N) (s : Val) (vs : m.Values) → shown s ≡ m.made k vs → abs_at at x ≡ Some y → Stands B world exact y s → arm_at ts k (shown p) ≡ Some choice
+    case_met : (at : Place) (ts : Decisions) (ds : List Case) (k : ℕ) → AllDecide env Row ty ts ds → (y : Abs W N) (s : Val) (vs : m.Values) → shown s ≡ m.made k vs → abs_at at x ≡ Some y → Stands B world exact y s → arm_at ts k (shown p) ≡ Some choice
         → ((cs : Cases W N) (ps : Vals) → CaseDescribes B world cs k ps → Has (λ f. (l : List Seen) → IsMet exact stamped R l reads (f l) o) (arms_present B c j arm x ts cs)) → Met (on_case at ts)
     case_met at ts ds k h (made ty' cs) (v.made t i ps) vs f is st e go l =
         let same : i ≡ k = cc in
@@ -177,7 +176,7 @@ module _ {W N C : Type 0} (B : Algebra W N C) (laws : Laws W N C B) (c : C) (cap
     case_met at ts ds k h (word w z) (v.made t' i ps) vs f is st e go l = absurd st.describes
     case_met at ts ds k h (map n z) (v.made t' i ps) vs f is st e go l = absurd st.describes
 
-    case_test : (at : Place) (ts : Trees) (ds : List Case) → AllDecide env Row ty ts ds → (y : Option Value) → value_at (shown p) at ≡ y → option_and_then (λ k. arm_at ts k (shown p)) (case_at y) ≡ Some choice
+    case_test : (at : Place) (ts : Decisions) (ds : List Case) → AllDecide env Row ty ts ds → (y : Option Value) → value_at (shown p) at ≡ y → option_and_then (λ k. arm_at ts k (shown p)) (case_at y) ≡ Some choice
         → ((k : ℕ) (cs : Cases W N) (ps : Vals) → arm_at ts k (shown p) ≡ Some choice → CaseDescribes B world cs k ps → Has (λ f. (l : List Seen) → IsMet exact stamped R l reads (f l) o) (arms_present B c j arm x ts cs)) → Met (on_case at ts)
     case_test at ts ds h (Some (m.made k vs)) f e go =
         let q = shown_at at p (m.made k vs) f in
@@ -189,7 +188,7 @@ module _ {W N C : Type 0} (B : Algebra W N C) (laws : Laws W N C B) (c : C) (cap
     case_test at ts ds h None f e go = absurd cc
 
     mutual
-      pub decided_met : (t : Tree) → Decides env Row ty t → picks t (shown p) ≡ Some choice → Met t
+      pub decided_met : (t : Decision) → Decides env Row ty t → picks t (shown p) ≡ Some choice → Met t
       decided_met (row r binds) h e l =
           let same : (r, binds) ≡ choice = some_same (r, binds) choice e in
           subst (λ z. IsMet exact stamped R l reads (arm_on (arm z.0) (abs_named x z.1) l) o) (sym same) (picked l)
@@ -197,7 +196,7 @@ module _ {W N C : Type 0} (B : Algebra W N C) (laws : Laws W N C B) (c : C) (cap
       decided_met (on_word at n u w) h e l = word_test at h.0 n u w h.1 h.2 h.3 h.4 (value_at (shown p) at) refl e (λ e l. decided_met u h.3 e l) (λ e l. decided_met w h.4 e l) l
       decided_met (on_case at ts) h e l = case_test at ts (cases_of (slice_get env.datas h.0)) h.2 (value_at (shown p) at) refl e (λ k cs ps e d. has_arm ts (cases_of (slice_get env.datas h.0)) cs k ps h.2 e d) l
 
-      has_arm : (ts : Trees) (ds : List Case) (cs : Cases W N) (k : ℕ) (ps : Vals) → AllDecide env Row ty ts ds → arm_at ts k (shown p) ≡ Some choice → CaseDescribes B world cs k ps
+      has_arm : (ts : Decisions) (ds : List Case) (cs : Cases W N) (k : ℕ) (ps : Vals) → AllDecide env Row ty ts ds → arm_at ts k (shown p) ≡ Some choice → CaseDescribes B world cs k ps
           → Has (λ f. (l : List Seen) → IsMet exact stamped R l reads (f l) o) (arms_present B c j arm x ts cs)
       has_arm no_tree ds cs k ps h e d = absurd cc
       has_arm (tree_then t ts) [] cs k ps h e d = absurd h
@@ -209,7 +208,7 @@ module _ {W N C : Type 0} (B : Algebra W N C) (laws : Laws W N C B) (c : C) (cap
 
 -- the row that a decision picks
 module _ (env : Environment) (Row : ℕ → List (ℕ × Place) → Type 0) (ty : Ty) (u : Value) (choice : Choice) where
-  pick_case : (ts : Trees) (ds : List Case) (z : Option ℕ) → AllDecide env Row ty ts ds → option_and_then (λ k. arm_at ts k u) z ≡ Some choice → ((k : ℕ) → arm_at ts k u ≡ Some choice → Row choice.0 choice.1) → Row choice.0 choice.1
+  pick_case : (ts : Decisions) (ds : List Case) (z : Option ℕ) → AllDecide env Row ty ts ds → option_and_then (λ k. arm_at ts k u) z ≡ Some choice → ((k : ℕ) → arm_at ts k u ≡ Some choice → Row choice.0 choice.1) → Row choice.0 choice.1
   pick_case ts ds None h e go = absurd cc
   pick_case ts ds (Some k) h e go = go k e
 
@@ -233,13 +232,13 @@ module _ (env : Environment) (Row : ℕ → List (ℕ × Place) → Type 0) (ty 
   pick_flag None p q e gp gq = absurd cc
 
   mutual
-    pub row_picked : (t : Tree) → Decides env Row ty t → picks t u ≡ Some choice → Row choice.0 choice.1
+    pub row_picked : (t : Decision) → Decides env Row ty t → picks t u ≡ Some choice → Row choice.0 choice.1
     row_picked (row r binds) h e = let same : (r, binds) ≡ choice = some_same (r, binds) choice e in subst (λ z. Row z.0 z.1) same h
     row_picked (on_case at ts) h e = pick_case ts (cases_of (slice_get env.datas h.0)) (case_at (value_at u at)) h.2 e (λ k e. rows_picked ts (cases_of (slice_get env.datas h.0)) k h.2 e)
     row_picked (on_word at n a b) h e = pick_word (value_at u at) n (picks a u) (picks b u) e (λ e. row_picked a h.3 e) (λ e. row_picked b h.4 e)
     row_picked (on_flag at a b) h e = pick_flag (value_at u at) (picks a u) (picks b u) e (λ e. row_picked a h.1 e) (λ e. row_picked b h.2 e)
 
-    rows_picked : (ts : Trees) (ds : List Case) (k : ℕ) → AllDecide env Row ty ts ds → arm_at ts k u ≡ Some choice → Row choice.0 choice.1
+    rows_picked : (ts : Decisions) (ds : List Case) (k : ℕ) → AllDecide env Row ty ts ds → arm_at ts k u ≡ Some choice → Row choice.0 choice.1
     rows_picked no_tree ds k h e = absurd cc
     rows_picked (tree_then t ts) [] k h e = absurd h
     rows_picked (tree_then t ts) (d ∷ ds) zero h e = row_picked t h.0 e

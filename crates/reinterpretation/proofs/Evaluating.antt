@@ -34,16 +34,17 @@ use Rattle.reinterpretation.proofs.Typed.{IsOf, AreOf, are_append, type_is}
 use Rattle.reinterpretation.proofs.Stepped.{Invariant}
 use Rattle.reinterpretation.proofs.Chosen.{named_kept}
 use Rattle.std.specs.Prelude.{nat_lt}
+use Rattle.std.proofs.lemmas.Option.{same_Some as some_same}
+use Rattle.std.proofs.lemmas.Bool.{lt-ltb as less_is}
 use Rattle.base_trait.specs.Uses.{Read}
 use Rattle.reinterpretation.specs.Sound.{IsSingle}
 use Rattle.tsl_match.specs.Picks.{Choice, picks}
-use Rattle.tsl_match.specs.Decisions.{Tree}
+use Rattle.tsl_match.specs.Decisions.{Decision}
 use Rattle.core_meaning.specs.CoreTypes.{Decides}
-use Rattle.core_meaning.proofs.Lists.{some_same}
 use Rattle.meaning.specs.Outcomes as o
 use Rattle.meaning.specs.Outcomes.{Outcome}
 use Rattle.meaning.specs.Steps.{is_word, shown}
-use Rattle.meaning_laws.proofs.Values.{less_is, width_to}
+use Rattle.meaning_laws.proofs.Values.{width_to}
 use Rattle.core_meaning.specs.Places.{vals_named}
 use Rattle.core_meaning.specs.CoreDirect.{arm_picked, core_arm, core_value, core_values, with_named}
 use Rattle.tsl_match.proofs.Truth.{both}
@@ -150,7 +151,7 @@ module _ {W N C : Type 0} (B : Algebra W N C) (laws : Laws W N C B) (c : C) (cap
     abbrev RowHas : List Ty → Cores → Ty → Ty → ℕ → List (ℕ × Place) → Type 0
     RowHas vars arms from ty r binds = (more : List Ty) × (types_named (environment_of spec) from binds ≡ Some more) × ArmHasType (environment_of spec) vars arms r more ty
 
-    chosen_met : (p : Abs W N) (n : Val) (by_ : Tree) (arms : Cores) (vars : List Ty) (env : List (Abs W N)) (cenv : List Val) (from ty : Ty) (l : List Seen) (m : List Read) → IsOf B c cap (environment_of spec) P from p → Stands B world exact p n
+    chosen_met : (p : Abs W N) (n : Val) (by_ : Decision) (arms : Cores) (vars : List Ty) (env : List (Abs W N)) (cenv : List Val) (from ty : Ty) (l : List Seen) (m : List Read) → IsOf B c cap (environment_of spec) P from p → Stands B world exact p n
         → AreOf B c cap (environment_of spec) P vars env → AllStand B world exact env cenv → Decides (environment_of spec) (RowHas vars arms from ty) from by_ → AllCallBelow (group_of spec) rank g arms
         → ((choice : Choice) (row : RowHas vars arms from ty choice.0 choice.1) (vs : List Val) (xs : List (Abs W N)) (l : List Seen) → AreOf B c cap (environment_of spec) P row.0 xs → AllStand B world exact xs vs
         → IsMet exact (IsTrue B.notes.stamped) (Stands B world exact) l m (arm_of B c cap spec a acalls env arms choice.0 xs l) (core_arm spec.maps (group_of spec) g ccalls a cenv arms choice.0 vs m))

@@ -12,6 +12,7 @@ use Rattle.base_trait.specs.Uses.{IsKey}
 use Rattle.map_laws.specs.Keys.{Keys, one, some, has_key}
 use Rattle.map_laws.specs.Maps.{Map, keys, MayBe, MayUse, AreListed}
 use Rattle.map_laws.proofs.KeyLists.{has_from, has_to, sort_key}
+use Rattle.map_laws.proofs.Widening.{among_filter as kept_in}
 use Rattle.tsl_match.proofs.Truth.{and_left, and_right}
 use Rattle.spec_types.specs.declared.ty.Ty.{Ty}
 use Rattle.spec_types.specs.declared.ty.Ty.TheVariants.{Bool as Flag, Word, Data as DataTy, Map as MapOf}
@@ -30,18 +31,6 @@ use Rattle.reinterpretation.proofs.Standing.{Stands}
 use Rattle.reinterpretation.proofs.Deciding.{Mode}
 
 -- ---- lists of keys
-kept_in : (f : ℕ → Bool) (k : ℕ) (ks : List ℕ) → IsTrue (f k) → IsAmong k ks → IsAmong k (filter f ks)
-kept_in f k [] h m = absurd m
-kept_in f k (j ∷ js) h (inl e) = at (f j) (subst (λ z. IsTrue (f z)) e h)
-  where
-    at : (b : Bool) → IsTrue b → IsAmong k (cond b (j ∷ filter f js) (filter f js))
-    at true t = inl e
-    at false t = absurd cc
-kept_in f k (j ∷ js) h (inr m) = at (f j) (kept_in f k js h m)
-  where
-    at : (b : Bool) → IsAmong k (filter f js) → IsAmong k (cond b (j ∷ filter f js) (filter f js))
-    at true t = inr t
-    at false t = t
 
 among_more : (j : ℕ) (ks js : List ℕ) → Each (λ k. IsAmong k js) ks → Each (λ k. IsAmong k (j ∷ js)) ks
 among_more j [] js h = tt

@@ -2,13 +2,13 @@
 use Rattle.std.proofs.Common.{◌≡◌, ℕ, zero, suc, Bool, true, false, cond, List, [], ◌∷◌, ◌++◌, Option, Some, None, option_map, refl, subst, arith, IsTrue}
 use Rattle.std.specs.Prelude.{◌==◌, option_and_then}
 use Rattle.std.proofs.lemmas.Bool.Decides.{nat_tests}
+use Rattle.std.proofs.lemmas.Option.{same_Some as some_same}
 use Rattle.base_trait.specs.Algebra.{Algebra}
 use Rattle.tsl_match.specs.Values.{Place, Value, value_at, part_at}
 use Rattle.meaning.specs.Steps.{shown, all_shown}
 use Rattle.tsl_values.specs.Values as v
 use Rattle.tsl_values.specs.Values.{Val, Vals}
 use Rattle.core_meaning.specs.Places.{val_at, val_in, vals_named}
-use Rattle.core_meaning.proofs.Lists.{some_same}
 use Rattle.value_laws.specs.Abs.{Abs, Cases, Parts, flag, word, made, map, no_case, absent, present, no_part, part}
 use Rattle.value_laws.specs.Describes.{Describes, CaseDescribes, PartsDescribe}
 use Rattle.reinterpretation.specs.Choices.{abs_at, abs_in, abs_part, abs_named}

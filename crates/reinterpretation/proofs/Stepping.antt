@@ -1,7 +1,7 @@
 -- Steps meet those of the direct meaning.
 use Rattle.std.proofs.Common.{◌≡◌, ℕ, zero, suc, ◌<◌, ◌≤◌, ◌^◌, Bool, true, false, cond, List, [], ◌∷◌, ◌++◌, length, Option, Some, option_map, slice_get, refl, sym, ap, subst, ◌∙◌, arith, IsTrue}
 use Rattle.std.specs.Prelude.{◌==◌, nat_lt, nat_le, is_some}
-use Rattle.std.proofs.lemmas.Bool.{false≢true}
+use Rattle.std.proofs.lemmas.Bool.{false≢true, lt-ltb as less_is, le-leb as at_most_is}
 use Rattle.std.proofs.lemmas.Bool.Decides.{nat_tests}
 use Rattle.word_ops.specs.Width.{IsWidth}
 use Rattle.word_ops.specs.declared.kinds.Op1.{Op1}
@@ -32,7 +32,7 @@ use Rattle.meaning.specs.Outcomes.{Outcome}
 use Rattle.meaning.specs.Steps as s
 use Rattle.meaning.specs.Steps.{casts, is_word, key_of, number}
 use Rattle.meaning_laws.specs.Accepted.{is_key_type}
-use Rattle.meaning_laws.proofs.Values.{at_most_is, less_is, width_to}
+use Rattle.meaning_laws.proofs.Values.{width_to}
 use Rattle.tsl_values.specs.declared.value.Cell.{Cell}
 use Rattle.tsl_values.specs.Types.{key_count}
 use Rattle.tsl_values.specs.Values as v

@@ -11,7 +11,8 @@ use Rattle.base_trait.proofs.Tests.{and_both, and_parts}
 use Rattle.map_laws.specs.Cells.{CellFits}
 use Rattle.map_laws.specs.Maps.{Map, EachCell, Fits as MapFits, keys}
 use Rattle.spec_types.specs.WellFormed.{is_width}
-use Rattle.meaning_laws.proofs.Values.{width_from, width_to}
+use Rattle.spec_types.proofs.Checks.{width_is as width_from}
+use Rattle.meaning_laws.proofs.Values.{width_to}
 use Rattle.value_laws.specs.Abs.{Abs, Cases, Parts, flag, word, made, map, no_case, absent, present, no_part, part}
 use Rattle.value_laws.specs.Fits.{CasesFit, Fits, PartsFit}
 

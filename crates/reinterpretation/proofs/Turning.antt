@@ -33,9 +33,8 @@ use Rattle.reinterpretation.proofs.Stepped.{Invariant}
 use Rattle.reinterpretation.proofs.Chosen.{named_kept}
 use Rattle.base_trait.specs.Uses.{Read}
 use Rattle.tsl_match.specs.Picks.{Choice, picks}
-use Rattle.tsl_match.specs.Decisions.{Tree}
+use Rattle.tsl_match.specs.Decisions.{Decision}
 use Rattle.core_meaning.specs.CoreTypes.{Decides}
-use Rattle.core_meaning.proofs.Lists.{some_same}
 use Rattle.meaning.specs.Outcomes as o
 use Rattle.meaning.specs.Outcomes.{Outcome, ◌>>=◌ as ◌>>>>◌}
 use Rattle.meaning.specs.Steps.{shown}
@@ -49,6 +48,7 @@ use Rattle.reinterpretation.proofs.Meeting.{IsMet, MayFail, behind_met, bind_met
 use Rattle.reinterpretation.proofs.Standing.{AllStand, Stands, named_stand, stand_append}
 use Rattle.reinterpretation.proofs.Deciding.{Mode, decided_met, flag_single, row_picked}
 use Rattle.std.specs.Prelude.{IsSomeAnd}
+use Rattle.std.proofs.lemmas.Option.{same_Some as some_same}
 use Rattle.meaning.specs.Tails.{Ending, again, ends, leaf as leaf_end}
 use Rattle.meaning_laws.proofs.Turns.{fun_of}
 use Rattle.core_meaning.specs.CoreDirect.{called as core_called, core_tail, core_tail_arm}
@@ -201,7 +201,7 @@ module _ {W N C : Type 0} (B : Algebra W N C) (laws : Laws W N C B) (c : C) (cap
     arm_given None arm more l h go = nothing (MayFail exact) (IsYield B laws c cap spec a P g ty) l
     arm_given (Some vs) arm more l h go = go vs h
 
-    chosen_met : (p : Abs W N) (n : Val) (by_ : Tree) (arms : Cores) (vars : List Ty) (env : List (Abs W N)) (cenv : List Val) (from : Ty) (l : List Seen) (m : List Read) → IsOf B c cap (environment_of spec) P from p → Stands B world exact p n
+    chosen_met : (p : Abs W N) (n : Val) (by_ : Decision) (arms : Cores) (vars : List Ty) (env : List (Abs W N)) (cenv : List Val) (from : Ty) (l : List Seen) (m : List Read) → IsOf B c cap (environment_of spec) P from p → Stands B world exact p n
         → AreOf B c cap (environment_of spec) P vars env → Decides (environment_of spec) (RowHas vars arms from) from by_ → AllCallInOrder (group_of spec) rank g arms
         → ((choice : Choice) (row : RowHas vars arms from choice.0 choice.1) (vs : List Val) (xs : List (Abs W N)) (l : List Seen) → AreOf B c cap (environment_of spec) P row.0 xs → AllStand B world exact xs vs
         → IsMet exact (IsTrue B.notes.stamped) (YieldStands B world exact) l m (turn_arm B c cap spec a acalls g env arms choice.0 xs l) (core_tail_arm spec.maps (group_of spec) g ccalls a cenv arms choice.0 vs m))

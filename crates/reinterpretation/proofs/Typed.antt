@@ -1,7 +1,7 @@
 -- Values of types, the words of which fit.
 use Rattle.std.proofs.Common.{◌≡◌, ℕ, zero, suc, ◌++◌, Bool, true, List, [], ◌∷◌, length, Option, Some, None, slice_get, refl, ap, subst, arith}
 use Rattle.std.specs.Prelude.{◌==◌, nat_lt, IfSome}
-use Rattle.std.proofs.lemmas.Bool.{false≢true}
+use Rattle.std.proofs.lemmas.Bool.{false≢true, eqb-true as same_number}
 use Rattle.std.proofs.lemmas.Bool.Decides.{nat_tests}
 use Rattle.tsl_match.proofs.Truth.{and_left, and_right, both}
 use Rattle.word_ops.specs.Width.{IsWidth}
@@ -13,7 +13,7 @@ use Rattle.spec_types.specs.declared.ty.Ty.TheVariants.{Bool as Flag, Word, Data
 use Rattle.spec_types.specs.declared.declared.MapTy.{MapTy}
 use Rattle.spec_types.specs.Environment.{Environment, Data, Case}
 use Rattle.spec_types.specs.WellFormed.{is_type}
-use Rattle.meaning_laws.proofs.Values.{same_number, width_to}
+use Rattle.meaning_laws.proofs.Values.{width_to}
 use Rattle.value_laws.specs.Abs.{Abs, Cases, flag, word, made, map, parts}
 use Rattle.value_laws.specs.Fits.{Fits, CasesFit, PartsFit}
 use Rattle.value_types.specs.Types.{has_width, of_data, has_type, have_cases, have_types}

@@ -4,7 +4,7 @@ use Rattle.word_ops.specs.declared.kinds.Cmp.TheVariants.{Eq}
 use Rattle.base_trait.specs.Algebra.{Algebra}
 use Rattle.base_trait.specs.declared.tri.Tri.{Tri}
 use Rattle.tsl_match.specs.Values.{Place}
-use Rattle.tsl_match.specs.Decisions.{Tree, Trees, row, on_case, on_word, on_flag, tree_then}
+use Rattle.tsl_match.specs.Decisions.{Decision, Decisions, row, on_case, on_word, on_flag, tree_then}
 use Rattle.core_meaning.specs.Places.{all_of}
 use Rattle.value_laws.specs.Abs.{Abs, Cases, Parts, flag, word, made, no_case, absent, present, no_part, part}
 use Rattle.recursion_fix.specs.Answer.{gives}
@@ -62,14 +62,14 @@ arm_on arm (Some vs) l = arm vs l
 -- `arm` is what an arm gives, by its number, on what its variables name.
 module _ {W N C A : Type 0} (B : Algebra W N C) (c : C) (j : A → A → A) (arm : ℕ → List (Abs W N) → Evaluation A) (x : Abs W N) where
   abbrev mutual
-    pub decided : Tree → Evaluation A
+    pub decided : Decision → Evaluation A
     decided (row r binds) l = arm_on (arm r) (abs_named x binds) l
     decided (on_case at arms) l = joined j (arms_present arms (cases_there (abs_at at x))) l
     decided (on_word at n a b) l = branch j (word_there B c (abs_at at x) n) (decided a) (decided b) l
     decided (on_flag at a b) l = branch j (flag_there (abs_at at x)) (decided a) (decided b) l
 
     -- those of the constructors that are present, in declared order
-    pub arms_present : Trees → Cases W N → List (Evaluation A)
+    pub arms_present : Decisions → Cases W N → List (Evaluation A)
     arms_present (tree_then t ts) (absent cs) = arms_present ts cs
     arms_present (tree_then t ts) (present xs cs) = decided t ∷ arms_present ts cs
     arms_present _ _ = []

@@ -9,8 +9,8 @@ use affine_rows::laws::{
     rows_within,
 };
 use affine_rows::{Form, Rows};
+use std::alloc::{AllocError, Global};
 use std::hash::{DefaultHasher, Hash, Hasher};
-use std::process::Abort;
 use std::test::Fail;
 
 enum Step {
@@ -27,36 +27,58 @@ fn are_equal(x: &[u32], y: &[u32]) -> bool {
     x == y
 }
 
-fn follow(rt: &impl Abort, rows: &mut Rows, k: u32, steps: &[Step])
+/// Whether a step can be made in k columns, and gives what it says.
+fn holds(rows: &mut Rows, k: u32, step: &Step) -> bool
+    requires { rows.old.k ≡ k }
+    ensures { rows.new.k ≡ k }
+{
+    match step {
+        Step::Insert(row, grew) => {
+            if row.len() == k as usize + 1 {
+                rows.insert(row) == *grew
+            } else {
+                false
+            }
+        }
+        Step::Contains(row, is) => row.len() == k as usize + 1 && rows.contains(row) == *is,
+        Step::Havoc(cell) => {
+            if *cell < k {
+                rows.havoc(*cell);
+            }
+            *cell < k
+        }
+        Step::Len(len) => rows.len() == *len,
+        Step::Row(i, row) => *i < rows.len() && are_equal(rows.row(*i), row),
+        Step::Rank(rank) => rows.rank() == *rank,
+        Step::Multiple(cell, multiple) => *cell < k && rows.multiple(*cell) == *multiple,
+    }
+}
+
+/// Whether each of the steps does.
+fn all_hold(rows: &mut Rows, k: u32, steps: &[Step]) -> bool
     requires { rows.old.k ≡ k }
     ensures { rows.new.k ≡ k }
 {
     for step in steps {
-        match step {
-            Step::Insert(row, grew) => {
-                assert_eq!(rt; row.len(), k as usize + 1);
-                assert_eq!(rt; rows.insert(row), *grew);
-            }
-            Step::Contains(row, is) => {
-                assert_eq!(rt; row.len(), k as usize + 1);
-                assert_eq!(rt; rows.contains(row), *is);
-            }
-            Step::Havoc(cell) => {
-                assert!(rt; *cell < k);
-                rows.havoc(*cell);
-            }
-            Step::Len(len) => assert_eq!(rt; rows.len(), *len),
-            Step::Row(i, row) => {
-                assert!(rt; *i < rows.len());
-                assert!(rt; are_equal(rows.row(*i), row));
-            }
-            Step::Rank(rank) => assert_eq!(rt; rows.rank(), *rank),
-            Step::Multiple(cell, multiple) => {
-                assert!(rt; *cell < k);
-                assert_eq!(rt; rows.multiple(*cell), *multiple);
-            }
+        if !holds(rows, k, step) {
+            return false;
         }
     }
+    true
+}
+
+/// How many entries hold, each over rows of its own, before one that does not.
+fn right(alloc: Global, table: &[(u32, &[Step])]) -> Result<usize, AllocError> {
+    for (i, (k, steps)) in table.iter().enumerate() {
+        if *k > 64 {
+            return Ok(i);
+        }
+        let mut rows = Rows::new(alloc, *k)?;
+        if !all_hold(&mut rows, *k, steps) {
+            return Ok(i);
+        }
+    }
+    Ok(table.len())
 }
 
 #[test]
@@ -187,20 +209,21 @@ fn members(rt: HostRuntime) -> Result<(), Fail> {
             ],
         ),
     ];
-    for (k, steps) in table {
-        assert!(rt; k <= 64);
-        let mut rows = Rows::new(rt.alloc(), k)?;
-        follow(&rt, &mut rows, k, steps);
-    }
+    assert_eq!(rt; right(rt.alloc(), &table)?, 10);
     Ok(())
 }
 
 #[test]
 fn values_of_forms(rt: HostRuntime) -> Result<(), Fail> {
+    let forms = [
+        Some(Form {
+            c: vec![in rt.alloc(); 3, 2, 1]?,
+        }),
+        None,
+    ];
     let mut from = Rows::new(rt.alloc(), 2)?;
     let mut into = Rows::new(rt.alloc(), 2)?;
-    follow(
-        &rt,
+    let before = all_hold(
         &mut from,
         2,
         &[
@@ -208,15 +231,8 @@ fn values_of_forms(rt: HostRuntime) -> Result<(), Fail> {
             Step::Insert(&[0, 0, 4], true),
         ],
     );
-    let forms = [
-        Some(Form {
-            c: vec![in rt.alloc(); 3, 2, 1]?,
-        }),
-        None,
-    ];
     from.image(&forms, &mut into);
-    follow(
-        &rt,
+    let after = all_hold(
         &mut into,
         2,
         &[
@@ -232,6 +248,7 @@ fn values_of_forms(rt: HostRuntime) -> Result<(), Fail> {
             Step::Rank(2),
         ],
     );
+    assert!(rt; before && after);
     Ok(())
 }
 
@@ -241,27 +258,47 @@ fn hash_of(form: &Form) -> u64 {
     state.finish()
 }
 
+/// The form with these numbers, with room for some.
+fn form(alloc: Global, room: usize, numbers: &[u32]) -> Result<Form, AllocError> {
+    let mut c = Vec::with_capacity(alloc, room)?;
+    c.extend_from_slice(numbers)?;
+    Ok(Form { c })
+}
+
+/// Whether two forms are equal and have one hash, where they have room for different numbers.
+fn are_same(alloc: Global, x: &[u32], y: &[u32]) -> Result<bool, AllocError> {
+    let x = form(alloc, 16, x)?;
+    let y = form(alloc, 0, y)?;
+    Ok(x == y && hash_of(&x) == hash_of(&y))
+}
+
+/// Whether two forms are equal.
+fn are_equal_forms(alloc: Global, x: &[u32], y: &[u32]) -> Result<bool, AllocError> {
+    let x = form(alloc, 16, x)?;
+    let y = form(alloc, 0, y)?;
+    Ok(x == y)
+}
+
 #[test]
 fn equal_forms(rt: HostRuntime) -> Result<(), Fail> {
-    let mut numbers = Vec::with_capacity(rt.alloc(), 16)?;
-    numbers.push(3)?;
-    numbers.push(2)?;
-    let form = Form { c: numbers };
-    let same = Form {
-        c: vec![in rt.alloc(); 3, 2]?,
-    };
-    let other = Form {
-        c: vec![in rt.alloc(); 3, 4]?,
-    };
-    let longer = Form {
-        c: vec![in rt.alloc(); 3, 2, 0]?,
-    };
-    assert!(rt; form == same);
-    assert_eq!(rt; hash_of(&form), hash_of(&same));
-    assert!(rt; form != other);
-    assert!(rt; form != longer);
-    assert_eq!(rt; form.value(&[1, 5]), 13);
-    assert_eq!(rt; other.value(&[1, 0x4000_0000]), 3);
+    let alloc = rt.alloc();
+    assert!(rt; are_same(alloc, &[3, 2], &[3, 2])?);
+    assert!(rt; !are_equal_forms(alloc, &[3, 2], &[3, 4])?);
+    assert!(rt; !are_equal_forms(alloc, &[3, 2], &[3, 2, 0])?);
+    Ok(())
+}
+
+/// Whether the form with these numbers has the value over the row.
+fn has_value(alloc: Global, numbers: &[u32], row: &[u32], value: u32) -> Result<bool, AllocError> {
+    let form = form(alloc, 0, numbers)?;
+    Ok(form.value(row) == value)
+}
+
+#[test]
+fn forms_have_values(rt: HostRuntime) -> Result<(), Fail> {
+    let alloc = rt.alloc();
+    assert!(rt; has_value(alloc, &[3, 2], &[1, 5], 13)?);
+    assert!(rt; has_value(alloc, &[3, 4], &[1, 0x4000_0000], 3)?);
     Ok(())
 }
 
@@ -274,17 +311,27 @@ fn stair(i: usize) -> [u32; 65] {
     row
 }
 
+/// Whether 65 rows are taken in as new ones, and are all that there are.
+fn are_all(rows: &mut Rows) -> bool
+    requires { rows.old.k ≡ 64 }
+{
+    for i in 0..65usize {
+        if !rows.insert(&stair(i)) {
+            return false;
+        }
+    }
+    for i in 0..1000usize {
+        if !rows.contains(&stair(i)) {
+            return false;
+        }
+    }
+    rows.len() == 65 && rows.rank() == 1
+}
+
 #[test]
 fn full_size(rt: HostRuntime) -> Result<(), Fail> {
     let mut rows = Rows::new(rt.alloc(), 64)?;
-    for i in 0..65usize {
-        assert!(rt; rows.insert(&stair(i)));
-    }
-    for i in 0..1000usize {
-        assert!(rt; rows.contains(&stair(i)));
-    }
-    assert_eq!(rt; rows.len(), 65);
-    assert_eq!(rt; rows.rank(), 1);
+    assert!(rt; are_all(&mut rows));
     Ok(())
 }
 

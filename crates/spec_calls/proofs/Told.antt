@@ -1,7 +1,7 @@
 -- What a table tells of groups and of calls.
 use Rattle.std.proofs.Common.{◌≡◌, ◌⊎◌, ℕ, zero, suc, ◌+◌, ◌<◌, ◌≤◌, Bool, true, false, not, cond, ◌&&◌, ◌==◌, Option, Some, None, option_map, Result, Ok, Err, OnOk, IfOk, List, [], ◌∷◌, length, map, get_or, slice_get, refl, sym, ap, ◌∙◌, subst, inl, inr, arith, zero-add}
 use Rattle.std.specs.List.{Contains}
-use Rattle.std.proofs.lemmas.Bool.{cases_lt, false≢true}
+use Rattle.std.proofs.lemmas.Bool.{cases_lt, false≢true, not-true as not_is, eqb-true as same_number, and_from as and_both, and_parts, or_right, or_left, or_cases as or_parts}
 use Rattle.std.proofs.lemmas.List.{get_or_past, length-map}
 use Rattle.std.proofs.lemmas.Simd.{map-map}
 use Rattle.std.proofs.lemmas.Option.{slice_get-map, slice_get_within}
@@ -19,22 +19,9 @@ use Rattle.spec_calls.specs.Calls.{calls, call_of, call_graph}
 use Rattle.spec_calls.specs.Groups.{InOneGroup, CallsGroupInside, GroupLoops, IsGroupOf, AreGroups}
 use Rattle.spec_calls.specs.Recursion.{IsRecursionFault, NoRecursionFault}
 use Rattle.spec_calls.specs.Told.{calls_inside, first_inside, AreTold}
-use Rattle.reachability.proofs.Tables.{same_number, or_parts, or_left, or_right}
 
 pub graph_len : (bodies : List Term) → length (call_graph bodies) ≡ length bodies
 graph_len bodies = length-map bodies (λ body. map (λ c. c.fun) (calls true body))
-
-and_parts : (x y : Bool) → x && y ≡ true → (x ≡ true) × (y ≡ true)
-and_parts true y h = (refl, h)
-and_parts false y h = absurd (false≢true h)
-
-and_both : (x y : Bool) → x ≡ true → y ≡ true → x && y ≡ true
-and_both true y e h = h
-and_both false y e h = absurd (false≢true e)
-
-not_is : (b : Bool) → not b ≡ true → b ≡ false
-not_is false h = refl
-not_is true h = absurd (false≢true h)
 
 -- ---- of a graph and its table
 module _ (graph : List (List ℕ)) (t : List (List Bool)) (table : IsTableOf graph t) where

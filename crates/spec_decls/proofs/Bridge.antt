@@ -2,7 +2,7 @@
 use Rattle.std.proofs.Common.{◌≡◌, ℕ, ◌+◌, ◌<◌, ◌≤◌, Bool, true, false, Option, Some, None, List, [], ◌∷◌, ◌++◌, length, map, filter_map, get_or, slice_get, refl, sym, ap, ◌∙◌, subst, inl, inr, arith}
 use Rattle.std.proofs.lemmas.Bool.{cases_lt, false≢true, ltb-true, lt-ltb}
 use Rattle.std.proofs.lemmas.List.{get_or-map, get_or_past, length-map}
-use Rattle.std.proofs.lemmas.Option.{slice_get_within, slice_get-get_or, get_or_from_slice_get}
+use Rattle.std.proofs.lemmas.Option.{slice_get_within, slice_get-get_or, get_or_from_slice_get, same_Some as some_same}
 use Rattle.reachability.specs.Table.{IsTableOf, says}
 use Rattle.spec_types.specs.declared.ty.Ty.TheVariants.{Bool as Flag, Word, Data as DataTy, Map as MapOf}
 use Rattle.spec_decls.specs.declared.type_names.Meaning.{Meaning}
@@ -10,9 +10,6 @@ use Rattle.spec_decls.specs.declared.type_names.Meaning.TheVariants.{Known, BadW
 use Rattle.spec_decls.specs.Leaves.{Made, IsLarge, IsKnown, data_number, held, LeavesOf, CaseLeaves, FieldLeaves, data_leaves, no_cases, next_case, no_fields, next_field, flag_leaf, word_leaf, map_leaf, width_leaf, data_leaf}
 use Rattle.spec_decls.specs.Counts.{plain, plain_fields, plain_cases, CountOf, SumOf, counted, nothing, next, AreCounts, is_past}
 use Rattle.spec_decls.proofs.Counting.{past_limit, none_some}
-
-some_same : (p q : ℕ) → Some p ≡ Some q → p ≡ q
-some_same p q e = cc
 
 module _ (datas : List Made) where
   abbrev graph : List (List ℕ)

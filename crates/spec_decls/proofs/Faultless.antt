@@ -1,7 +1,7 @@
 -- What items without faults of types declare.
-use Rattle.std.proofs.Common.{◌≡◌, ℕ, zero, suc, ◌+◌, Bool, true, false, not, ◌&&◌, Option, Some, None, List, [], ◌∷◌, map, length, get_or, slice_get, refl, sym, subst, arith}
+use Rattle.std.proofs.Common.{◌≡◌, ℕ, zero, suc, ◌+◌, Bool, true, false, not, Some, None, List, [], ◌∷◌, map, length, get_or, slice_get, refl, sym, subst, arith}
 use Rattle.std.specs.List.{list_all}
-use Rattle.std.proofs.lemmas.Bool.{false≢true}
+use Rattle.std.proofs.lemmas.Bool.{and_from as both}
 use Rattle.tsl_parser.specs.declared.tree.Name.{Name}
 use Rattle.tsl_parser.specs.declared.tree.FieldDecl.{FieldDecl}
 use Rattle.tsl_parser.specs.declared.tree.MapDecl.{MapDecl}
@@ -13,6 +13,7 @@ use Rattle.spec_types.specs.declared.spec_error.SpecError.{SpecError}
 use Rattle.spec_types.specs.Answers.{unless, ◌then◌}
 use Rattle.spec_types.specs.Environment.{field_types}
 use Rattle.spec_types.specs.WellFormed.{is_type, is_width, is_signature}
+use Rattle.spec_types.proofs.Checks.{then_left, then_right}
 use Rattle.spec_decls.specs.declared.type_names.Meaning.{Meaning}
 use Rattle.spec_decls.specs.declared.type_names.Meaning.TheVariants.{Known, BadWidth, Unknown}
 use Rattle.spec_decls.specs.Declarations.{type_in, field_in, case_declared, signature_declared, datas_from, maps_from, signatures_from, declared, width_or}
@@ -23,18 +24,6 @@ use Rattle.spec_decls.proofs.Named.{is_within, named_fits}
 
 some_none : {A : Type 0} (e : SpecError) → Some e ≡ None → A
 some_none e h = absurd cc
-
-pub then_left : (a b : Option SpecError) → (a then b) ≡ None → a ≡ None
-then_left None b h = refl
-then_left (Some e) b h = some_none e h
-
-pub then_right : (a b : Option SpecError) → (a then b) ≡ None → b ≡ None
-then_right None b h = h
-then_right (Some e) b h = some_none e h
-
-both : (x y : Bool) → x ≡ true → y ≡ true → (x && y) ≡ true
-both true y h k = k
-both false y h k = absurd (false≢true h)
 
 pub not_faulty : (r : Bool) (e : SpecError) → unless (not r) e ≡ None → r ≡ false
 not_faulty false e h = refl

@@ -2,7 +2,7 @@
 use Rattle.std.proofs.Common.{◌≡◌, ℕ, zero, suc, ◌+◌, ◌<◌, ◌≤◌, ◌^◌, Bool, true, false, ◌&&◌, ltb, leb, Option, Some, None, List, [], ◌∷◌, map, filter_map, length, get_or, slice_get, unwrap_or, option_map, refl, sym, ap, ◌∙◌, subst, inl, inr, arith}
 use Rattle.std.specs.List.{Contains, list_all}
 use Rattle.std.specs.List.{cons_option}
-use Rattle.std.proofs.lemmas.Bool.{false≢true, ltb-true}
+use Rattle.std.proofs.lemmas.Bool.{false≢true, ltb-true, and_parts as both_of}
 use Rattle.std.proofs.lemmas.Bool.Decides.{nat_tests}
 use Rattle.std.proofs.lemmas.List.{length-map, get_or-map}
 use Rattle.std.proofs.lemmas.List.Elements.{Contains-append_left, Contains-append_right}
@@ -20,6 +20,8 @@ use Rattle.spec_types.specs.declared.ty.Ty.{Ty}
 use Rattle.spec_types.specs.declared.ty.Ty.TheVariants.{Bool as Flag, Word, Data as DataTy, Map as MapOf}
 use Rattle.spec_types.specs.Environment.{field_types, shape_of}
 use Rattle.spec_types.specs.WellFormed.{is_type, IsWellFormed}
+use Rattle.spec_types.proofs.Lists.{all_at}
+use Rattle.spec_types.proofs.Checks.{then_left, then_right}
 use Rattle.spec_decls.specs.declared.type_names.Meaning.{Meaning}
 use Rattle.spec_decls.specs.declared.type_names.Meaning.TheVariants.{Known, BadWidth, Unknown}
 use Rattle.spec_decls.specs.Declarations.{type_in, field_in, case_declared, data_declared, datas_from, declared, HaveCases}
@@ -27,7 +29,7 @@ use Rattle.spec_decls.specs.Leaves.{Made, made, all_made, datatypes, data_number
 use Rattle.spec_decls.specs.Sizes.{is_sized, has_few_fields, are_sized}
 use Rattle.spec_decls.specs.TypeNames.{types_of, type_named, type_or_flag}
 use Rattle.spec_decls.specs.Types.{field_types_fault, case_types_fault, named_fault, types_fault}
-use Rattle.spec_decls.proofs.Faultless.{then_left, then_right, meaning_fits, type_fits, datas_fit, maps_fit, signatures_fit, data_fine}
+use Rattle.spec_decls.proofs.Faultless.{meaning_fits, type_fits, datas_fit, maps_fit, signatures_fit, data_fine}
 
 -- ---- lists
 
@@ -38,19 +40,6 @@ there : {X : Type 0} (xs : List X) (t : ℕ) → t < length xs → (x : X) × (s
 there [] t l = absurd (omega arith)
 there (x ∷ xs) zero l = (x, refl)
 there (x ∷ xs) (suc t) l = there xs t (omega arith)
-
-both_of : (x y : Bool) → (x && y) ≡ true → (x ≡ true) × (y ≡ true)
-both_of true y h = (refl, h)
-both_of false y h = absurd (false≢true h)
-
--- a test that all pass
-all_at : {X : Type 0} (test : X → Bool) (xs : List X) (i : ℕ) (x : X) → list_all test xs ≡ true → slice_get xs i ≡ Some x → test x ≡ true
-all_at test [] i x h is = absent x is
-all_at test (y ∷ xs) zero x h is = subst (λ z. test z ≡ true) (same is) (both_of (test y) (list_all test xs) h).0
-  where
-    same : Some y ≡ Some x → y ≡ x
-    same q = cc
-all_at test (y ∷ xs) (suc i) x h is = all_at test xs i x (both_of (test y) (list_all test xs) h).1 is
 
 contains_later : (xs : List ℕ) (y x : ℕ) → Contains xs x → Contains (y ∷ xs) x
 contains_later xs y x w = (suc w.0, omega (arith, w.1), w.2)

@@ -1,7 +1,7 @@
 -- The type of states.
 use Rattle.std.proofs.Common.{◌≡◌, ℕ, suc, ◌+◌, Bool, true, false, ◌&&◌, cond, eqb, leb, bytes_eq, codes, Option, Some, None, List, [], ◌∷◌, map, drop, length, slice_get, option_map, refl, sym, ap, ◌∙◌, subst, arith}
 use Rattle.std.specs.List.{list_all}
-use Rattle.std.proofs.lemmas.Bool.{false≢true}
+use Rattle.std.proofs.lemmas.Bool.{false≢true, and_parts as both}
 use Rattle.std.proofs.lemmas.Bool.Decides.{Decides-eqb}
 use Rattle.std.proofs.lemmas.Option.{slice_get-map}
 use Rattle.tsl_parser.specs.declared.tree.Span.{Span}
@@ -20,15 +20,11 @@ use Rattle.spec_decls.specs.MachineRules.{datatype_from, are_state_fields, is_co
 use Rattle.spec_decls.specs.TypeNames.{TypeTable, types_of}
 use Rattle.spec_decls.specs.Laws.{MachinesAreThere, StateIsOne}
 
-some_none : {A B : Type 0} (x : A) → Some x ≡ None → B
+pub some_none : {A B : Type 0} (x : A) → Some x ≡ None → B
 some_none x h = absurd cc
 
-none_some : {A B : Type 0} (x : A) → None ≡ Some x → B
+pub none_some : {A B : Type 0} (x : A) → None ≡ Some x → B
 none_some x h = absurd cc
-
-both : (x y : Bool) → (x && y) ≡ true → (x ≡ true) × (y ≡ true)
-both true y h = (refl, h)
-both false y h = absurd (false≢true h)
 
 -- ---- no fault
 
@@ -90,7 +86,7 @@ at_name n (e.map_type m ∷ items) name d h = at_name n items name d h
 at_name n (e.function f ∷ items) name d h = at_name n items name d h
 at_name n (e.decode x ∷ items) name d h = at_name n items name d h
 
-datas_are : (types : TypeTable) (rest : List Item) → datas_from types rest ≡ map (data_declared types) (datatypes rest)
+pub datas_are : (types : TypeTable) (rest : List Item) → datas_from types rest ≡ map (data_declared types) (datatypes rest)
 datas_are types [] = refl
 datas_are types (e.datatype x ∷ rest) = ap (λ ds. data_declared types x ∷ ds) (datas_are types rest)
 datas_are types (e.map_type m ∷ rest) = datas_are types rest

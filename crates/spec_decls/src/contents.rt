@@ -8,8 +8,8 @@ ghost use Rattle.spec_decls.specs.Leaves as leaves;
 ghost use Rattle.spec_decls.specs.Leaves.{data_number};
 ghost use Rattle.spec_decls.specs.Views.{meanings};
 
-use crate::lists::pushed;
 use crate::type_names::Meaning;
+use grown_lists::pushed;
 use spec_types::{SpecError, Ty};
 use std::alloc::{AllocError, Global};
 

@@ -6,8 +6,8 @@ ghost use Rattle.tsl_parser.specs.View as view;
 ghost use Rattle.spec_types.specs.Views.{case_of, data_of, environment, signature_of};
 ghost use Rattle.spec_decls.specs.Declarations as spec;
 
-use crate::lists::pushed;
 use crate::type_names::{Meaning, TypeNames};
+use grown_lists::pushed;
 use spec_types::{Case, Data, Declarations, MapTy, Signature, Ty};
 use std::alloc::{AllocError, Global};
 use tsl_lexer::Text;

@@ -49,7 +49,6 @@ mod counts;
 mod declare;
 mod known;
 pub mod laws;
-mod lists;
 mod made;
 mod passes;
 mod sizes;

@@ -6,8 +6,8 @@ ghost use Rattle.spec_decls.specs.Leaves as leaves;
 ghost use Rattle.spec_decls.specs.TypeNames.{type_named};
 ghost use Rattle.spec_decls.specs.Views.{meanings};
 
-use crate::lists::pushed;
 use crate::type_names::{Meaning, TypeNames};
+use grown_lists::pushed;
 use std::alloc::{AllocError, Global};
 use tsl_parser::tree::{CaseDecl, DataDecl, FieldDecl, Item};
 

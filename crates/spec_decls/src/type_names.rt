@@ -7,7 +7,7 @@ ghost use Rattle.tsl_parser.specs.View as view;
 ghost use Rattle.spec_types.specs.Answers.{Agrees};
 ghost use Rattle.spec_decls.specs.TypeNames.{declared_named, is_digit, is_word_name, numerals, some_digits, type_named, types_from, types_of, word_named};
 
-use crate::lists::pushed;
+use grown_lists::pushed;
 use spec_types::{SpecError, Ty, number_text, same};
 use std::alloc::{AllocError, Global};
 use std::marker::Model;

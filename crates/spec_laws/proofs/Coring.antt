@@ -22,9 +22,10 @@ use Rattle.spec_types.specs.Cores.{tree_of, result_of, variable_types, all_varia
 use Rattle.spec_types.specs.Cores as k
 use Rattle.spec_types.specs.TermTypes.{PatternTyped, PatternsTyped}
 use Rattle.spec_types.specs.WellFormed.{IsWellFormed, is_scope, is_type}
+use Rattle.spec_types.proofs.Checks.{then_left, then_right}
 use Rattle.spec_patterns.specs.Faults.{unknown, count_fault}
 use Rattle.spec_patterns.specs.Patterns.{pattern_fault, pattern_of, variables, fields_of, case_number}
-use Rattle.spec_patterns.proofs.Steps.{then_left, then_right}
+use Rattle.spec_patterns.proofs.Suits.{lengths as counts}
 use Rattle.spec_forms.specs.Forms.{operator_term, operator_type, operator_core, prefix_term, prefix_type, prefix_core, width_of}
 use Rattle.spec_forms.specs.Operators.{Operator, both, either, operation, comparison, operator_of, keyword_operator, cast_of}
 use Rattle.spec_typing.specs.Parts.{wanted, wanted_if, word_wanted, map_wanted}
@@ -33,13 +34,13 @@ use Rattle.spec_typing.specs.Cores.{core_in, cores_in, arm_cores}
 use Rattle.spec_laws.specs.Typed.{types, IsTyped}
 use Rattle.spec_laws.specs.Laws.{CoresAreThose}
 use Rattle.spec_laws.proofs.Named.{variable_there, function_there}
-use Rattle.spec_laws.proofs.Patterned.{counts, types_append, pattern_typed}
+use Rattle.spec_laws.proofs.Patterned.{types_append, pattern_typed}
 use Rattle.spec_laws.proofs.Typing.{typed, wanted_type, word_typed, map_typed, some_arm, behind, enter_is, clash}
 
 module _ (env : Environment) where
   -- the variables of a typed pattern
   mutual
-    pub variables_have : (n : ℕ) (ty : Ty) (p : m.Pat) (vars : List Ty) → PatternTyped env n ty p vars → variable_types env ty p ≡ vars
+    pub variables_have : (n : ℕ) (ty : Ty) (p : m.Pattern) (vars : List Ty) → PatternTyped env n ty p vars → variable_types env ty p ≡ vars
     variables_have n ty m.any vars h = sym h
     variables_have n ty (m.bind i) vars h = sym h.1
     variables_have n Flag (m.flag_is b) vars h = sym h
@@ -47,7 +48,7 @@ module _ (env : Environment) where
     variables_have n (DataTy t) (m.case_is i ps) vars h = all_have n (fields_at (case_at env (DataTy t) i)) ps vars h
     variables_have n ty p vars h = absurd h
 
-    all_have : (n : ℕ) (ts : List Ty) (ps : m.Pats) (vars : List Ty) → PatternsTyped env n ts ps vars → all_variable_types env ts ps ≡ vars
+    all_have : (n : ℕ) (ts : List Ty) (ps : m.Patterns) (vars : List Ty) → PatternsTyped env n ts ps vars → all_variable_types env ts ps ≡ vars
     all_have n [] m.no_pat vars h = sym h
     all_have n (t ∷ ts) (m.pat_then p ps) vars h =
         rw (variables_have n t p h.0 h.2, all_have (n + length h.0) ts ps h.1 h.3) (sym h.4)

@@ -1,17 +1,10 @@
 -- What a name means stands where its number says.
-use Rattle.std.proofs.Common.{◌≡◌, ℕ, zero, suc, ◌+◌, ◌<◌, Bool, true, false, cond, Option, Some, None, List, [], ◌∷◌, length, refl, subst, ap, ◌∙◌, arith, slice_get}
+use Rattle.std.proofs.Common.{◌≡◌, ℕ, suc, ◌+◌, ◌<◌, Bool, true, false, cond, Option, Some, None, List, [], ◌∷◌, length, refl, subst, ap, ◌∙◌, arith, slice_get}
 use Rattle.std.specs.Prelude.{bytes_eq}
-use Rattle.std.specs.List.{list_all}
 use Rattle.std.proofs.lemmas.Option.{slice_get_within}
 use Rattle.spec_types.specs.declared.ty.Ty.TheVariants.{Data as DataTy}
 use Rattle.spec_types.specs.Environment.{Environment, Scope, Case, Data, Signature, Constructor, Function, Variable, field_types, case_from, constructor_from, constructor_named, function_from, function_named, variable_from, variable_named, or_else}
 use Rattle.spec_types.specs.Texts.{case_at, fields_at}
-use Rattle.spec_patterns.proofs.Variables.{and_left, and_right}
-
-pub all_at : {A : Type 0} (f : A → Bool) (xs : List A) (k : ℕ) (x : A) → list_all f xs ≡ true → slice_get xs k ≡ Some x → f x ≡ true
-all_at f [] k x h e = absurd cc
-all_at f (y ∷ ys) zero x h e = let same : y ≡ x = cc in subst (λ z. f z ≡ true) same (and_left (f y) (list_all f ys) h)
-all_at f (y ∷ ys) (suc k) x h e = all_at f ys k x (and_right (f y) (list_all f ys) h) e
 
 -- ---- variables
 pub record VariableAt (n : ℕ) (scope : Scope) (v : Variable) : Type 0 where

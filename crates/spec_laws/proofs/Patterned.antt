@@ -1,6 +1,5 @@
 -- A pattern without a fault has the type of what it is matched with, and its variables theirs.
-use Rattle.std.proofs.Common.{◌≡◌, ℕ, ◌+◌, ◌==◌, Option, Some, None, List, [], ◌∷◌, ◌++◌, length, refl, sym, subst, ap, ◌∙◌, arith}
-use Rattle.std.proofs.lemmas.Bool.Decides.{nat_tests}
+use Rattle.std.proofs.Common.{◌≡◌, ◌+◌, Option, Some, None, List, [], ◌∷◌, ◌++◌, length, refl, sym, subst, ap, ◌∙◌, arith}
 use Rattle.std.proofs.lemmas.List.{map-append, length-map, length-append}
 use Rattle.tsl_parser.specs.Tree as e
 use Rattle.tsl_parser.specs.Tree.{Pattern, Patterns}
@@ -9,19 +8,17 @@ use Rattle.tsl_parser.specs.declared.tree.Span.{Span}
 use Rattle.tsl_match.specs.Patterns as m
 use Rattle.spec_types.specs.declared.ty.Ty.{Ty}
 use Rattle.spec_types.specs.declared.ty.Ty.TheVariants.{Bool as Flag, Word, Data as DataTy}
-use Rattle.spec_types.specs.declared.spec_error.SpecError.{SpecError}
-use Rattle.spec_types.specs.Answers.{◌then◌, unless, found}
+use Rattle.spec_types.specs.Answers.{◌then◌, found}
 use Rattle.spec_types.specs.Environment.{Environment, Scope, Constructor, constructor_named, same_type}
 use Rattle.spec_types.specs.TermTypes.{PatternTyped, PatternsTyped}
+use Rattle.spec_types.proofs.Checks.{then_left, then_right, unless_none}
 use Rattle.spec_patterns.specs.Faults.{fits, unknown, count_fault, literal_fault, type_fault}
 use Rattle.spec_patterns.specs.Patterns as s
 use Rattle.spec_patterns.specs.Patterns.{pattern_fault, part_faults, pattern_of, parts_of, patterns_len, variables, part_variables, make_fault, case_number}
-use Rattle.spec_patterns.proofs.Steps.{then_left, then_right, unless_none, same_types, fits_below}
+use Rattle.spec_patterns.proofs.Steps.{same_types, fits_below}
+use Rattle.spec_patterns.proofs.Suits.{lengths as counts}
 use Rattle.spec_laws.specs.Typed.{types}
 use Rattle.spec_laws.proofs.Named.{constructor_fields}
-
-pub counts : (a b : ℕ) (e : SpecError) → unless (a == b) e ≡ None → a ≡ b
-counts a b e h = let k = unless_none (a == b) e h in grind (arith, nat_tests)
 
 pub types_append : (a b : Scope) → types (a ++ b) ≡ types a ++ types b
 types_append a b = map-append (λ x. x.1) a b

@@ -1,7 +1,7 @@
 -- A call in tail position has the type of the whole, so functions of one group have one type of results.
 use Rattle.std.proofs.Common.{◌≡◌, ℕ, zero, suc, ◌<◌, Bool, true, false, Option, Some, None, option_map, List, [], ◌∷◌, ◌++◌, length, map, get_or, slice_get, unwrap_or, refl, sym, ap, ◌∙◌, subst, inl, inr, arith}
 use Rattle.std.proofs.lemmas.Bool.{false≢true}
-use Rattle.std.proofs.lemmas.Option.{slice_get-map, unwrap_or-slice_get}
+use Rattle.std.proofs.lemmas.Option.{slice_get-map, unwrap_or-slice_get, same_Some as same_signature}
 use Rattle.std.proofs.lemmas.List.{length-map}
 use Rattle.reachability.specs.Graph.{Reaches, edge, onward}
 use Rattle.reachability.proofs.Ranks.{joined}
@@ -155,9 +155,6 @@ module _ (env : Environment) (bodies : List Term) (typed : AreTyped env bodies) 
       let step = one_call f c s is e (inr (edge e, joined (call_graph bodies) c g f p back)) in
       let rest = along c g step.0 step.1 p (joined (call_graph bodies) g f c back (edge e)) in
       (rest.0, rest.1, rest.2 ∙ step.2)
-
-same_signature : (s r : Signature) → Some s ≡ Some r → s ≡ r
-same_signature s r h = cc
 
 pub groups_have_one_result : GroupsHaveOneResult
 groups_have_one_result env bodies f g s r typed none (inl e) is there = ap (λ x. x.result_type) (same_signature s r (sym is ∙ ap (slice_get env.funs) e ∙ there))

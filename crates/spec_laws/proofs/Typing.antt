@@ -3,6 +3,7 @@ use Rattle.std.proofs.Common.{◌≡◌, ℕ, ◌<◌, true, nat_le, Option, Som
 use Rattle.std.specs.List.{list_all}
 use Rattle.std.proofs.lemmas.Bool.Decides.{nat_tests}
 use Rattle.std.proofs.lemmas.Option.{slice_get-map}
+use Rattle.std.proofs.lemmas.Bool.{and_from as and_both}
 use Rattle.tsl_parser.specs.Tree as e
 use Rattle.tsl_parser.specs.Tree.{Term as Expr, Terms as Exprs, Arms as ExprArms, Pattern}
 use Rattle.tsl_parser.specs.declared.tree.Name.{Name}
@@ -11,6 +12,7 @@ use Rattle.tsl_parser.specs.declared.tree.PreOp.{PreOp}
 use Rattle.tsl_parser.specs.declared.tree.Span.{Span}
 use Rattle.word_ops.specs.declared.kinds.Op1.{Op1}
 use Rattle.tsl_match.specs.Answers.{match_answer, decided}
+use Rattle.tsl_match.proofs.Truth.{and_left, and_right}
 use Rattle.spec_types.specs.declared.ty.Ty.{Ty}
 use Rattle.spec_types.specs.declared.ty.Ty.TheVariants.{Bool as Flag, Word, Data as DataTy, Map as MapOf}
 use Rattle.spec_types.specs.declared.declared.MapTy.{MapTy}
@@ -21,18 +23,21 @@ use Rattle.spec_types.specs.Environment.{Environment, Scope, Variable, Function,
 use Rattle.spec_types.specs.Terms as s
 use Rattle.spec_types.specs.TermTypes.{HasType, HaveTypes, ArmsHaveType, CastFits}
 use Rattle.spec_types.specs.WellFormed.{IsWellFormed, is_type, is_scope, is_width, is_signature}
+use Rattle.spec_types.proofs.Lists.{all_at}
+use Rattle.spec_types.proofs.Checks.{then_left, then_right, unless_none, width_is}
 use Rattle.spec_patterns.specs.Faults.{fits, unknown, count_fault, type_fault}
 use Rattle.spec_patterns.specs.Patterns.{pattern_fault, variables, fields_of, case_number}
-use Rattle.spec_patterns.proofs.Steps.{then_left, then_right, unless_none, same_types, width_is, fits_width, fits_below}
-use Rattle.spec_patterns.proofs.Variables.{and_left, and_right, and_both, all_append, variables_are_typed}
+use Rattle.spec_patterns.proofs.Steps.{same_types, fits_width, fits_below}
+use Rattle.spec_patterns.proofs.Variables.{all_append, variables_are_typed}
+use Rattle.spec_patterns.proofs.Suits.{lengths as counts}
 use Rattle.spec_forms.specs.Forms.{operator_term, operator_type, prefix_term, prefix_type, width_of}
 use Rattle.spec_forms.specs.Operators.{Operator, both, either, operation, comparison, operator_of, keyword_operator, cast_of, cast_fits}
 use Rattle.spec_typing.specs.Parts.{wanted, word_wanted, map_wanted, word_fault, map_fault, match_fault}
 use Rattle.spec_typing.specs.Terms.{fault_in, type_of, term_of, part, terms_of, arms_of, arms_type, arms_fault, argument_faults, terms_len, operands_fault, prefix_fault, get_fault, put_fault, cast_to_fault, params_of, number_of, datatype_of, place_of, map_of, type_or, enter}
 use Rattle.spec_laws.specs.Typed.{types, IsTyped}
 use Rattle.spec_laws.specs.Laws.{TermsAreTyped, WantedTypesAreHad}
-use Rattle.spec_laws.proofs.Named.{all_at, variable_there, function_there, constructor_fields, constructor_declared}
-use Rattle.spec_laws.proofs.Patterned.{counts, types_append, pattern_typed}
+use Rattle.spec_laws.proofs.Named.{variable_there, function_there, constructor_fields, constructor_declared}
+use Rattle.spec_laws.proofs.Patterned.{types_append, pattern_typed}
 
 pub clash : {A : Type 0} {x : SpecError} → Some x ≡ None → A
 clash h = absurd cc

@@ -12,13 +12,14 @@ use Rattle.spec_types.specs.declared.ty.Ty.TheVariants.{Bool as Flag, Word, Data
 use Rattle.spec_types.specs.declared.spec_error.SpecError.{SpecError}
 use Rattle.spec_types.specs.Answers.{◌then◌, unless, found}
 use Rattle.spec_types.specs.Environment.{Environment, Scope, Constructor, constructor_named, same_type, shape_of, shapes_of}
+use Rattle.spec_types.proofs.Checks.{then_left, then_right, unless_none}
 use Rattle.spec_patterns.specs.Faults.{fits, unknown, count_fault, literal_fault, type_fault}
 use Rattle.spec_patterns.specs.Patterns as s
 use Rattle.spec_patterns.specs.Patterns.{pattern_fault, part_faults, pattern_of, parts_of, patterns_len, variables, make_fault, case_number}
 use Rattle.spec_patterns.proofs.Found.{constructor_there}
-use Rattle.spec_patterns.proofs.Steps.{then_left, then_right, unless_none, same_types, fits_below}
+use Rattle.spec_patterns.proofs.Steps.{same_types, fits_below}
 
-lengths : (a b : ℕ) (e : SpecError) → unless (a == b) e ≡ None → a ≡ b
+pub lengths : (a b : ℕ) (e : SpecError) → unless (a == b) e ≡ None → a ≡ b
 lengths a b e h = let k = unless_none (a == b) e h in grind (arith, nat_tests)
 
 module _ (env : Environment) where

@@ -5,7 +5,6 @@ use Rattle.tsl_parser.specs.declared.tree.Span.{Span}
 use Rattle.tsl_parser.specs.Tree as e
 use Rattle.tsl_parser.specs.Tree.{Pattern, Patterns}
 use Rattle.tsl_match.specs.Patterns as m
-use Rattle.tsl_match.specs.Patterns.{Pat, Pats}
 use Rattle.spec_types.specs.declared.ty.Ty.{Ty}
 use Rattle.spec_types.specs.declared.ty.Ty.TheVariants.{Bool as Flag, Word, Data as DataTy}
 use Rattle.spec_types.specs.declared.spec_error.SpecError.{SpecError}
@@ -63,7 +62,7 @@ module _ (env : Environment) where
 
   abbrev mutual
     -- The typed pattern: a variable is its place in the scope, which the variables enter from left to right.
-    pub pattern_of : Scope → Ty → Pattern → Pat
+    pub pattern_of : Scope → Ty → Pattern → m.Pattern
     pattern_of scope ty (e.any span) = m.any
     pattern_of scope ty (e.bind name) = m.bind (length scope)
     pattern_of scope ty (e.Pattern.word v w span) = m.word_is v.v
@@ -71,6 +70,6 @@ module _ (env : Environment) where
     pattern_of scope ty (e.Pattern.make name parts span) =
         m.case_is (case_number (constructor_named env name.text)) (parts_of scope (fields_of (constructor_named env name.text)) parts)
 
-    pub parts_of : Scope → List Ty → Patterns → Pats
+    pub parts_of : Scope → List Ty → Patterns → m.Patterns
     parts_of scope (t ∷ ts) (e.Patterns.more p ps) = m.pat_then (pattern_of scope t p) (parts_of (scope ++ variables t p) ts ps)
     parts_of scope _ _ = m.no_pat

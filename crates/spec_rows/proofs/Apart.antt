@@ -1,6 +1,6 @@
 -- No word agrees with two rows.
-use Rattle.std.proofs.Common.{◌≡◌, ◌∙◌, ℕ, zero, suc, ◌+◌, ◌<◌, ◌≤◌, Bool, true, false, ◌&&◌, ◌==◌, Option, Some, None, List, [], ◌∷◌, ◌++◌, length, map, take, replicate, slice_get, refl, sym, ap, subst, arith, append_assoc, append-nil, if◌then◌else◌}
-use Rattle.std.proofs.lemmas.Bool.{eqb-true, false≢true}
+use Rattle.std.proofs.Common.{◌≡◌, ◌∙◌, ℕ, zero, suc, ◌+◌, ◌<◌, ◌≤◌, Bool, true, false, ◌==◌, Option, Some, None, List, [], ◌∷◌, ◌++◌, length, map, take, replicate, slice_get, refl, sym, ap, subst, arith, append_assoc, append-nil, if◌then◌else◌}
+use Rattle.std.proofs.lemmas.Bool.{eqb-true, false≢true, and_from as both_true}
 use Rattle.std.proofs.lemmas.List.{length-append, length-replicate}
 use Rattle.tsl_parser.specs.declared.tree.PartDecl.{PartDecl}
 use Rattle.tsl_parser.specs.declared.tree.PartDecl.TheVariants.{Fixed, Named}
@@ -10,10 +10,12 @@ use Rattle.spec_types.specs.declared.spec_error.SpecError.{SpecError}
 use Rattle.spec_types.specs.declared.spec_error.SpecError.TheVariants.{BadPattern}
 use Rattle.spec_types.specs.Answers.{◌then◌, unless}
 use Rattle.spec_types.specs.Environment.{Environment}
+use Rattle.spec_types.proofs.Checks.{then_left, then_right, unless_none}
 use Rattle.spec_rows.specs.Bits.{bits_of, part_bits, row_bits, bits_agree, all_agree}
 use Rattle.spec_rows.specs.Fits.{part_fits, part_width, parts_fit, widths_sum, row_fits}
 use Rattle.spec_rows.specs.Rows.{Earlier, earlier_of, decode_fault, overlap_fault, row_fault, rows_fault, rows_of}
 use Rattle.spec_rows.specs.Laws.{RowsAreApart}
+use Rattle.tsl_match.proofs.Truth.{and_left, and_right}
 
 -- ---- bits
 
@@ -31,18 +33,6 @@ row_count (p ∷ parts) =
     let a = part_count p in
     let b = row_count parts in
     length-append (part_bits p) (row_bits parts) ∙ omega (arith, a, b)
-
-pub and_left : (a b : Bool) → (a && b) ≡ true → a ≡ true
-and_left true b h = refl
-and_left false b h = absurd cc
-
-pub and_right : (a b : Bool) → (a && b) ≡ true → b ≡ true
-and_right true b h = h
-and_right false b h = absurd cc
-
-pub both_true : (a b : Bool) → a ≡ true → b ≡ true → (a && b) ≡ true
-both_true true b h k = k
-both_true false b h k = absurd cc
 
 -- two bits that agree with a fixed one agree
 through : (a b : Option Bool) (c : Bool) → bits_agree a (Some c) ≡ true → bits_agree b (Some c) ≡ true → bits_agree a b ≡ true
@@ -66,18 +56,6 @@ agree_through (x ∷ a) (y ∷ b) v (suc w) l h k =
     (agree_through a b v w (omega (arith, l)) (and_right (bits_agree x _) (all_agree a (bits_of v w)) h) (and_right (bits_agree y _) (all_agree b (bits_of v w)) k))
 
 -- ---- rows
-
-then_left : (a b : Option SpecError) → (a then b) ≡ None → a ≡ None
-then_left None b h = refl
-then_left (Some e) b h = absurd cc
-
-then_right : (a b : Option SpecError) → (a then b) ≡ None → b ≡ None
-then_right None b h = h
-then_right (Some e) b h = absurd cc
-
-unless_none : (b : Bool) (e : SpecError) → unless b e ≡ None → b ≡ true
-unless_none true e h = refl
-unless_none false e h = absurd cc
 
 apart_first : (t : Bool) (e : SpecError) (o : Option SpecError) → (if t then Some e else o) ≡ None → t ≡ false
 apart_first true e o h = absurd cc

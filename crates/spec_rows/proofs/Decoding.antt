@@ -1,7 +1,7 @@
 -- No word agrees with two of the rows that are answered.
 use Rattle.std.proofs.Common.{◌≡◌, ◌∙◌, ℕ, zero, suc, ◌+◌, ◌-◌, ◌*◌, ◌/◌, ◌%◌, ◌^◌, ◌<◌, ◌≤◌, Bool, true, false, ◌&&◌, ◌==◌, Option, Some, None, List, [], ◌∷◌, ◌++◌, length, map, slice_get, refl, sym, ap, subst, arith, pow_pos, zero-add}
 use Rattle.std.specs.Prelude.{replicate, option_map}
-use Rattle.std.proofs.lemmas.Bool.{eqb-true}
+use Rattle.std.proofs.lemmas.Bool.{eqb-true, and_from as both_true}
 use Rattle.std.proofs.Math.Nat.{div-div-eq-div-mul}
 use Rattle.std.proofs.Math.Pow.{mod-mod-pow}
 use Rattle.std.proofs.lemmas.Nat.{mod-pow-add, div-mul-add, mod_below, pow-add}
@@ -19,7 +19,8 @@ use Rattle.spec_rows.specs.Fits as fits
 use Rattle.spec_rows.specs.Decoded.{decoded, part_of}
 use Rattle.spec_rows.specs.Laws.{AgreesWith, DecodedRowsAreApart}
 use Rattle.spec_rows.specs.Rows.{decode_fault, rows_of}
-use Rattle.spec_rows.proofs.Apart.{and_left, and_right, both_true, bits_count, width_at, rows_are_apart}
+use Rattle.spec_rows.proofs.Apart.{bits_count, width_at, rows_are_apart}
+use Rattle.tsl_match.proofs.Truth.{and_left, and_right}
 
 -- ---- bits of numbers
 

@@ -1,45 +1,21 @@
--- Steps of loops, and numbers past 64 bits.
-use Rattle.std.proofs.Common.{◌≡◌, ◌≢◌, ℕ, suc, ◌+◌, ◌-◌, ◌<◌, ◌≤◌, ◌/◌, ◌^◌, Bool, true, false, ◌&&◌, nat_lt, List, [], ◌∷◌, length, drop, get_or, refl, arith, ap, add-one, zero, pow_mono, lt_of_lt_of_le, Option, Some}
-use Rattle.std.proofs.Math.Nat.{div-eq_of_lt}
-use Rattle.std.proofs.Math.Seq.{drop-cons}
-use Rattle.std.proofs.lemmas.Bool.Decides.{nat_tests}
+-- Two tests, one after the other, and bits.
+use Rattle.std.proofs.Common.{◌≡◌, ◌≢◌, ℕ, suc, ◌+◌, ◌-◌, ◌<◌, ◌≤◌, Bool, true, false, ◌&&◌, List, [], ◌∷◌, length, drop, get_or, refl, arith, ap, zero, Option, Some}
+use Rattle.std.proofs.lemmas.List.{drop_more as drop_from}
+use Rattle.std.proofs.lemmas.Bool.{and_right as and_false}
 use Rattle.spec_types.specs.declared.ty.Ty.{Ty}
 use Rattle.spec_types.specs.declared.spec_error.SpecError.{SpecError}
 use Rattle.spec_types.specs.Answers.{unless, ◌then◌}
+use Rattle.spec_types.proofs.Lists.{drop_past}
+use Rattle.spec_types.proofs.Checks.{fits_past, no_bit_past}
 use Rattle.tsl_parser.specs.declared.tree.ArgDecl.{ArgDecl}
 use Rattle.spec_rows.specs.Fields.{Field}
 use Rattle.spec_rows.specs.Fits.{arg_fits, args_fit}
 use Rattle.spec_rows.specs.Bits.{bit, bits_of, bits_agree, all_agree}
 
--- numbers of 64 bits and larger widths
-pub fits_past : (v w : ℕ) → v < 2 ^ 64 → 64 ≤ w → nat_lt v (2 ^ w) ≡ true
-fits_past v w below past =
-    let h : v < 2 ^ w = lt_of_lt_of_le below (pow_mono past) in
-    grind (arith, nat_tests)
-
-pub no_bit_past : (v n : ℕ) → v < 2 ^ 64 → 64 ≤ n → v / 2 ^ n ≡ 0
-no_bit_past v n below past = div-eq_of_lt (lt_of_lt_of_le below (pow_mono past))
-
-and_false : (a b : Bool) → b ≡ false → (a && b) ≡ false
-and_false true b h = h
-and_false false b h = refl
-
 -- two tests, one after the other
 pub unless_and : (a b : Bool) (e : SpecError) → unless (a && b) e ≡ (unless a e then unless b e)
 unless_and true b e = refl
 unless_and false b e = refl
-
-pub drop_from : {A : Type 0} (xs : List A) (i : ℕ) (d : A) → i < length xs → drop i xs ≡ get_or xs i d ∷ drop (i + 1) xs
-drop_from xs i d h = rw (add-one, drop-cons xs i d h) refl
-
-pub drop_here : {A : Type 0} (xs : List A) (i : ℕ) (x : A) → x ≡ get_or xs i x → i < length xs → drop i xs ≡ x ∷ drop (i + 1) xs
-drop_here xs i x e h = rw (add-one, drop-cons xs i x h, ← e) refl
-
-pub drop_past : {A : Type 0} (xs : List A) (i : ℕ) → length xs ≤ i → drop i xs ≡ []
-drop_past [] zero h = refl
-drop_past [] (suc i) h = refl
-drop_past (x ∷ xs) zero h = absurd (omega (arith, h))
-drop_past (x ∷ xs) (suc i) h = drop_past xs i (omega (arith, h))
 
 -- ---- bits
 

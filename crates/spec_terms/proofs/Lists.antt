@@ -1,17 +1,10 @@
 -- Lists of terms and arms.
-use Rattle.std.proofs.Common.{◌≡◌, ℕ, ◌+◌, ◌<◌, List, [], ◌∷◌, ◌++◌, length, drop, get_or, refl, ap, add-one, arith, Option, Some, None}
-use Rattle.std.proofs.Math.Seq.{drop-cons}
+use Rattle.std.proofs.Common.{◌≡◌, List, [], ◌∷◌, ◌++◌, length, refl, ap, arith, Option, Some, None}
 use Rattle.std.specs.List.{zip}
-use Rattle.tsl_match.specs.Patterns.{Pat}
+use Rattle.tsl_match.specs.Patterns.{Pattern}
 use Rattle.spec_types.specs.Environment.{or_else}
 use Rattle.spec_types.specs.Terms.{Term, Terms, Arms, terms_onto, term_then, arms_onto, arm_then}
 use Rattle.spec_types.specs.CoreTerms.{Core, Cores, cores_onto, core_then}
-
-pub drop_here : {A : Type 0} (xs : List A) (i : ℕ) (x : A) → x ≡ get_or xs i x → i < length xs → drop i xs ≡ x ∷ drop (i + 1) xs
-drop_here xs i x e h = rw (add-one, drop-cons xs i x h, ← e) refl
-
-pub drop_from : {A : Type 0} (xs : List A) (i : ℕ) (d : A) → i < length xs → drop i xs ≡ get_or xs i d ∷ drop (i + 1) xs
-drop_from xs i d h = rw (add-one, drop-cons xs i d h) refl
 
 pub terms_onto_more : (out : List Term) (t : Term) (rest : Terms) → terms_onto (out ++ t ∷ []) rest ≡ terms_onto out (term_then t rest)
 terms_onto_more [] t rest = refl
@@ -21,7 +14,7 @@ pub cores_onto_more : (out : List Core) (t : Core) (rest : Cores) → cores_onto
 cores_onto_more [] t rest = refl
 cores_onto_more (x ∷ out) t rest = ap (core_then x) (cores_onto_more out t rest)
 
-pub arms_onto_more : (out : List (Pat × Term)) (p : Pat) (t : Term) (rest : Arms) → arms_onto (out ++ (p, t) ∷ []) rest ≡ arms_onto out (arm_then p t rest)
+pub arms_onto_more : (out : List (Pattern × Term)) (p : Pattern) (t : Term) (rest : Arms) → arms_onto (out ++ (p, t) ∷ []) rest ≡ arms_onto out (arm_then p t rest)
 arms_onto_more [] p t rest = refl
 arms_onto_more (x ∷ out) p t rest = ap (arm_then x.0 x.1) (arms_onto_more out p t rest)
 

@@ -1,6 +1,5 @@
 -- A table into which a constructor enters.
-use Rattle.std.proofs.Math.Seq.{drop-cons}
-use Rattle.std.proofs.Common.{◌≡◌, ℕ, ◌+◌, ◌<◌, ◌∷◌, add-one, drop, get_or, length, Bool, true, false, List, Option, Some, None, option_map, refl, sym, ap, ◌∙◌, subst}
+use Rattle.std.proofs.Common.{◌≡◌, ℕ, Bool, true, false, List, Option, Some, None, option_map, refl, sym, ap, ◌∙◌, subst}
 use Rattle.std.specs.Prelude.{bytes_eq, if◌then◌else◌, is_some}
 use Rattle.std.specs.Map.{update}
 use Rattle.std.proofs.lemmas.Slice.Eq.{bytes_eq-Decides}
@@ -18,8 +17,11 @@ or_if None true x rest = refl
 or_if None false x rest = refl
 or_if (Some y) b x rest = refl
 
-same_name : (name other : List ℕ) → bytes_eq name other ≡ true → name ≡ other
+pub same_name : (name other : List ℕ) → bytes_eq name other ≡ true → name ≡ other
 same_name name other h = (bytes_eq-Decides name other).0 h
+
+pub name_itself : (name : List ℕ) → bytes_eq name name ≡ true
+name_itself name = (bytes_eq-Decides name name).1 refl
 
 abbrev at_name : Option Constructor → Option e.Constructor
 at_name o = option_map constructor_of o
@@ -39,6 +41,3 @@ entered_at o n false x h k = ap at_name k ∙ or_none (at_name o)
 
 pub entered : (g n : List ℕ → Option Constructor) (name other : List ℕ) (x : Constructor) → is_some (g name) ≡ false → n other ≡ update bytes_eq g name (Some x) other → at_name (n other) ≡ or_else (at_name (g other)) (if bytes_eq name other then Some (constructor_of x) else None)
 entered g n name other x h k = entered_at (g other) (n other) (bytes_eq name other) x (λ b. subst (λ m. is_some (g m) ≡ false) (same_name name other b) h) k
-
-pub drop_here : {A : Type 0} (xs : List A) (i : ℕ) (x : A) → x ≡ get_or xs i x → i < length xs → drop i xs ≡ x ∷ drop (i + 1) xs
-drop_here xs i x e h = rw (add-one, drop-cons xs i x h, ← e) refl

@@ -3,7 +3,7 @@ use Rattle.std.specs.Prelude.{ℕ, Bool, List, [], ◌∷◌}
 use Rattle.word_ops.specs.declared.kinds.Op1.{Op1}
 use Rattle.word_ops.specs.declared.kinds.Op2.{Op2}
 use Rattle.word_ops.specs.declared.kinds.Cmp.{Cmp}
-use Rattle.tsl_match.specs.Decisions.{Tree}
+use Rattle.tsl_match.specs.Decisions.{Decision}
 use Rattle.spec_types.specs.declared.term.CastKind.{CastKind}
 
 mutual
@@ -17,7 +17,7 @@ mutual
     cast : CastKind → ℕ → ℕ → Core → Core
     let_in : Core → Core → Core
     if_else : Core → Core → Core → Core
-    choose : Core → Tree → Cores → Core
+    choose : Core → Decision → Cores → Core
     make : ℕ → ℕ → Cores → Core
     call : ℕ → Cores → Core
     get : ℕ → Core → Core → Core

@@ -1,7 +1,7 @@
 -- The core term of a typed term.
 use Rattle.std.specs.Prelude.{ℕ, Option, Some, None, List, [], ◌∷◌, ◌++◌, slice_get, unwrap_or}
-use Rattle.tsl_match.specs.Patterns.{Pat, Pats, any, bind, flag_is, word_is, case_is, no_pat, pat_then}
-use Rattle.tsl_match.specs.Decisions.{Tree, row}
+use Rattle.tsl_match.specs.Patterns.{Pattern, Patterns, any, bind, flag_is, word_is, case_is, no_pat, pat_then}
+use Rattle.tsl_match.specs.Decisions.{Decision, row}
 use Rattle.spec_types.specs.declared.ty.Ty.{Ty}
 use Rattle.spec_types.specs.declared.ty.Ty.TheVariants.{Bool as Flag, Word, Data as DataTy, Map as MapOf}
 use Rattle.spec_types.specs.Environment.{Environment, Signature, shape_of, shapes_of, value_type}
@@ -13,7 +13,7 @@ use Rattle.spec_types.specs.CoreTerms.{Core, Cores}
 use Rattle.tsl_match.specs.Answers.{MatchAnswer, decision, not_exhaustive, useless, match_answer}
 
 -- the tree of a match without a fault
-abbrev pub tree_of : MatchAnswer → Tree
+abbrev pub tree_of : MatchAnswer → Decision
 tree_of (decision t) = t
 tree_of _ = row 0 []
 
@@ -24,12 +24,12 @@ result_of (Some s) = s.result_type
 module _ (env : Environment) where
   abbrev mutual
     -- the types of the variables of a pattern, where values have a type
-    pub variable_types : Ty → Pat → List Ty
+    pub variable_types : Ty → Pattern → List Ty
     variable_types ty (bind n) = ty ∷ []
     variable_types ty (case_is k ps) = all_variable_types (fields_at (case_at env ty k)) ps
     variable_types ty _ = []
 
-    pub all_variable_types : List Ty → Pats → List Ty
+    pub all_variable_types : List Ty → Patterns → List Ty
     all_variable_types (t ∷ ts) (pat_then p ps) = variable_types t p ++ all_variable_types ts ps
     all_variable_types _ _ = []
 

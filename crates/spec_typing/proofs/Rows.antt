@@ -7,7 +7,7 @@ use Rattle.tsl_parser.specs.Tree as e
 use Rattle.tsl_parser.specs.Tree.{Term as Expr, Arms as ExprArms}
 use Rattle.tsl_match.specs.declared.pattern.Pattern.{Pattern}
 use Rattle.tsl_match.specs.declared.shape.Shape.{Shape}
-use Rattle.tsl_match.specs.Patterns.{Pat}
+use Rattle.tsl_match.specs.Patterns as plain
 use Rattle.tsl_match.specs.Shapes.{Types, Suits, IsShape}
 use Rattle.tsl_match.specs.Views.{pat}
 use Rattle.spec_types.specs.declared.ty.Ty.{Ty}
@@ -15,8 +15,8 @@ use Rattle.spec_types.specs.declared.ty.Ty.TheVariants.{Bool as Flag, Word, Data
 use Rattle.spec_types.specs.Answers.{◌then◌}
 use Rattle.spec_types.specs.Environment.{Environment, Scope, or_else, shape_of, shapes_of}
 use Rattle.spec_types.specs.WellFormed.{is_type}
+use Rattle.spec_types.proofs.Checks.{then_left, then_right, width_is}
 use Rattle.spec_patterns.specs.Patterns.{pattern_fault, pattern_of, variables}
-use Rattle.spec_patterns.proofs.Steps.{then_left, then_right, width_is}
 use Rattle.spec_patterns.proofs.Suits.{suits}
 use Rattle.spec_typing.specs.Parts.{wanted_if}
 use Rattle.spec_typing.specs.Terms.{arms_fault, part, rows_of, type_of}
@@ -28,7 +28,7 @@ shape_fits env (DataTy t) h =
     grind (arith, nat_tests, length-map)
 shape_fits env (MapOf m) h = tt
 
-abbrev pub AllSuit : Types → Shape → List Pat → Type 0
+abbrev pub AllSuit : Types → Shape → List plain.Pattern → Type 0
 AllSuit types s [] = Unit {0}
 AllSuit types s (p ∷ ps) = Suits types s p × AllSuit types s ps
 

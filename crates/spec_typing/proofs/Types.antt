@@ -3,6 +3,7 @@ use Rattle.std.proofs.Common.{◌≡◌, ℕ, zero, suc, ◌+◌, ◌<◌, Bool,
 use Rattle.std.proofs.lemmas.Bool.Decides.{nat_tests}
 use Rattle.std.specs.List.{list_all}
 use Rattle.std.specs.Prelude.{if◌then◌else◌, bytes_eq, nat_lt, option_map}
+use Rattle.std.proofs.lemmas.Bool.{and_from as and_both}
 use Rattle.tsl_parser.specs.Tree as e
 use Rattle.tsl_parser.specs.Tree.{Term as Expr, Arms as ExprArms, Pattern}
 use Rattle.tsl_parser.specs.declared.tree.Name.{Name}
@@ -10,6 +11,7 @@ use Rattle.tsl_parser.specs.declared.tree.Num.{Num}
 use Rattle.tsl_parser.specs.declared.tree.PreOp.{PreOp}
 use Rattle.tsl_parser.specs.declared.tree.Span.{Span}
 use Rattle.tsl_match.specs.Answers.{match_answer, decided, decision}
+use Rattle.tsl_match.proofs.Truth.{and_left, and_right}
 use Rattle.spec_types.specs.declared.ty.Ty.{Ty}
 use Rattle.spec_types.specs.declared.ty.Ty.TheVariants.{Bool as Flag, Word, Data as DataTy, Map as MapOf}
 use Rattle.spec_types.specs.declared.declared.MapTy.{MapTy}
@@ -18,21 +20,17 @@ use Rattle.spec_types.specs.declared.term.CastKind.{CastKind}
 use Rattle.spec_types.specs.Answers.{◌then◌, unless, within, found}
 use Rattle.spec_types.specs.Environment.{Environment, Scope, Variable, Constructor, Function, Signature, Case, Data, field_types, case_from, constructor_from, constructor_named, function_from, function_named, variable_from, variable_named, or_else, value_of, value_type, shape_of, shapes_of}
 use Rattle.spec_types.specs.WellFormed.{IsWellFormed, is_scope, is_signature, is_type, is_width}
+use Rattle.spec_types.proofs.Checks.{then_left, then_right, unless_none}
 use Rattle.spec_patterns.specs.Faults.{fits, unknown, count_fault, literal_fault}
 use Rattle.spec_patterns.specs.Patterns.{variables, pattern_fault}
-use Rattle.spec_patterns.proofs.Steps.{then_left, then_right, unless_none, fits_width}
-use Rattle.spec_patterns.proofs.Variables.{and_left, and_right, and_both, all_append, variables_are_typed}
+use Rattle.spec_patterns.proofs.Steps.{fits_width}
+use Rattle.spec_patterns.proofs.Variables.{all_append, variables_are_typed}
 use Rattle.spec_forms.specs.Forms.{operator_type, prefix_type}
 use Rattle.spec_forms.specs.Operators.{Operator, both, either, operation, comparison, operator_of, keyword_operator, cast_of, cast_fits}
 use Rattle.spec_typing.specs.Parts.{Part, wanted, wanted_if, word_wanted, map_wanted, word_fault, cast_fault, match_fault}
 use Rattle.spec_typing.specs.Terms.{fault_in, type_of, arms_fault, arms_type, part, rows_of, enter, type_or, operand_fault, prefix_fault, cast_to_fault, map_of, callee_fault, maker_fault}
 
 -- ---- what is found by a name has a type of the environment
-
-at_all : {A : Type 0} (f : A → Bool) (xs : List A) (i : ℕ) (x : A) → list_all f xs ≡ true → slice_get xs i ≡ Some x → f x ≡ true
-at_all f [] i x h k = absurd cc
-at_all f (y ∷ xs) zero x h k = let same : y ≡ x = cc in subst (λ z. f z ≡ true) same (and_left (f y) (list_all f xs) h)
-at_all f (y ∷ xs) (suc i) x h k = at_all f xs i x (and_right (f y) (list_all f xs) h) k
 
 variable_fits : (env : Environment) (n : ℕ) (scope : Scope) (name : List ℕ) (x : Variable) → is_scope env scope ≡ true → variable_from n scope name ≡ Some x → is_type env x.ty ≡ true
 variable_fits env n [] name x h k = absurd cc

@@ -5,7 +5,7 @@ use Rattle.tsl_parser.specs.declared.tree.Span.{Span}
 use Rattle.tsl_parser.specs.declared.tree.Num.{Num}
 use Rattle.tsl_parser.specs.Tree.{Term as Expr}
 use Rattle.tsl_parser.specs.Nodes.{span_of}
-use Rattle.tsl_match.specs.Patterns.{Pat}
+use Rattle.tsl_match.specs.Patterns.{Pattern}
 use Rattle.spec_types.specs.declared.ty.Ty.{Ty}
 use Rattle.spec_types.specs.declared.ty.Ty.TheVariants.{Bool as Flag, Word, Data as DataTy, Map as MapOf}
 use Rattle.spec_types.specs.declared.spec_error.SpecError.{SpecError}
@@ -65,5 +65,5 @@ module _ (env : Environment) where
   answer_fault span ty (not_exhaustive p) = Some (NotExhaustive span (pattern_text env ty p))
   answer_fault span ty (useless r) = Some (Useless span r)
 
-  abbrev pub match_fault : Span → Ty → List Pat → Option SpecError
+  abbrev pub match_fault : Span → Ty → List Pattern → Option SpecError
   match_fault span ty rows = answer_fault span ty (match_answer (shapes_of env) (shape_of ty) rows)

@@ -6,7 +6,7 @@ use Rattle.tsl_parser.specs.Tree as e
 use Rattle.tsl_parser.specs.Tree.{Term as Expr, Terms as Exprs, Arms as ExprArms, Pattern}
 use Rattle.tsl_parser.specs.declared.tree.Name.{Name}
 use Rattle.tsl_parser.specs.declared.tree.Num.{Num}
-use Rattle.tsl_match.specs.Patterns.{Pat}
+use Rattle.tsl_match.specs.Patterns as plain
 use Rattle.spec_types.specs.declared.ty.Ty.{Ty}
 use Rattle.spec_types.specs.declared.ty.Ty.TheVariants.{Bool as Flag, Word, Data as DataTy, Map as MapOf}
 use Rattle.spec_types.specs.declared.spec_error.SpecError.{SpecError}
@@ -152,7 +152,7 @@ module _ (env : Environment) where
         then arms_fault scope ty (or_else want (type_of (scope ++ variables env ty p) body)) rest
 
     -- the typed patterns of arms
-    pub rows_of : Scope → Ty → ExprArms → List Pat
+    pub rows_of : Scope → Ty → ExprArms → List plain.Pattern
     rows_of scope ty e.no_arm = []
     rows_of scope ty (e.arm p body span rest) = pattern_of env scope ty p ∷ rows_of scope ty rest
 

@@ -2,8 +2,8 @@
 use Rattle.std.proofs.Common.{◌≡◌, ℕ, zero, suc, ◌+◌, ◌-◌, ◌<◌, ◌≤◌, ◌^◌, Bool, true, false, List, [], ◌∷◌, ◌++◌, length, map, drop, get_or, min, Option, Some, None, Result, Ok, Err, Vec, Global, refl, sym, ap, ◌∙◌, subst, arith, add-one, ltb, pow_mono, length-drop, append_assoc, take, cond}
 use Rattle.std.specs.Prelude.{◌==◌, IfOk, IsOkAnd}
 use Rattle.std.specs.List.{list_all}
-use Rattle.std.proofs.Math.Seq.{drop-cons, take-suc}
-use Rattle.std.proofs.lemmas.List.{map-append}
+use Rattle.std.proofs.Math.Seq.{take-suc}
+use Rattle.std.proofs.lemmas.List.{map-append, drop_more as drop_at, drop_all}
 use Rattle.std.proofs.lemmas.Option.{slice_get-get_or}
 use Rattle.std.proofs.lemmas.Bool.{ltb-false, ltb-true, ne_eqb}
 use Rattle.base_trait.specs.Algebra.{Algebra}
@@ -12,7 +12,6 @@ use Rattle.base_trait.proofs.Tests.{and_parts}
 use Rattle.spec_types.specs.declared.ty.Ty.{Ty}
 use Rattle.spec_types.specs.Environment.{Environment}
 use Rattle.map_laws.specs.Maps.{Map}
-use Rattle.map_laws.proofs.Joining.{drop_all}
 use Rattle.tsl_values.specs.declared.entry.Given.{Given}
 use Rattle.tsl_values.specs.declared.entry.KeyAt.{KeyAt}
 use Rattle.tsl_values.specs.declared.entry.KeyAt.TheVariants.{Whole, Rest, At}
@@ -28,10 +27,11 @@ use Rattle.cell_laws.specs.Lines.{IsField, OfField}
 use Rattle.cell_laws.proofs.Fields.{fields_told}
 use Rattle.cell_laws.proofs.Lines.{of_field}
 use Rattle.cell_laws.specs.Entry.{entry_value, entry_values, with_cell, with_cells}
-use Rattle.abs_value.proofs.Merging.{drop_here, map_push, parts_onto_more}
+use Rattle.abs_value.proofs.Merging.{map_push, parts_onto_more}
 use Rattle.abs_value.proofs.Views.{abs_Data}
 use Rattle.abs_value.specs.View.{abs, case_of}
 use Rattle.abs_value.specs.declared.value.AV.{AV, Data}
+use Rattle.tsl_match.proofs.Loops.{drop_here}
 
 pub small_power : (w : ℕ) → 2 ^ w ≤ 2 ^ 32 → w < 64
 small_power w h = sorted (ltb w 64) refl
@@ -80,8 +80,6 @@ module _ {X W N C : Type 0} where
   none_is (y ∷ []) x n is e = ap (λ t. behind_first (cases (case_of t ∷ []))) (sym e ∙ is)
 
 -- ---- one more step of a loop
-pub drop_at : {A : Type 0} (xs : List A) (i : ℕ) (d : A) → i < length xs → drop i xs ≡ get_or xs i d ∷ drop (i + 1) xs
-drop_at xs i d h = rw (add-one, drop-cons xs i d h) refl
 
 -- one more copy behind others, which may fail
 pub copy_pushed : {A D E : Type 0} (f : A → D) (start : List D) (item : Result A E) (out out' : List A) (xs : List A) (i : ℕ) (x : A) → x ≡ get_or xs i x → i < length xs → IsOkAnd item (λ z. out' ≡ out ++ z ∷ [])

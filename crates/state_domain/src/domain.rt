@@ -54,7 +54,7 @@ impl<B: Base> Domain for StateDomain<B> {
     ghost use Rattle.cell_laws.specs.Cells.{cells};
     ghost use Rattle.abs_value.specs.View.{abs};
     ghost use Rattle.state_domain.specs.Views.{context_of, states_of};
-    ghost use Rattle.state_domain.specs.Laws.{cells_keep_the_laws};
+    ghost use Rattle.state_domain.specs.Instance.{cells_keep_the_laws};
 
     type B = B;
 

@@ -13,11 +13,11 @@ ghost use Rattle.cell_laws.specs.Entry as cells;
 ghost use Rattle.cell_laws.specs.Lines.{IsField, KeyFits, OfField, OfKeys};
 ghost use Rattle.abs_value.specs.View.{abs};
 
-use crate::growth::pushed;
 use abs_map::{AMap, KeySet};
 use abs_value::AV;
 use base_trait::Base;
 use domain_laws::Field;
+use grown_lists::pushed;
 use map_laws::Cell;
 use std::alloc::{AllocError as NoMemory, Global};
 use tsl_values::{Given, KeyAt, Line};

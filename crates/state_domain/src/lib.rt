@@ -13,7 +13,6 @@
 mod domain;
 mod entry;
 mod fields;
-mod growth;
 mod states;
 mod values;
 

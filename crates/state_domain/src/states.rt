@@ -6,10 +6,10 @@ ghost use Rattle.value_laws.specs.Abs.{parts};
 ghost use Rattle.cell_laws.specs.Calls.{behind_first, fields_of, made_state};
 ghost use Rattle.abs_value.specs.View.{abs, case_of};
 
-use crate::growth::pushed;
 use crate::values::{copied_behind, copies};
 use abs_value::{AV, one_case};
 use base_trait::Base;
+use grown_lists::pushed;
 use std::alloc::{AllocError as NoMemory, Global};
 
 /// The value of a state with this counter and these values of its other fields.

@@ -7,9 +7,9 @@ ghost use Rattle.value_laws.specs.Fits.{PartsFit};
 ghost use Rattle.cell_laws.specs.Calls.{values_rank};
 ghost use Rattle.abs_value.specs.View.{abs};
 
-use crate::growth::pushed;
 use abs_value::AV;
 use base_trait::Base;
+use grown_lists::pushed;
 use std::alloc::{AllocError as NoMemory, Global};
 
 /// The same values once more.

@@ -1,6 +1,6 @@
 -- The printed cells of a state of the machine: they are read, in their order.
 use Rattle.std.proofs.Common.{◌≡◌, ◌+◌, ◌<◌, ◌≤◌, ◌^◌, ◌==◌, ◌&&◌, ℕ, suc, true, false, List, [], ◌∷◌, ◌++◌, length, map, Option, Some, None, refl, ◌∙◌, inl, inr, arith, nat_lt, nat_le, slice_get}
-use Rattle.std.proofs.lemmas.Bool.{and_parts, cases_Bool}
+use Rattle.std.proofs.lemmas.Bool.{and_parts, cases_Bool, ltb-true as below_is}
 use Rattle.std.proofs.lemmas.Bool.Decides.{nat_tests}
 use Rattle.std.specs.List.{list_all}
 use Rattle.spec_types.specs.declared.ty.Ty.{Ty}
@@ -26,9 +26,6 @@ width_parts : (w : ℕ) → is_width w ≡ true → (1 ≤ w) × (w ≤ 64)
 width_parts w h =
     let both = and_parts (nat_le 1 w) (nat_le w 64) h in
     (grind (arith, nat_tests, both.0), grind (arith, nat_tests, both.1))
-
-below_is : (v n : ℕ) → nat_lt v n ≡ true → v < n
-below_is v n h = grind (arith, nat_tests, h)
 
 -- ---- the maps
 

@@ -1,11 +1,10 @@
 -- The form that a line has is the one that is computed.
 use Rattle.std.proofs.Common.{◌≡◌, ◌+◌, ◌≤◌, ◌==◌, ◌&&◌, ℕ, suc, Bool, true, false, not, List, [], ◌∷◌, ◌++◌, length, take, drop, replicate, Option, Some, None, Ok, cond, ◌*◌, refl, sym, ap, ◌∙◌, inl, inr, arith, nat_lt, nat_le, bytes_eq, codes, append_assoc, length-append}
 use Rattle.std.proofs.Math.Seq.{take-append_seam, drop-append_seam}
-use Rattle.std.proofs.lemmas.Bool.{and_parts, cases_Bool}
+use Rattle.std.proofs.lemmas.Bool.{and_parts, cases_Bool, not-true as not_true}
 use Rattle.std.proofs.lemmas.Bool.Decides.{nat_tests}
 use Rattle.std.proofs.lemmas.List.Elements.{All-head}
 use Rattle.std.proofs.lemmas.Option.{none-some}
-use Rattle.std.proofs.lemmas.Slice.Eq.{bytes_eq-Decides}
 use Rattle.std.specs.Char.{digit_value}
 use Rattle.std.specs.List.{prefix_len, list_all}
 use Rattle.hex.specs.Hex.{decode_of, is_hex_digit}
@@ -16,10 +15,7 @@ use Rattle.cell_text.specs.Digits.{hex_from, hex_number}
 use Rattle.state_text.specs.Forms.{Form, single, run, Part, whole, rest, at, from, HasForm, IsOnePart, IsRun, IsValue, begins_name, is_key, is_mark, is_name, is_word_byte, part_text}
 use Rattle.state_text.specs.Parsing.{after_cell, closed, cut, cut_at, form, formed, is_no_dot, is_space, range, run_of as bytes_of, value_of}
 use Rattle.state_text.proofs.Bytes.{apart, begins_more, behind_spaces, run_of, spaces_of}
-
-pub not_true : (b : Bool) → not b ≡ true → b ≡ false
-not_true true h = sym h
-not_true false h = refl
+use Rattle.spec_types.proofs.Entered.{same_name as same_text}
 
 -- ---- the cell
 
@@ -107,9 +103,6 @@ hex_no_space most (b ∷ bytes) v more h = no_space b (bytes ++ more) (apart (λ
 number_no_space : (most : ℕ) (text : List ℕ) (v : ℕ) → hex_number most text ≡ Some v → prefix_len is_space text ≡ 0
 number_no_space most [] v h = refl
 number_no_space most (b ∷ bytes) v h = no_space b bytes (apart (λ c. nat_lt (digit_value c) 16) b 32 (hex_first most b bytes v h) refl)
-
-pub same_text : (a b : List ℕ) → bytes_eq a b ≡ true → a ≡ b
-same_text a b h = (bytes_eq-Decides a b).0 h
 
 not_any : (text : List ℕ) (v : ℕ) → hex_number 16 text ≡ Some v → bytes_eq text (codes "any") ≡ false
 not_any text v h = elim (cases_Bool (bytes_eq text (codes "any"))) [

@@ -1,6 +1,6 @@
 -- The one state of an entry is a state that the entry describes.
 use Rattle.std.proofs.Common.{◌≡◌, if◌then◌else◌, ◌+◌, ◌<◌, ◌≤◌, ◌^◌, ◌==◌, ◌&&◌, ℕ, zero, suc, Bool, true, false, List, [], ◌∷◌, ◌++◌, length, map, Option, Some, None, Result, Ok, Err, is_some, refl, sym, subst, ap, ◌∙◌, inl, inr, arith, nat_lt, nat_le, slice_get}
-use Rattle.std.proofs.lemmas.Bool.{and_parts, cases_Bool}
+use Rattle.std.proofs.lemmas.Bool.{and_parts, cases_Bool, eqb-true as same_number}
 use Rattle.std.proofs.lemmas.Bool.Decides.{nat_tests}
 use Rattle.std.proofs.lemmas.Nat.{pow_pos}
 use Rattle.std.proofs.lemmas.Option.{none-some, same_Some}
@@ -67,10 +67,7 @@ abbrev AllKeys : ℕ → ℕ → List Line → Type 0
 AllKeys i keys [] = Unit {0}
 AllKeys i keys (l ∷ ls) = (l.field ≡ i → KeyBelow keys l.key) × AllKeys i keys ls
 
-same_number : (a b : ℕ) → (a == b) ≡ true → a ≡ b
-same_number a b h = grind (arith, nat_tests, h)
-
-key_same : (j k : KeyAt) → is_key j k ≡ true → j ≡ k
+pub key_same : (j k : KeyAt) → is_key j k ≡ true → j ≡ k
 key_same Whole Whole h = refl
 key_same Whole Rest h = absurd (let bad : false ≡ true = h in cc)
 key_same Whole (At k) h = absurd (let bad : false ≡ true = h in cc)

@@ -1,9 +1,10 @@
 -- The first of the lines.
-use Rattle.std.proofs.Common.{◌≡◌, ◌≢◌, subst, ◌+◌, ◌-◌, ◌<◌, ◌≤◌, ◌&&◌, ◌==◌, ℕ, zero, suc, Bool, true, false, List, [], ◌∷◌, length, take, drop, get_or, refl, sym, ap, ◌∙◌, inl, inr, arith}
+use Rattle.std.proofs.Common.{◌≡◌, ◌≢◌, subst, ◌+◌, ◌-◌, ◌<◌, ◌≤◌, ◌&&◌, ◌==◌, ℕ, zero, suc, true, false, List, [], ◌∷◌, length, take, drop, get_or, refl, sym, ap, ◌∙◌, inl, inr, arith}
 use Rattle.std.proofs.lemmas.Bool.{cases_Bool}
 use Rattle.std.proofs.lemmas.Bool.Decides.{nat_tests}
 use Rattle.std.specs.List.{prefix_len}
 use Rattle.std.proofs.lemmas.List.{take_all, length-drop}
+use Rattle.std.proofs.Math.Bool.{and-false as and_false}
 use Rattle.state_text.specs.Lines.{lines, is_inside, at_end, onto, without_cr}
 
 -- a byte in front of a line that the next byte goes on
@@ -54,10 +55,6 @@ no_end (b ∷ bytes) h = elim (cases_Bool (b == 10)) [
   | inl e ↦ absurd (let k = rw e at h in omega (arith, k))
   | inr e ↦ e
 ]
-
-pub and_false : (t : Bool) → (t && false) ≡ false
-and_false true = refl
-and_false false = refl
 
 no_cr_end : (b : ℕ) (bytes : List ℕ) → at_end bytes ≡ false → (b == 13 && at_end bytes) ≡ false
 no_cr_end b bytes g = rw g (and_false (b == 13))

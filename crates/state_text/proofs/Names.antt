@@ -1,7 +1,7 @@
 -- Fields and keys are found by what is written of them.
-use Rattle.std.proofs.Common.{◌≡◌, ◌+◌, ◌<◌, ◌≤◌, ◌^◌, ◌==◌, ℕ, zero, suc, true, false, not, List, [], ◌∷◌, length, map, Option, Some, refl, ap, ◌∙◌, inl, inr, arith, nat_lt, nat_le, bytes_eq, slice_get}
+use Rattle.std.proofs.Common.{◌≡◌, ◌+◌, ◌<◌, ◌≤◌, ◌^◌, ℕ, zero, suc, true, false, not, List, [], ◌∷◌, length, map, Option, Some, refl, ap, ◌∙◌, inl, inr, arith, nat_lt, nat_le, bytes_eq, slice_get}
 use Rattle.std.proofs.Math.Nat.{pow-le-pow_right}
-use Rattle.std.proofs.lemmas.Bool.{and_parts, cases_Bool, or_parts}
+use Rattle.std.proofs.lemmas.Bool.{and_parts, cases_Bool, or_parts, not-true as not_true}
 use Rattle.std.proofs.lemmas.Bool.Decides.{nat_tests}
 use Rattle.std.specs.List.{list_all, list_any}
 use Rattle.spec_types.specs.declared.ty.Ty.{Ty}
@@ -9,6 +9,7 @@ use Rattle.spec_types.specs.declared.ty.Ty.TheVariants.{Bool as Flag, Word, Data
 use Rattle.spec_types.specs.Environment.{Case}
 use Rattle.spec_types.specs.Specification.{Spec}
 use Rattle.spec_types.specs.Texts.{cases_of, case_text}
+use Rattle.spec_types.proofs.Entered.{name_itself as itself}
 use Rattle.tsl_values.specs.Types.{environment_of, key_count}
 use Rattle.cell_text.specs.declared.places.Place.{Place}
 use Rattle.cell_text.specs.Digits.{digits_of}
@@ -16,12 +17,8 @@ use Rattle.cell_text.specs.Keys.{case_number, key_number, key_text}
 use Rattle.cell_text.specs.Places.{Field, place_at, place_from}
 use Rattle.state_text.specs.Forms.{is_key, is_name}
 use Rattle.state_text.specs.Laws.{IsKeyType, all_differ}
-use Rattle.state_text.proofs.Computed.{name_parts, not_true}
+use Rattle.state_text.proofs.Computed.{name_parts}
 use Rattle.state_text.proofs.Numbers.{decimal_key, hex_key, number_read}
-
-itself : (name : List ℕ) → bytes_eq name name ≡ true
-itself [] = refl
-itself (b ∷ name) = let e : (b == b) ≡ true = grind (arith, nat_tests) in rw (e, itself name) refl
 
 -- what the names of a list show: the first is no other's
 differ_parts : (name : List ℕ) (names : List (List ℕ)) → all_differ (name ∷ names) ≡ true → (list_any (bytes_eq name) names ≡ false) × (all_differ names ≡ true)

@@ -1,7 +1,8 @@
 -- The cells that the text of a state gives, and what is read of them.
-use Rattle.std.proofs.Common.{◌≡◌, if◌then◌else◌, ◌⊎◌, ◌+◌, ◌<◌, ◌≤◌, ◌^◌, ◌==◌, ◌&&◌, ℕ, suc, Bool, true, false, List, [], ◌∷◌, ◌++◌, Option, Some, None, refl, sym, ap, ◌∙◌, inl, inr, arith, slice_get, append_assoc, append-nil}
+use Rattle.std.proofs.Common.{◌≡◌, if◌then◌else◌, ◌⊎◌, ◌+◌, ◌<◌, ◌≤◌, ◌^◌, ◌==◌, ◌&&◌, ℕ, suc, true, false, List, [], ◌∷◌, ◌++◌, Option, Some, None, refl, sym, ap, ◌∙◌, inl, inr, arith, slice_get, append_assoc, append-nil}
 use Rattle.std.proofs.lemmas.Bool.{cases_Bool}
 use Rattle.std.proofs.lemmas.Bool.Decides.{nat_tests}
+use Rattle.std.proofs.Math.Bool.{and-false as and_false}
 use Rattle.spec_types.specs.declared.ty.Ty.{Ty}
 use Rattle.spec_types.specs.declared.ty.Ty.TheVariants.{Bool as Flag, Word, Data as DataTy, Map as MapOf}
 use Rattle.spec_types.specs.declared.declared.MapTy.{MapTy}
@@ -217,10 +218,6 @@ other_rank Rest (At k) h = refl
 other_rank (At k) Whole h = refl
 other_rank (At k) Rest h = refl
 other_rank (At k) (At j) h = grind (arith, nat_tests, h)
-
-and_false : (t : Bool) → (t && false) ≡ false
-and_false true = refl
-and_false false = refl
 
 other_cell : (g h : ℕ) (key j : KeyAt) → IsFrom g (suc (rank key)) h j → (g == h && same_key key j) ≡ false
 other_cell g h key j (inl a) = let e : (g == h) ≡ false = grind (arith, nat_tests, a) in rw e refl

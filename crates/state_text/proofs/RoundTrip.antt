@@ -1,6 +1,6 @@
 -- The text of a state is an entry of which that state is the one state.
-use Rattle.std.proofs.Common.{◌≡◌, ◌+◌, ◌%◌, ◌<◌, ◌≤◌, ◌^◌, ◌==◌, ◌&&◌, ℕ, Bool, true, false, not, List, [], ◌∷◌, ◌++◌, length, map, Some, Ok, refl, sym, subst, ap, ◌∙◌, arith, nat_lt, append_assoc, append-nil, codes}
-use Rattle.std.proofs.lemmas.Bool.{and_parts}
+use Rattle.std.proofs.Common.{◌≡◌, ◌+◌, ◌%◌, ◌<◌, ◌≤◌, ◌^◌, ◌==◌, ◌&&◌, ℕ, Bool, true, not, List, [], ◌∷◌, ◌++◌, length, map, Some, Ok, refl, sym, subst, ap, ◌∙◌, arith, nat_lt, append_assoc, append-nil, codes}
+use Rattle.std.proofs.lemmas.Bool.{and_parts, not-true as not_true}
 use Rattle.std.proofs.lemmas.Bool.Decides.{nat_tests}
 use Rattle.std.proofs.lemmas.Fmt.{decimal_by_steps}
 use Rattle.std.specs.Fmt.{decimal}
@@ -72,10 +72,6 @@ from_line spec s n has is = read_state spec s n (state_fields spec) refl has.som
 
 is_plain_byte : ℕ → Bool
 is_plain_byte b = not (b == 10) && not (b == 13)
-
-not_true : (b : Bool) → not b ≡ true → b ≡ false
-not_true true h = sym h
-not_true false h = refl
 
 plain_text : (xs : List ℕ) → list_all (λ b. not (b == 10) && not (b == 13)) xs ≡ true → AllPlain xs
 plain_text [] h = tt

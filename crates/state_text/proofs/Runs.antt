@@ -6,6 +6,7 @@ use Rattle.std.proofs.lemmas.Bool.Decides.{nat_tests}
 use Rattle.std.specs.Ordering.{is_eq}
 use Rattle.std.specs.BTreeMap.{is_at}
 use Rattle.std.specs.BTreeSet.{BTreeSet, contains}
+use Rattle.std.proofs.Math.Bool.{and-false as and_false}
 use Rattle.tsl_values.specs.declared.entry.KeyAt.{KeyAt}
 use Rattle.tsl_values.specs.declared.entry.KeyAt.TheVariants.{At}
 use Rattle.tsl_values.specs.declared.entry.Line.{Line}
@@ -47,10 +48,6 @@ pub indexed_at : (old new : BTreeSet (ℕ × ℕ)) (ls : List Line) (l : Line) (
     → (f j : ℕ) → contains pair_cmp new (f, j) ≡ is_given (ls ++ l ∷ []) f (At j)
 indexed_at old new ls l k is updates indexed f j =
     rw (updates (f, j), indexed f j, given_more ls l f (At j), is, is_at_pair l.field k f j) (or_swap (l.field == f && k == j) (is_given ls f (At j)))
-
-and_false : (t : Bool) → (t && false) ≡ false
-and_false true = refl
-and_false false = refl
 
 -- a line of no key
 pub indexed_other : (keys : BTreeSet (ℕ × ℕ)) (ls : List Line) (l : Line) → ((j : ℕ) → is_key l.key (At j) ≡ false)

@@ -1,6 +1,6 @@
 -- The one state of the lines that the text of a state gives.
 use Rattle.std.proofs.Common.{◌≡◌, if◌then◌else◌, ◌+◌, ◌<◌, ◌≤◌, ◌^◌, ◌==◌, ℕ, suc, true, false, List, [], ◌∷◌, ◌++◌, length, map, Option, Some, None, refl, sym, subst, ap, ◌∙◌, inl, inr, arith, nat_lt, nat_le, slice_get, append_assoc}
-use Rattle.std.proofs.lemmas.Bool.{and_parts, cases_Bool}
+use Rattle.std.proofs.lemmas.Bool.{and_parts, cases_Bool, eqb-true as is_number}
 use Rattle.std.proofs.lemmas.Bool.Decides.{nat_tests}
 use Rattle.spec_types.specs.declared.ty.Ty.{Ty}
 use Rattle.spec_types.specs.declared.ty.Ty.TheVariants.{Bool as Flag, Word, Data as DataTy, Map as MapOf}
@@ -20,12 +20,7 @@ use Rattle.state_text.specs.Laws.{AreCellTypes, IsCellType, SameValue, SameValue
 use Rattle.state_text.specs.OneState.{first_open}
 use Rattle.state_text.proofs.Cells.{map_parts}
 use Rattle.state_text.proofs.Printed.{Printed, lines_from, printed, printed_as, printed_listed, printed_map, printed_rest}
-
-same_number : (i : ℕ) → (i == i) ≡ true
-same_number i = grind (arith, nat_tests)
-
-is_number : (a b : ℕ) → (a == b) ≡ true → a ≡ b
-is_number a b h = grind (arith, nat_tests, h)
+use Rattle.tsl_match.proofs.Truth.{equal_itself as same_number}
 
 -- ---- lines of other fields
 

@@ -1,6 +1,6 @@
 -- The form that is computed of a line is one that it has.
 use Rattle.std.proofs.Common.{◌≡◌, ◌+◌, ◌-◌, ◌<◌, ◌≤◌, ◌==◌, ◌&&◌, ◌||◌, ℕ, zero, suc, Bool, true, false, List, [], ◌∷◌, ◌++◌, length, take, drop, replicate, Option, Some, None, Result, Ok, Err, option_map, refl, sym, subst, ap, ◌∙◌, inl, inr, arith, nat_lt, nat_le, bytes_eq, codes, append_assoc}
-use Rattle.std.proofs.lemmas.Bool.{and_parts, cases_Bool}
+use Rattle.std.proofs.lemmas.Bool.{and_parts, cases_Bool, eqb-true as same_byte}
 use Rattle.std.proofs.lemmas.Bool.Decides.{nat_tests}
 use Rattle.std.proofs.lemmas.List.{take-append-drop}
 use Rattle.std.proofs.lemmas.Option.{none-some, same_Some}
@@ -13,10 +13,8 @@ use Rattle.tsl_values.specs.declared.entry.Given.TheVariants.{One, Any, Range}
 use Rattle.cell_text.specs.Digits.{hex_number}
 use Rattle.state_text.specs.Forms.{Form, single, run, Part, whole, rest, at, from, HasForm, IsOnePart, IsRun, IsValue, begins_name, is_mark, is_name, is_word_byte, part_text}
 use Rattle.state_text.specs.Parsing.{Cut, after_cell, begins_dots, behind_dot, behind_key, behind_star, closed, counted, cut, form, formed, is_no_dot, is_space, keyed, one_or, range, range_of, run_of, value_of}
-use Rattle.state_text.proofs.Computed.{IsPart, same_text}
-
-same_byte : (b n : ℕ) → (b == n) ≡ true → b ≡ n
-same_byte b n h = grind (arith, nat_tests, h)
+use Rattle.state_text.proofs.Computed.{IsPart}
+use Rattle.spec_types.proofs.Entered.{same_name as same_text}
 
 take_passes : (test : ℕ → Bool) (xs : List ℕ) → list_all test (take (prefix_len test xs) xs) ≡ true
 take_passes test [] = refl

@@ -1,5 +1,5 @@
 -- The fields of the states of a machine.
-use Rattle.std.proofs.Common.{◌≡◌, Option, Some, List, [], ◌∷◌, map, slice_get, sym, ◌∙◌, ap, subst}
+use Rattle.std.proofs.Common.{◌≡◌, Option, Some, List, ◌∷◌, slice_get, sym, ◌∙◌, ap, subst}
 use Rattle.spec_types.specs.declared.ty.Ty.{Ty}
 use Rattle.spec_types.specs.declared.ty.Ty.TheVariants.{Word, Data as DataTy}
 use Rattle.spec_types.specs.declared.spec.Machine.{Machine}
@@ -10,10 +10,7 @@ use Rattle.tsl_values.specs.Types.{environment_of}
 use Rattle.meaning_laws.specs.Accepted.{IsAccepted, IsMachine, IsMachineIfAny}
 use Rattle.cell_text.specs.Places.{Field, fields_in, fields_of, state_fields}
 use Rattle.state_text.specs.OneState.{types_behind}
-
-behind_are : (fields : List Field) (ty : Ty) (parts : List Ty) → map (λ f. f.1) fields ≡ ty ∷ parts → types_behind fields ≡ parts
-behind_are [] ty parts is = absurd (cc)
-behind_are (f ∷ fields) ty parts is = cc
+use Rattle.entry_laws.proofs.Accepted.{behind as behind_are}
 
 module _ (spec : Spec) (m : Machine) (ok : IsAccepted spec) (e : spec.machine ≡ Some m) where
   is : IsMachine spec m

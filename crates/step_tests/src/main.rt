@@ -1,4 +1,4 @@
-//! Runs the cases of the files that its words name, each one step of an instruction set that the product brings.
+//! Runs the cases of the files that its words name, each one step of an instruction set that is shipped.
 //!
 //! A file has the name of an instruction set, `ppc.txt` or `rv.txt`. Its cases stand one after another, an empty line
 //! between; lines that begin with `#` are passed over:

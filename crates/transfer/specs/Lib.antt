@@ -1,4 +1,4 @@
 pub mod Analysis
 pub mod Counters
-pub mod Laws
+pub mod Instance
 pub mod Outcomes

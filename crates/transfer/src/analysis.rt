@@ -35,7 +35,7 @@ impl<'a, D: Domain> Analyser for ImageAnalysis<'a, D> {
     ghost use Rattle.transfer_laws.specs.Analysis.{analysis_of, machine_of};
     ghost use Rattle.transfer.specs.Analysis as of;
     ghost use Rattle.transfer.specs.Analysis.{calls_of, problem};
-    ghost use Rattle.transfer.specs.Laws.{keeps_the_laws};
+    ghost use Rattle.transfer.specs.Instance.{keeps_the_laws};
 
     type Elem = D::Elem;
 
@@ -105,7 +105,7 @@ impl<'a, D: Domain> Analyser for ImageAnalysis<'a, D> {
 
 impl<'a, D: Domain> Described for ImageAnalysis<'a, D> {
     ghost use Rattle.transfer.specs.Analysis.{problem};
-    ghost use Rattle.transfer.specs.Laws.{is_sound};
+    ghost use Rattle.transfer.specs.Instance.{is_sound};
 
     ghost sound = { λ it ready. is_sound D.B.algebra D.B.laws D.B.CAP (D.elements it.domain.now) (D.meaning it.domain.now) (D.is_for it.domain.now) it (D.laws it.domain.now (problem it).spec ready.made) ready };
 }

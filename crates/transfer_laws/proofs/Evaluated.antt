@@ -1,7 +1,7 @@
 -- What an evaluation of an instruction on an element that fits gives.
-use Rattle.std.proofs.Common.{◌≡◌, ℕ, zero, suc, ◌<◌, ◌≤◌, ◌^◌, Bool, true, false, List, [], ◌∷◌, length, Option, Some, None, option_map, map as map_of, slice_get, refl, sym, subst, inl, inr}
+use Rattle.std.proofs.Common.{◌≡◌, ℕ, zero, suc, ◌<◌, ◌≤◌, ◌^◌, true, false, List, [], ◌∷◌, length, Option, Some, None, option_map, map as map_of, refl, sym, subst, inl, inr}
 use Rattle.std.specs.Prelude.{nat_le}
-use Rattle.std.specs.List.{list_all}
+use Rattle.std.proofs.lemmas.Bool.{lt-ltb as less_is, le-leb as at_most_is}
 use Rattle.tsl_match.proofs.Truth.{both}
 use Rattle.base_trait.specs.Algebra.{Algebra}
 use Rattle.base_trait.specs.Laws.{Laws}
@@ -13,6 +13,7 @@ use Rattle.spec_types.specs.declared.row.Arg.{Arg}
 use Rattle.spec_types.specs.declared.ty.Ty.TheVariants.{Data as DataTy}
 use Rattle.spec_types.specs.Environment.{Environment, key_of}
 use Rattle.spec_types.specs.Specification.{Row}
+use Rattle.spec_types.proofs.Lists.{all_from}
 use Rattle.tsl_values.specs.States.{State}
 use Rattle.tsl_values.specs.Types as concrete
 use Rattle.tsl_values.specs.Types.{environment_of, key_count}
@@ -20,7 +21,6 @@ use Rattle.tsl_values.specs.Values.{Val, vals}
 use Rattle.meaning.specs.Decode.{argument_of, decoded, fields_in, instruction_of, row_met}
 use Rattle.meaning_laws.specs.Accepted.{IsMachine, IsMachineIfAny}
 use Rattle.meaning_laws.proofs.Kept.{instructions_have_their_type}
-use Rattle.meaning_laws.proofs.Values.{at_most_is, less_is}
 use Rattle.value_laws.specs.Abs.{Abs, Parts, no_case, parts}
 use Rattle.value_laws.specs.Shapes.{CasesList, ListsStamps, PartsList}
 use Rattle.value_types.specs.Keys.{KeysFit}
@@ -53,10 +53,6 @@ use Rattle.transfer_laws.proofs.KeysKept.{keeps_keys}
 use Rattle.transfer_laws.proofs.LoggedCalls.{call_logged, reads_listed, reads_none}
 use Rattle.transfer_laws.proofs.Logs.{IsLogged}
 use Rattle.transfer_laws.proofs.States.{form_from, form_keys, form_typed}
-
-all_from : {A : Type 0} (f : A → Bool) (xs : List A) → ((k : ℕ) (x : A) → slice_get xs k ≡ Some x → f x ≡ true) → list_all f xs ≡ true
-all_from f [] h = refl
-all_from f (x ∷ xs) h = both (f x) (list_all f xs) (h 0 x refl) (all_from f xs (λ k y e. h (suc k) y e))
 
 -- ---- an instruction lists no stamps: its fields are words
 module _ {W N C : Type 0} (B : Algebra W N C) (c : C) (cap : ℕ) (env : Environment) (stamps : List Stamped) where

@@ -5,7 +5,7 @@ use Rattle.base_trait.specs.Lists.{Each}
 use Rattle.base_trait.specs.Uses.{Seen}
 use Rattle.base_trait.specs.declared.tri.Tri.{Tri}
 use Rattle.tsl_match.specs.Values.{Place}
-use Rattle.tsl_match.specs.Decisions.{Tree, Trees, row, on_case, on_word, on_flag, no_tree, tree_then}
+use Rattle.tsl_match.specs.Decisions.{Decision, Decisions, row, on_case, on_word, on_flag, no_tree, tree_then}
 use Rattle.spec_types.specs.declared.ty.Ty.{Ty}
 use Rattle.spec_types.specs.Environment.{Case, Environment}
 use Rattle.spec_types.specs.Texts.{cases_of}
@@ -73,13 +73,13 @@ module _ (U : Seen → Type 0) where
 module _ (U : Seen → Type 0) {A : Type 0} (j : A → A → A) {W N C : Type 0} (B : Algebra W N C) (c : C) (env : Environment) (arm : ℕ → List (Abs W N) → Evaluation A) (x : Abs W N) (ty : Ty)
     (Row : ℕ → List (ℕ × Place) → Type 0) (row_logged : (r : ℕ) (binds : List (ℕ × Place)) → Row r binds → Logging U (arm_on (arm r) (abs_named x binds))) where
   mutual
-    pub decided_logged : (t : Tree) → Decides env Row ty t → Logging U (decided B c j arm x t)
+    pub decided_logged : (t : Decision) → Decides env Row ty t → Logging U (decided B c j arm x t)
     decided_logged (row r binds) h l k = row_logged r binds h l k
     decided_logged (on_case at arms) h l k = joined_logged U j _ (arms_logged arms (cases_of (slice_get env.datas h.0)) (cases_there (abs_at at x)) h.2) l k
     decided_logged (on_word at n a b) h l k = branch_logged U j (word_there B c (abs_at at x) n) _ _ (decided_logged a h.3) (decided_logged b h.4) l k
     decided_logged (on_flag at a b) h l k = branch_logged U j (flag_there (abs_at at x)) _ _ (decided_logged a h.1) (decided_logged b h.2) l k
 
-    arms_logged : (ts : Trees) (ds : List Case) (cs : Cases W N) → AllDecide env Row ty ts ds → AllLogging U (arms_present B c j arm x ts cs)
+    arms_logged : (ts : Decisions) (ds : List Case) (cs : Cases W N) → AllDecide env Row ty ts ds → AllLogging U (arms_present B c j arm x ts cs)
     arms_logged no_tree ds cs h = tt
     arms_logged (tree_then t ts) [] cs h = absurd h
     arms_logged (tree_then t ts) (d ∷ ds) no_case h = tt

@@ -1,7 +1,7 @@
 -- States as values, and the counter of a value that describes one.
 use Rattle.std.proofs.Common.{◌≡◌, ℕ, zero, suc, true, false, List, [], ◌∷◌, Some, slice_get, refl, sym, ap, subst, ◌∙◌}
 use Rattle.std.specs.Prelude.{◌==◌, ◌^◌, nat_lt}
-use Rattle.std.proofs.lemmas.Bool.{false≢true}
+use Rattle.std.proofs.lemmas.Bool.{false≢true, eqb-true as same_number}
 use Rattle.tsl_match.proofs.Truth.{and_left, and_right}
 use Rattle.base_trait.specs.Algebra.{Algebra}
 use Rattle.base_trait.specs.Uses.{Read}
@@ -17,7 +17,7 @@ use Rattle.tsl_values.specs.Values as v
 use Rattle.tsl_values.specs.Values.{Val, Vals, val_list, vals}
 use Rattle.meaning.specs.Runs.{state_from, steps_to}
 use Rattle.meaning_laws.specs.Accepted.{IsMachine}
-use Rattle.meaning_laws.proofs.Values.{same_number}
+use Rattle.meaning_laws.proofs.Kept.{listed as again, list_again}
 use Rattle.value_laws.specs.Abs.{Abs, Cases, word, made, no_case, absent, present, part}
 use Rattle.value_laws.specs.Describes.{CaseDescribes, Describes}
 use Rattle.value_types.specs.Types.{has_type, have_cases, have_types}
@@ -25,13 +25,6 @@ use Rattle.transfer_laws.specs.Transfer.{counter_of}
 use Rattle.transfer_laws.proofs.States.{made_typed}
 
 -- ---- fields as a list
-again : (ps : Vals) → vals (val_list ps) ≡ ps
-again v.no_val = refl
-again (v.val_then p ps) = ap (v.val_then p) (again ps)
-
-list_again : (ps : List Val) → val_list (vals ps) ≡ ps
-list_again [] = refl
-list_again (p ∷ ps) = ap (λ qs. p ∷ qs) (list_again ps)
 
 -- a state that is taken as a value and back
 pub state_again : (s : State) (reads : List Read) → state_from (vals (v.word 32 s.pc ∷ s.parts)) reads ≡ steps_to s reads

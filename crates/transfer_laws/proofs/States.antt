@@ -2,7 +2,7 @@
 use Rattle.std.proofs.Common.{◌≡◌, ℕ, ◌<◌, ◌&&◌, true, List, [], ◌∷◌, Option, Some, None, slice_get, refl, sym, ap, subst, ◌∙◌}
 use Rattle.std.specs.Prelude.{◌==◌}
 use Rattle.std.specs.List.{list_all}
-use Rattle.std.proofs.lemmas.Bool.{false≢true}
+use Rattle.std.proofs.lemmas.Bool.{false≢true, eqb-true as same_number, ltb-true as is_less}
 use Rattle.tsl_match.proofs.Truth.{and_left, and_right, both, equal_itself}
 use Rattle.base_trait.specs.Lists.{Each}
 use Rattle.map_laws.specs.Maps.{Map, keys}
@@ -16,7 +16,6 @@ use Rattle.spec_types.specs.Texts.{case_at, cases_of, fields_at}
 use Rattle.spec_types.specs.WellFormed.{is_type}
 use Rattle.tsl_values.specs.Types.{environment_of, key_count}
 use Rattle.meaning_laws.specs.Accepted.{IsAccepted, IsMachine, is_part}
-use Rattle.meaning_laws.proofs.Values.{is_less, same_number}
 use Rattle.value_laws.specs.Abs.{Abs, Cases, Parts, word, made, map, no_case, present, no_part, part}
 use Rattle.value_types.specs.Keys.{KeysFit, PartKeysFit}
 use Rattle.value_types.specs.Types.{has_type, has_width, have_cases, have_types, of_data}

@@ -127,6 +127,7 @@ pub fn read_whole<I: Inputs>(
     // nothing else is.
     ensures answer { IsTrue (I.state inputs.old).tells
         → Answers result (whole_of cap ((I.state inputs.old).held name.now)) }
+    // From answer follow whole and too_long; within_cap holds over all inputs.
     ensures whole { IsTrue (I.state inputs.old).tells
         → IfOk result (λ bytes. (I.state inputs.old).held name.now ≡ Some bytes.items) }
     ensures within_cap { IfOk result (λ bytes. length bytes.items ≤ cap) }

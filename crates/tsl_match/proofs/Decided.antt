@@ -1,35 +1,35 @@
 -- What `decided` gives is the rule's.
-use Rattle.std.proofs.Common.{◌≡◌, ℕ, zero, suc, Option, Some, None, List, [], ◌∷◌, ◌++◌, refl, sym, subst, ap, ◌∙◌}
+use Rattle.std.proofs.Common.{◌≡◌, ℕ, zero, suc, Option, Some, None, List, [], ◌∷◌, ◌++◌, refl, sym, subst, ap}
 use Rattle.tsl_match.specs.Values.{Place}
-use Rattle.tsl_match.specs.Patterns.{Pat}
-use Rattle.tsl_match.specs.Shapes.{Types, cases_of}
+use Rattle.tsl_match.specs.Patterns.{Pattern}
+use Rattle.tsl_match.specs.Shapes.{Types}
 use Rattle.tsl_match.specs.Picks.{Row}
 use Rattle.tsl_match.specs.Meets.{bindings}
-use Rattle.tsl_match.specs.Decisions.{Tree, trees, row, on_case, on_word, on_flag}
+use Rattle.tsl_match.specs.Decisions.{Decision, trees, row, on_case, on_word, on_flag}
 use Rattle.tsl_match.specs.Knowledge.{Knowledge, put}
 use Rattle.tsl_match.specs.Rule.{Test, Found, flag_test, word_test, case_test, first_test, outcomes, still, example, IsTree, AreTrees, Fails, no_row, after_test}
 use Rattle.tsl_match.specs.Answers.{Decided, tree, fails, deeper, Arms, made, missing, cut, arm_before, all_arms, node, tested, next, test_of, decided}
 
 -- what an arm in front of others says
-pub record Before (d : Decided) (a : Arms) (ts : List Tree) : Type 0 where
-  pub first : Tree
-  pub rest : List Tree
+pub record Before (d : Decided) (a : Arms) (ts : List Decision) : Type 0 where
+  pub first : Decision
+  pub rest : List Decision
   pub is_tree : d ≡ tree first
   pub are_made : a ≡ made rest
   pub all : ts ≡ first ∷ rest
 
-apart : {A : Type 0} (a : Arms) (ts : List Tree) → (a ≡ made ts → ⊥) → a ≡ made ts → A
+apart : {A : Type 0} (a : Arms) (ts : List Decision) → (a ≡ made ts → ⊥) → a ≡ made ts → A
 apart a ts n h = absurd (n h)
 
-pub before : (d : Decided) (a : Arms) (ts : List Tree) → arm_before d a ≡ made ts → Before d a ts
+pub before : (d : Decided) (a : Arms) (ts : List Decision) → arm_before d a ≡ made ts → Before d a ts
 before (fails p) a ts h = apart (missing p) ts (λ e. cc) h
 before deeper a ts h = apart cut ts (λ e. cc) h
 before (tree t) (missing p) ts h = apart (missing p) ts (λ e. cc) h
 before (tree t) cut ts h = apart cut ts (λ e. cc) h
 before (tree t) (made rest) ts h = record { first = t; rest = rest; is_tree = refl; are_made = refl; all = cc }
 
-module _ (types : Types) (go : List Row → Knowledge → Decided) (sound : (rows : List Row) (k : Knowledge) (t : Tree) → go rows k ≡ tree t → IsTree types rows k t) where
-  arms_sound : (rows : List Row) (k : Knowledge) (at : Place) (ks : List Knowledge) (ts : List Tree)
+module _ (types : Types) (go : List Row → Knowledge → Decided) (sound : (rows : List Row) (k : Knowledge) (t : Decision) → go rows k ≡ tree t → IsTree types rows k t) where
+  arms_sound : (rows : List Row) (k : Knowledge) (at : Place) (ks : List Knowledge) (ts : List Decision)
       → all_arms (λ there. go (still rows (put k at there)) (put k at there)) ks ≡ made ts → AreTrees types rows k at ks (trees ts)
   arms_sound rows k at [] ts h = subst (λ us. AreTrees types rows k at [] (trees us)) (same h) tt
     where
@@ -41,7 +41,7 @@ module _ (types : Types) (go : List Row → Knowledge → Decided) (sound : (row
       (sound (still rows (put k at there)) (put k at there) b.first b.is_tree, arms_sound rows k at ks b.rest b.are_made)
 
   -- a tree at the test of the first row
-  node_sound : (first : Row) (rest : List Row) (k : Knowledge) (at : Place) (test : Test) (ts : List Tree) (t : Tree) → first_test first.1 k ≡ Some (at, test)
+  node_sound : (first : Row) (rest : List Row) (k : Knowledge) (at : Place) (test : Test) (ts : List Decision) (t : Decision) → first_test first.1 k ≡ Some (at, test)
       → AreTrees types (first ∷ rest) k at (outcomes types test) (trees ts) → node at test ts ≡ tree t → IsTree types (first ∷ rest) k t
   node_sound first rest k at flag_test (a ∷ (b ∷ [])) t e h n =
       subst (IsTree types (first ∷ rest) k) (same n) (e, h.0, h.1.0)
@@ -60,14 +60,14 @@ module _ (types : Types) (go : List Row → Knowledge → Decided) (sound : (row
       same q = cc
   node_sound first rest k at test ts t e h n = absurd cc
 
-  tested_sound : (first : Row) (rest : List Row) (k : Knowledge) (found : Found) (arms : Arms) (t : Tree) → first_test first.1 k ≡ Some found
+  tested_sound : (first : Row) (rest : List Row) (k : Knowledge) (found : Found) (arms : Arms) (t : Decision) → first_test first.1 k ≡ Some found
       → all_arms (λ there. go (still (first ∷ rest) (put k found.0 there)) (put k found.0 there)) (outcomes types found.1) ≡ arms
       → tested found.0 found.1 arms ≡ tree t → IsTree types (first ∷ rest) k t
   tested_sound first rest k found (missing p) t e a h = absurd cc
   tested_sound first rest k found cut t e a h = absurd cc
   tested_sound first rest k found (made ts) t e a h = node_sound first rest k found.0 found.1 ts t e (arms_sound (first ∷ rest) k found.0 (outcomes types found.1) ts a) h
 
-  next_sound : (rows : List Row) (k : Knowledge) (o : Option Found) (t : Tree) → test_of rows k ≡ o → next types go rows k o ≡ tree t → IsTree types rows k t
+  next_sound : (rows : List Row) (k : Knowledge) (o : Option Found) (t : Decision) → test_of rows k ≡ o → next types go rows k o ≡ tree t → IsTree types rows k t
   next_sound [] k o t e h = absurd cc
   next_sound (first ∷ rest) k None t e h = subst (IsTree types (first ∷ rest) k) (same h) (e, refl, refl)
     where
@@ -76,27 +76,27 @@ module _ (types : Types) (go : List Row → Knowledge → Decided) (sound : (row
   next_sound (first ∷ rest) k (Some found) t e h = tested_sound first rest k found _ t e refl h
 
   -- the first outcome for which no row is left, and the trees of those before it
-  pub record FirstMissing (fails_there : Knowledge → Pat → Type 0) (rows : List Row) (k : Knowledge) (at : Place) (ks : List Knowledge) (p : Pat) : Type 0 where
+  pub record FirstMissing (fails_there : Knowledge → Pattern → Type 0) (rows : List Row) (k : Knowledge) (at : Place) (ks : List Knowledge) (p : Pattern) : Type 0 where
     pub earlier : List Knowledge
     pub there : Knowledge
     pub later : List Knowledge
-    pub ts : List Tree
+    pub ts : List Decision
     pub splits : ks ≡ earlier ++ there ∷ later
     pub are : AreTrees types rows k at earlier (trees ts)
     pub fails_at : fails_there there p
 
 module _ (types : Types) (go : List Row → Knowledge → Decided)
-    (sound : (rows : List Row) (k : Knowledge) (t : Tree) → go rows k ≡ tree t → IsTree types rows k t)
-    (fault : (rows : List Row) (k : Knowledge) (p : Pat) → go rows k ≡ fails p → Fails types rows k p) where
-  abbrev There : List Row → Knowledge → Place → Knowledge → Pat → Type 0
+    (sound : (rows : List Row) (k : Knowledge) (t : Decision) → go rows k ≡ tree t → IsTree types rows k t)
+    (fault : (rows : List Row) (k : Knowledge) (p : Pattern) → go rows k ≡ fails p → Fails types rows k p) where
+  abbrev There : List Row → Knowledge → Place → Knowledge → Pattern → Type 0
   There rows k at there p = Fails types (still rows (put k at there)) (put k at there) p
 
-  abbrev pub Missing : List Row → Knowledge → Place → List Knowledge → Pat → Type 0
+  abbrev pub Missing : List Row → Knowledge → Place → List Knowledge → Pattern → Type 0
   Missing rows k at ks p = FirstMissing types go sound (There rows k at) rows k at ks p
 
   -- the first that fails, where `later` says what holds of those behind
-  arm_fails : (rows : List Row) (k : Knowledge) (at : Place) (there : Knowledge) (ks : List Knowledge) (p : Pat) (d : Decided) (a : Arms)
-      → ((q : Pat) → all_arms (λ x. go (still rows (put k at x)) (put k at x)) ks ≡ missing q → Missing rows k at ks q)
+  arm_fails : (rows : List Row) (k : Knowledge) (at : Place) (there : Knowledge) (ks : List Knowledge) (p : Pattern) (d : Decided) (a : Arms)
+      → ((q : Pattern) → all_arms (λ x. go (still rows (put k at x)) (put k at x)) ks ≡ missing q → Missing rows k at ks q)
       → go (still rows (put k at there)) (put k at there) ≡ d → all_arms (λ x. go (still rows (put k at x)) (put k at x)) ks ≡ a
       → arm_before d a ≡ missing p → Missing rows k at (there ∷ ks) p
   arm_fails rows k at there ks p (fails q) a behind e es h =
@@ -118,19 +118,19 @@ module _ (types : Types) (go : List Row → Knowledge → Decided)
   arm_fails rows k at there ks p (tree t) cut behind e es h = absurd cc
   arm_fails rows k at there ks p (tree t) (made ts) behind e es h = absurd cc
 
-  arms_fail : (rows : List Row) (k : Knowledge) (at : Place) (ks : List Knowledge) (p : Pat)
+  arms_fail : (rows : List Row) (k : Knowledge) (at : Place) (ks : List Knowledge) (p : Pattern)
       → all_arms (λ there. go (still rows (put k at there)) (put k at there)) ks ≡ missing p → Missing rows k at ks p
   arms_fail rows k at [] p h = absurd cc
   arms_fail rows k at (there ∷ ks) p h =
       arm_fails rows k at there ks p (go (still rows (put k at there)) (put k at there)) (all_arms (λ x. go (still rows (put k at x)) (put k at x)) ks) (λ q f. arms_fail rows k at ks q f) refl refl h
 
-  no_node : (at : Place) (test : Test) (ts : List Tree) (p : Pat) → node at test ts ≡ fails p → ⊥
+  no_node : (at : Place) (test : Test) (ts : List Decision) (p : Pattern) → node at test ts ≡ fails p → ⊥
   no_node at flag_test (a ∷ (b ∷ [])) p h = cc
   no_node at (word_test w ns m) (a ∷ (b ∷ [])) p h = cc
   no_node at (case_test d) ts p h = cc
   no_node at test ts p h = cc
 
-  tested_fails : (first : Row) (rest : List Row) (k : Knowledge) (found : Found) (arms : Arms) (p : Pat) → first_test first.1 k ≡ Some found
+  tested_fails : (first : Row) (rest : List Row) (k : Knowledge) (found : Found) (arms : Arms) (p : Pattern) → first_test first.1 k ≡ Some found
       → all_arms (λ there. go (still (first ∷ rest) (put k found.0 there)) (put k found.0 there)) (outcomes types found.1) ≡ arms
       → tested found.0 found.1 arms ≡ fails p → Fails types (first ∷ rest) k p
   tested_fails first rest k found (missing q) p e a h =
@@ -140,7 +140,7 @@ module _ (types : Types) (go : List Row → Knowledge → Decided)
   tested_fails first rest k found cut p e a h = absurd cc
   tested_fails first rest k found (made ts) p e a h = absurd (no_node found.0 found.1 ts p h)
 
-  next_fails : (rows : List Row) (k : Knowledge) (o : Option Found) (p : Pat) → test_of rows k ≡ o → next types go rows k o ≡ fails p → Fails types rows k p
+  next_fails : (rows : List Row) (k : Knowledge) (o : Option Found) (p : Pattern) → test_of rows k ≡ o → next types go rows k o ≡ fails p → Fails types rows k p
   next_fails [] k o p e h = subst (Fails types [] k) (same h) (no_row k)
     where
       same : fails (example k) ≡ fails p → example k ≡ p
@@ -148,12 +148,12 @@ module _ (types : Types) (go : List Row → Knowledge → Decided)
   next_fails (first ∷ rest) k None p e h = absurd cc
   next_fails (first ∷ rest) k (Some found) p e h = tested_fails first rest k found _ p e refl h
 
-pub decided_tree : (types : Types) (n : ℕ) (rows : List Row) (k : Knowledge) (t : Tree) → decided types n rows k ≡ tree t → IsTree types rows k t
+pub decided_tree : (types : Types) (n : ℕ) (rows : List Row) (k : Knowledge) (t : Decision) → decided types n rows k ≡ tree t → IsTree types rows k t
 unfolding decided
 decided_tree types zero rows k t h = absurd cc
 decided_tree types (suc n) rows k t h = next_sound types (decided types n) (decided_tree types n) rows k (test_of rows k) t refl h
 
-pub decided_fails : (types : Types) (n : ℕ) (rows : List Row) (k : Knowledge) (p : Pat) → decided types n rows k ≡ fails p → Fails types rows k p
+pub decided_fails : (types : Types) (n : ℕ) (rows : List Row) (k : Knowledge) (p : Pattern) → decided types n rows k ≡ fails p → Fails types rows k p
 unfolding decided
 decided_fails types zero rows k p h = absurd cc
 decided_fails types (suc n) rows k p h = next_fails types (decided types n) (decided_tree types n) (decided_fails types n) rows k (test_of rows k) p refl h

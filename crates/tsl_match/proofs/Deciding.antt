@@ -2,7 +2,7 @@
 use Rattle.std.proofs.Common.{◌≡◌, ℕ, ◌+◌, ◌<◌, Some, None, List, [], ◌∷◌, ◌++◌, length, get_or, map, take, drop, slice_get, Vec, Global, refl, sym, ap, ◌∙◌}
 use Rattle.std.proofs.lemmas.List.{take-append-drop, drop-map, take_more, map-append}
 use Rattle.std.specs.List.{take-map}
-use Rattle.tsl_match.specs.declared.knowledge.Known.{Known}
+use Rattle.tsl_match.specs.declared.knowledge.Knowledge.{Knowledge}
 use Rattle.tsl_match.specs.declared.candidate.Candidate.{Candidate}
 use Rattle.tsl_match.specs.declared.match_error.MatchError.{MatchError}
 use Rattle.tsl_match.specs.declared.step.Question.{Question}
@@ -10,8 +10,9 @@ use Rattle.tsl_match.specs.declared.step.Step.TheVariants.{Asked}
 use Rattle.tsl_match.specs.Values.{Place}
 use Rattle.tsl_match.specs.Shapes.{Types}
 use Rattle.tsl_match.specs.Picks.{Row}
-use Rattle.tsl_match.specs.Decisions.{Tree, no_tree, tree_then, on_word}
-use Rattle.tsl_match.specs.Knowledge.{Knowledge, word_known, others, put}
+use Rattle.tsl_match.specs.Decisions.{Decision, no_tree, tree_then, on_word}
+use Rattle.tsl_match.specs.Knowledge as plain
+use Rattle.tsl_match.specs.Knowledge.{word_known, others, put}
 use Rattle.tsl_match.specs.Rule.{Test, word_test, still, outcomes, IsTree}
 use Rattle.tsl_match.specs.Steps.{AsksFirst, AsksWord, MayShow, IsStep}
 use Rattle.tsl_match.specs.Refusals.{FailsWith}
@@ -23,19 +24,19 @@ use Rattle.tsl_match.proofs.Weight.{total, falls}
 use Rattle.tsl_match.proofs.Kept.{put_limits, test_limits, shows_limits, shown, still_limits, still_can}
 use Rattle.tsl_match.proofs.Nodes.{tree_of_word, fails_after}
 
-pub split_known : (xs : List Known) (i : ℕ) (x : Known) → x ≡ get_or xs i x → i < length xs
+pub split_known : (xs : List Knowledge) (i : ℕ) (x : Knowledge) → x ≡ get_or xs i x → i < length xs
     → map knowledge xs ≡ take i (map knowledge xs) ++ knowledge x ∷ map knowledge (drop (i + 1) xs)
 split_known xs i x e h =
     sym (take-append-drop i (map knowledge xs)) ∙ ap (λ ys. take i (map knowledge xs) ++ ys) (drop-map knowledge i xs ∙ ap (map knowledge) (drop_here xs i x e h))
 
-pub step_falls : (types : Types) (rows : List Row) (k o : Knowledge) (at : Place) (test : Test) (earlier later : List Knowledge)
+pub step_falls : (types : Types) (rows : List Row) (k o : plain.Knowledge) (at : Place) (test : Test) (earlier later : List plain.Knowledge)
     → AsksFirst rows k at test → CanAll rows k → outcomes types test ≡ earlier ++ o ∷ later
     → total (still rows (put k at o)) (put k at o) < total rows k
 step_falls types [] k o at test earlier later asks can split = absurd asks
 step_falls types (first ∷ rest) k o at test earlier later asks can split =
     falls types first rest k o at test (first_opens first.1 k (at, test) asks) can.0 (shown types test earlier later o split)
 
-pub step_limits : (types : Types) (rows : List Row) (k o : Knowledge) (at : Place) (test : Test) (earlier later : List Knowledge)
+pub step_limits : (types : Types) (rows : List Row) (k o : plain.Knowledge) (at : Place) (test : Test) (earlier later : List plain.Knowledge)
     → AsksFirst rows k at test → TypesInLimits types → InLimits k → outcomes types test ≡ earlier ++ o ∷ later → InLimits (put k at o)
 step_limits types [] k o at test earlier later asks all h split = absurd asks
 step_limits types (first ∷ rest) k o at test earlier later asks all h split =
@@ -50,12 +51,12 @@ pub no_rows : (xs : List Candidate) → None ≡ slice_get xs 0 → map candidat
 no_rows [] e = refl
 no_rows (y ∷ ys) e = absurd (cc)
 
-pub take_known : (xs : List Known) (i : ℕ) (x : Known) → x ≡ get_or xs i x → i < length xs → take (i + 1) (map knowledge xs) ≡ take i (map knowledge xs) ++ knowledge x ∷ []
+pub take_known : (xs : List Knowledge) (i : ℕ) (x : Knowledge) → x ≡ get_or xs i x → i < length xs → take (i + 1) (map knowledge xs) ≡ take i (map knowledge xs) ++ knowledge x ∷ []
 take_known xs i x e h = rw (take-map knowledge (i + 1) xs, take-map knowledge i xs, take_more xs i x h, map-append, ← e) refl
 
 -- where the answer to a question is no
-module _ (types : Types) (rows : List Row) (k : Knowledge) (q : Question) (left : Vec Candidate Global) (known : Known) (step : IsStep types rows k (Asked q left known)) where
-  abbrev no : Knowledge
+module _ (types : Types) (rows : List Row) (k : plain.Knowledge) (q : Question) (left : Vec Candidate Global) (known : Knowledge) (step : IsStep types rows k (Asked q left known)) where
+  abbrev no : plain.Knowledge
   no = others step.0 (step.1 ++ q.value ∷ [])
 
   abbrev asked : Test
@@ -73,7 +74,7 @@ module _ (types : Types) (rows : List Row) (k : Knowledge) (q : Question) (left 
   pub no_can : CanAll (map candidate left.items) (knowledge known)
   no_can = rw step.5 (still_can rows (knowledge known))
 
-  pub no_tree_is : (t : Tree) → IsTree types (map candidate left.items) (knowledge known) t → IsTree types rows k (on_word q.at.steps.items q.value (tree q.yes) t)
+  pub no_tree_is : (t : Decision) → IsTree types (map candidate left.items) (knowledge known) t → IsTree types rows k (on_word q.at.steps.items q.value (tree q.yes) t)
   no_tree_is t h = tree_of_word types rows k q.at.steps.items step.0 q.value step.1 (tree q.yes) t step.2 step.3 (rw step.4 at (rw step.5 at h))
 
   pub no_fails : (e : MatchError) → FailsWith types (map candidate left.items) (knowledge known) e → FailsWith types rows k e
@@ -81,17 +82,17 @@ module _ (types : Types) (rows : List Row) (k : Knowledge) (q : Question) (left 
       fails_after types rows k no q.at.steps.items asked (word_known q.value ∷ []) [] (tree_then (tree q.yes) no_tree) e step.2 refl (step.3, tt) (rw step.4 at (rw step.5 at h))
 
 -- the two answers of a question
-pub first_is : (a b : Knowledge) (outs : List Known) (x : Known) → map knowledge outs ≡ a ∷ (b ∷ []) → x ≡ get_or outs 0 x → knowledge x ≡ a
+pub first_is : (a b : plain.Knowledge) (outs : List Knowledge) (x : Knowledge) → map knowledge outs ≡ a ∷ (b ∷ []) → x ≡ get_or outs 0 x → knowledge x ≡ a
 first_is a b [] x shown e = absurd (cc)
 first_is a b (y ∷ ys) x shown e = let same : x ≡ y = e in rw same (cc)
 
-pub second_is : (a b : Knowledge) (outs : List Known) (x : Known) → map knowledge outs ≡ a ∷ (b ∷ []) → x ≡ get_or outs 1 x → knowledge x ≡ b
+pub second_is : (a b : plain.Knowledge) (outs : List Knowledge) (x : Knowledge) → map knowledge outs ≡ a ∷ (b ∷ []) → x ≡ get_or outs 1 x → knowledge x ≡ b
 second_is a b [] x shown e = absurd (cc)
 second_is a b (y ∷ []) x shown e = absurd (cc)
 second_is a b (y ∷ (z ∷ zs)) x shown e = let same : x ≡ z = e in rw same (cc)
 
-module _ (types : Types) (rows : List Row) (k : Knowledge) (at : Place) (n : ℕ) (outs : List Known) (asks : AsksWord types rows k at n (map knowledge outs)) (x : Known) (e : x ≡ get_or outs 0 x) where
-  abbrev later : List Knowledge
+module _ (types : Types) (rows : List Row) (k : plain.Knowledge) (at : Place) (n : ℕ) (outs : List Knowledge) (asks : AsksWord types rows k at n (map knowledge outs)) (x : Knowledge) (e : x ≡ get_or outs 0 x) where
+  abbrev later : List plain.Knowledge
   later = others asks.0 (asks.1 ++ n ∷ []) ∷ []
 
   split : outcomes types (word_test asks.0 asks.1 n) ≡ [] ++ knowledge x ∷ later

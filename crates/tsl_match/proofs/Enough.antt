@@ -5,16 +5,16 @@ use Rattle.tsl_match.specs.declared.shape.Shape.{Shape}
 use Rattle.tsl_match.specs.declared.match_error.MatchError.{MatchError}
 use Rattle.tsl_match.specs.declared.match_error.MatchError.TheVariants.{NotExhaustive, Useless, NoMemory}
 use Rattle.tsl_match.specs.Values.{Place}
-use Rattle.tsl_match.specs.Patterns.{Pat}
+use Rattle.tsl_match.specs.Patterns.{Pattern}
 use Rattle.tsl_match.specs.Shapes.{Types}
 use Rattle.tsl_match.specs.Picks.{Row, numbered}
-use Rattle.tsl_match.specs.Decisions.{Tree}
+use Rattle.tsl_match.specs.Decisions.{Decision}
 use Rattle.tsl_match.specs.Knowledge.{Knowledge, unknown, put}
 use Rattle.tsl_match.specs.Limits.{CanAll}
 use Rattle.tsl_match.specs.Names.{names}
-use Rattle.tsl_match.specs.Rule.{Test, Found, flag_test, word_test, case_test, first_test, outcomes, still, IsTree, Fails}
+use Rattle.tsl_match.specs.Rule.{Test, Found, flag_test, word_test, case_test, first_test, outcomes, still, Fails}
 use Rattle.tsl_match.specs.Compiled.{IsTreeOf, Answers}
-use Rattle.tsl_match.specs.Answers.{Decided, tree, fails, deeper, Arms, made, missing, cut, arm_before, all_arms, node, tested, next, test_of, decided, MatchAnswer, decision, useless, first_unnamed, with_rows, answer_by, all_sizes, match_answer}
+use Rattle.tsl_match.specs.Answers.{Decided, tree, fails, deeper, Arms, made, missing, cut, arm_before, all_arms, node, tested, next, test_of, decided, decision, useless, first_unnamed, with_rows, all_sizes, match_answer}
 use Rattle.tsl_match.specs.Refusals.{FailsWith}
 use Rattle.tsl_match.specs.Views.{pat}
 use Rattle.tsl_match.specs.Laws.{DecidedIsTheRules}
@@ -23,10 +23,10 @@ use Rattle.tsl_match.proofs.Kept.{still_can}
 use Rattle.tsl_match.proofs.Deciding.{step_falls}
 use Rattle.tsl_match.proofs.Granted.{can_all_unknown}
 use Rattle.tsl_match.proofs.OneAnswer.{rule_is_settled}
-use Rattle.tsl_match.proofs.Decided.{Before, before, decided_tree, decided_fails}
+use Rattle.tsl_match.proofs.Decided.{before, decided_tree, decided_fails}
 
 -- an arm for each outcome
-arms_len : (f : Knowledge → Decided) (ks : List Knowledge) (ts : List Tree) → all_arms f ks ≡ made ts → length ts ≡ length ks
+arms_len : (f : Knowledge → Decided) (ks : List Knowledge) (ts : List Decision) → all_arms f ks ≡ made ts → length ts ≡ length ks
 arms_len f [] [] h = refl
 arms_len f [] (t ∷ ts) h = absurd cc
 arms_len f (k ∷ ks) ts h =
@@ -49,7 +49,7 @@ not_cut f whole front (k ∷ ks) e all h =
     let further : whole ≡ (front ++ k ∷ []) ++ ks = e ∙ sym (append_assoc front (k ∷ []) ks) in
     cut_at f front ks (f k) (all_arms f ks) k refl refl h (λ d. all front ks k e d) (λ c. not_cut f whole (front ++ k ∷ []) ks further all c)
 
-node_there : (types : Types) (at : Place) (test : Test) (ts : List Tree) → length ts ≡ length (outcomes types test) → node at test ts ≡ deeper → ⊥
+node_there : (types : Types) (at : Place) (test : Test) (ts : List Decision) → length ts ≡ length (outcomes types test) → node at test ts ≡ deeper → ⊥
 node_there types at (case_test t) ts e h = cc
 node_there types at flag_test (a ∷ (b ∷ [])) e h = cc
 node_there types at (word_test w ns n) (a ∷ (b ∷ [])) e h = cc
@@ -84,11 +84,11 @@ unfolding decided
 decided_there types zero rows k can less h = omega (arith, less)
 decided_there types (suc n) rows k can less h = next_there types n (decided types n) (λ rs j c l. decided_there types n rs j c l) rows k (test_of rows k) refl can less h
 
-total_unknown : (n : ℕ) (rows : List Pat) (s : Shape) → total (numbered n rows) (unknown s) ≤ all_sizes rows
+total_unknown : (n : ℕ) (rows : List Pattern) (s : Shape) → total (numbered n rows) (unknown s) ≤ all_sizes rows
 total_unknown n [] s = omega arith
 total_unknown n (p ∷ rows) s = omega (arith, weight_unknown p s, total_unknown (n + 1) rows s)
 
-never_deeper : (types : Types) (s : Shape) (rows : List Pat) → decided types (suc (all_sizes rows)) (numbered 0 rows) (unknown s) ≡ deeper → ⊥
+never_deeper : (types : Types) (s : Shape) (rows : List Pattern) → decided types (suc (all_sizes rows)) (numbered 0 rows) (unknown s) ≡ deeper → ⊥
 never_deeper types s rows h =
     decided_there types (suc (all_sizes rows)) (numbered 0 rows) (unknown s) (can_all_unknown (numbered 0 rows) s) (omega (arith, total_unknown 0 rows s)) h
 
@@ -96,49 +96,49 @@ pub decided_is_the_rules : DecidedIsTheRules
 decided_is_the_rules = record { a_tree = decided_tree; an_example = decided_fails; enough = never_deeper }
 
 -- the rule's answer is that of the function
-module _ (types : Types) (s : Shape) (rows : List Pat) where
-  tree_decided : (t : Tree) (d : Decided) → IsTreeOf types s rows t → decided types (suc (all_sizes rows)) (numbered 0 rows) (unknown s) ≡ d → d ≡ tree t
+module _ (types : Types) (s : Shape) (rows : List Pattern) where
+  tree_decided : (t : Decision) (d : Decided) → IsTreeOf types s rows t → decided types (suc (all_sizes rows)) (numbered 0 rows) (unknown s) ≡ d → d ≡ tree t
   tree_decided t (tree u) is e =
       ap tree ((rule_is_settled types (numbered 0 rows) (unknown s)).one_tree u t (decided_tree types (suc (all_sizes rows)) (numbered 0 rows) (unknown s) u e) is)
   tree_decided t (fails p) is e =
       absurd ((rule_is_settled types (numbered 0 rows) (unknown s)).not_both t p is (decided_fails types (suc (all_sizes rows)) (numbered 0 rows) (unknown s) p e))
   tree_decided t deeper is e = absurd (never_deeper types s rows e)
 
-  fails_decided : (p : Pat) (d : Decided) → Fails types (numbered 0 rows) (unknown s) p → decided types (suc (all_sizes rows)) (numbered 0 rows) (unknown s) ≡ d → d ≡ fails p
+  fails_decided : (p : Pattern) (d : Decided) → Fails types (numbered 0 rows) (unknown s) p → decided types (suc (all_sizes rows)) (numbered 0 rows) (unknown s) ≡ d → d ≡ fails p
   fails_decided p (tree u) is e =
       absurd ((rule_is_settled types (numbered 0 rows) (unknown s)).not_both u p (decided_tree types (suc (all_sizes rows)) (numbered 0 rows) (unknown s) u e) is)
   fails_decided p (fails q) is e =
       ap fails ((rule_is_settled types (numbered 0 rows) (unknown s)).one_example q p (decided_fails types (suc (all_sizes rows)) (numbered 0 rows) (unknown s) q e) is)
   fails_decided p deeper is e = absurd (never_deeper types s rows e)
 
-all_named : (t : Tree) (r n : ℕ) → ((q : ℕ) → q < r + n → names t q ≡ true) → first_unnamed t r n ≡ None
+all_named : (t : Decision) (r n : ℕ) → ((q : ℕ) → q < r + n → names t q ≡ true) → first_unnamed t r n ≡ None
 all_named t r zero h = refl
 all_named t r (suc n) h = rw (first_unnamed, h r (omega arith)) (all_named t (r + 1) n (λ q l. h q (omega (arith, l))))
 
-one_from : (t : Tree) (r n q : ℕ) → (r < q → first_unnamed t (r + 1) n ≡ Some q) → r ≤ q → names t q ≡ false → ((p : ℕ) → p < q → names t p ≡ true) → (r < q) ⊎ (q ≤ r) → first_unnamed t r (suc n) ≡ Some q
+one_from : (t : Decision) (r n q : ℕ) → (r < q → first_unnamed t (r + 1) n ≡ Some q) → r ≤ q → names t q ≡ false → ((p : ℕ) → p < q → names t p ≡ true) → (r < q) ⊎ (q ≤ r) → first_unnamed t r (suc n) ≡ Some q
 one_from t r n q again from is named (inl l) = rw (first_unnamed, named r l) (again l)
 one_from t r n q again from is named (inr l) =
     let same : r ≡ q = omega (arith, from, l) in
     rw (same, first_unnamed, is) refl
 
-one_unnamed : (t : Tree) (r n q : ℕ) → r ≤ q → q < r + n → names t q ≡ false → ((p : ℕ) → p < q → names t p ≡ true) → first_unnamed t r n ≡ Some q
+one_unnamed : (t : Decision) (r n q : ℕ) → r ≤ q → q < r + n → names t q ≡ false → ((p : ℕ) → p < q → names t p ≡ true) → first_unnamed t r n ≡ Some q
 one_unnamed t r zero q from below is named = absurd (omega (arith, from, below))
 one_unnamed t r (suc n) q from below is named =
     one_from t r n q (λ l. one_unnamed t (r + 1) n q (omega (arith, l)) (omega (arith, below)) is named) from is named (cases_lt r q)
 
-pub answer_tree : (types : Types) (s : Shape) (rows : List Pat) (t : Tree) → IsTreeOf types s rows t → ((r : ℕ) → r < length rows → names t r ≡ true)
+pub answer_tree : (types : Types) (s : Shape) (rows : List Pattern) (t : Decision) → IsTreeOf types s rows t → ((r : ℕ) → r < length rows → names t r ≡ true)
     → match_answer types s rows ≡ decision t
 unfolding match_answer
 answer_tree types s rows t is named =
     rw (tree_decided types s rows t _ is refl) (ap (with_rows t) (all_named t 0 (length rows) (λ q l. named q (omega (arith, l)))))
 
-pub answer_useless : (types : Types) (s : Shape) (rows : List Pat) (t : Tree) (r : ℕ) → IsTreeOf types s rows t → r < length rows → names t r ≡ false → ((q : ℕ) → q < r → names t q ≡ true)
+pub answer_useless : (types : Types) (s : Shape) (rows : List Pattern) (t : Decision) (r : ℕ) → IsTreeOf types s rows t → r < length rows → names t r ≡ false → ((q : ℕ) → q < r → names t q ≡ true)
     → match_answer types s rows ≡ useless r
 unfolding match_answer
 answer_useless types s rows t r is below unnamed named =
     rw (tree_decided types s rows t _ is refl) (ap (with_rows t) (one_unnamed t 0 (length rows) r (omega arith) (omega (arith, below)) unnamed named))
 
-pub answer_refused : (types : Types) (s : Shape) (rows : List Pat) (e : MatchError) → FailsWith types (numbered 0 rows) (unknown s) e → Answers (Err e) (match_answer types s rows)
+pub answer_refused : (types : Types) (s : Shape) (rows : List Pattern) (e : MatchError) → FailsWith types (numbered 0 rows) (unknown s) e → Answers (Err e) (match_answer types s rows)
 unfolding match_answer
 answer_refused types s rows (NotExhaustive p) fails_so = rw (fails_decided types s rows (pat p) _ fails_so refl) refl
 answer_refused types s rows (Useless r) fails_so = absurd fails_so

@@ -4,11 +4,11 @@ use Rattle.std.proofs.lemmas.Bool.Decides.{nat_tests}
 use Rattle.tsl_match.specs.declared.shape.Shape.{Shape}
 use Rattle.tsl_match.specs.declared.shape.Shape.TheVariants.{Word, Data}
 use Rattle.tsl_match.specs.Values.{Value, Values, Place, flag, word, made, thing, no_value, value_then, value_at}
-use Rattle.tsl_match.specs.Patterns.{Pat, Pats, word_is, case_is, pat_then}
+use Rattle.tsl_match.specs.Patterns.{Pattern, Patterns, word_is, case_is, pat_then}
 use Rattle.tsl_match.specs.Shapes.{Types, fields_of, cases_of, HasShape, HaveShapes, Suits, AllSuit, AreTypes, IsShape}
 use Rattle.tsl_match.specs.Meets.{meets, bindings}
 use Rattle.tsl_match.specs.Picks.{Row, Choice, first_match, picks, arm_at, case_at, word_branch, flag_branch}
-use Rattle.tsl_match.specs.Decisions.{Tree, Trees, row, on_case, on_word, on_flag, no_tree, tree_then}
+use Rattle.tsl_match.specs.Decisions.{Decision, Decisions, row, on_case, on_word, on_flag, no_tree, tree_then}
 use Rattle.tsl_match.specs.Names.{names, some_names}
 use Rattle.tsl_match.specs.Knowledge.{Knowledge, Parts, flag_known, word_known, others, case_known, part_then, unknowns, put, put_part}
 use Rattle.tsl_match.specs.Rule.{Test, flag_test, word_test, case_test, can_match, all_can_match, is_among, first_test, still, made_known, IsTree, AreTrees, Fails, no_row, after_test}
@@ -63,7 +63,7 @@ module _ (types : Types) where
       rw (before.0, is) (rw e suits, not_true (is_among n ns) (rw before.0 at can))
   word_back s k w n ns v suits known can before is = absurd suits
 
-  back_here : (s : Shape) (p : Pat) (k o : Knowledge) (test : Test) (v : Value) → Asks p test → Before test k → Suits types s p → KnownAs types s k → can_match p k ≡ true → Shows types test o → Fits types o v → Fits types k v
+  back_here : (s : Shape) (p : Pattern) (k o : Knowledge) (test : Test) (v : Value) → Asks p test → Before test k → Suits types s p → KnownAs types s k → can_match p k ≡ true → Shows types test o → Fits types o v → Fits types k v
   back_here s p k o flag_test v asks before suits known can shows fits = rw before (rw (rw shows.1 at fits) tt)
   back_here s p k o (word_test w ns n) v asks before suits known can (inl shows) fits = word_back s k w n ns v (rw asks at suits) known (rw asks at can) before (rw shows at fits)
   back_here s p k o (word_test w ns n) v asks before suits known can (inr shows) fits = others_back k w n ns v before (rw shows at fits)
@@ -71,7 +71,7 @@ module _ (types : Types) where
 
   mutual
     -- what fits after a test fitted before
-    pub back : (s : Shape) (p : Pat) (k o : Knowledge) (at : Place) (test : Test) (v : Value) → Opens p k at test → Suits types s p → KnownAs types s k → can_match p k ≡ true → Shows types test o → Fits types (put k at o) v → Fits types k v
+    pub back : (s : Shape) (p : Pattern) (k o : Knowledge) (at : Place) (test : Test) (v : Value) → Opens p k at test → Suits types s p → KnownAs types s k → can_match p k ≡ true → Shows types test o → Fits types (put k at o) v → Fits types k v
     back s p k o [] test v opens suits known can shows fits = back_here s p k o test v opens.0 opens.1 suits known can shows fits
     back (Data t) (case_is c ps) (case_known d ks) o (step ∷ at) test (made e vs) opens suits known can shows fits =
         let same : c ≡ d = equal_numbers c d (and_left (c == d) (all_can_match ps ks) can) in
@@ -81,7 +81,7 @@ module _ (types : Types) where
     back s (case_is c ps) (case_known d ks) o (step ∷ at) test v opens suits known can shows fits = absurd suits
     back s p k o (step ∷ at) test v opens suits known can shows fits = absurd opens
 
-    all_back : (shapes : List Shape) (ps : Pats) (ks : Parts) (o : Knowledge) (i : ℕ) (at : Place) (test : Test) (vs : Values) → OpensIn ps ks i at test → AllSuit types shapes ps → AllKnownAs types shapes ks → all_can_match ps ks ≡ true → Shows types test o → AllFit types (put_part ks i at o) vs → AllFit types ks vs
+    all_back : (shapes : List Shape) (ps : Patterns) (ks : Parts) (o : Knowledge) (i : ℕ) (at : Place) (test : Test) (vs : Values) → OpensIn ps ks i at test → AllSuit types shapes ps → AllKnownAs types shapes ks → all_can_match ps ks ≡ true → Shows types test o → AllFit types (put_part ks i at o) vs → AllFit types ks vs
     all_back (s ∷ shapes) (pat_then p ps) (part_then k ks) o zero at test (value_then v vs) opens suits known can shows fits =
         (back s p k o at test v opens suits.0 known.0 (and_left (can_match p k) (all_can_match ps ks) can) shows fits.0, fits.1)
     all_back (s ∷ shapes) (pat_then p ps) (part_then k ks) o (suc i) at test (value_then v vs) opens suits known can shows fits =
@@ -93,11 +93,11 @@ module _ (types : Types) where
 
 module _ (types : Types) (all : AreTypes types) (limits : TypesInLimits types) (s : Shape) (shape : IsShape types s) where
   -- What a failure's example says.
-  pub record Unmatched (rows : List Row) (k : Knowledge) (p : Pat) : Type 0 where
+  pub record Unmatched (rows : List Row) (k : Knowledge) (p : Pattern) : Type 0 where
     pub some : (v : Value) × HasShape types s v × (meets p v ≡ true)
     pub none : (v : Value) → HasShape types s v → meets p v ≡ true → Fits types k v × (first_match rows v ≡ None)
 
-  pub failing : (rows : List Row) (k : Knowledge) (p : Pat) → Fails types rows k p → RowsSuit types s rows → KnownAs types s k → CanAll rows k → Unmatched rows k p
+  pub failing : (rows : List Row) (k : Knowledge) (p : Pattern) → Fails types rows k p → RowsSuit types s rows → KnownAs types s k → CanAll rows k → Unmatched rows k p
   failing _ _ _ (no_row k) suit known can =
       let f = filled types all k s shape known in
       record { some = (f.value, fits_shape types s k f.value known f.fits, f.meets_it); none = λ v has m. (example_fits types s k v known has m, refl) }
@@ -116,7 +116,7 @@ module _ (types : Types) (all : AreTypes types) (limits : TypesInLimits types) (
   abbrev pub Chosen : ℕ → List Row → Knowledge → Type 0
   Chosen r rows k = (v : Value) × (binds : List (ℕ × Place)) × Fits types k v × (first_match rows v ≡ Some (r, binds))
 
-  abbrev pub NamedTree : Tree → Type 0
+  abbrev pub NamedTree : Decision → Type 0
   NamedTree t = (r : ℕ) (rows : List Row) (k : Knowledge) → names t r ≡ true → IsTree types rows k t → RowsSuit types s rows → KnownAs types s k → CanAll rows k → Chosen r rows k
 
   row_named : (n : ℕ) (binds : List (ℕ × Place)) → NamedTree (row n binds)
@@ -126,7 +126,7 @@ module _ (types : Types) (all : AreTypes types) (limits : TypesInLimits types) (
       let same : first.0 ≡ r = sym is.1 ∙ equal_numbers n r named in
       (f.value, bindings [] first.1, f.fits, rw (settled types s first.1 k f.value suit.0 known can.0 is.0 f.fits, same) refl)
 
-  under : (t : Tree) → NamedTree t → (r : ℕ) (first : Row) (rest : List Row) (k o : Knowledge) (at : Place) (test : Test) → first_test first.1 k ≡ Some (at, test) → Shows types test o → names t r ≡ true
+  under : (t : Decision) → NamedTree t → (r : ℕ) (first : Row) (rest : List Row) (k o : Knowledge) (at : Place) (test : Test) → first_test first.1 k ≡ Some (at, test) → Shows types test o → names t r ≡ true
       → IsTree types (still (first ∷ rest) (put k at o)) (put k at o) t → RowsSuit types s (first ∷ rest) → KnownAs types s k → CanAll (first ∷ rest) k → Chosen r (first ∷ rest) k
   under t ih r first rest k o at test found shows named is suit known can =
       let opens = first_opens first.1 k (at, test) found in
@@ -134,19 +134,19 @@ module _ (types : Types) (all : AreTypes types) (limits : TypesInLimits types) (
       let d = ih r (still (first ∷ rest) (put k at o)) (put k at o) named is (still_suit types s (first ∷ rest) (put k at o) suit) after (still_can (first ∷ rest) (put k at o)) in
       (d.0, d.1, back types s first.1 k o at test d.0 opens suit.0 known can.0 shows d.2, sym (first_still types (first ∷ rest) (put k at o) d.0 d.2) ∙ d.3)
 
-  flag_named : (at : Place) (a b : Tree) → NamedTree a → NamedTree b → NamedTree (on_flag at a b)
+  flag_named : (at : Place) (a b : Decision) → NamedTree a → NamedTree b → NamedTree (on_flag at a b)
   flag_named at a b ha hb r [] k named is suit known can = absurd is
   flag_named at a b ha hb r (first ∷ rest) k named is suit known can =
       ⊎_elim (λ n. under a ha r first rest k (flag_known true) at flag_test is.0 (true, refl) n is.1 suit known can)
       (λ n. under b hb r first rest k (flag_known false) at flag_test is.0 (false, refl) n is.2 suit known can) (or_parts (names a r) (names b r) named)
 
-  word_named : (at : Place) (n : ℕ) (a b : Tree) → NamedTree a → NamedTree b → NamedTree (on_word at n a b)
+  word_named : (at : Place) (n : ℕ) (a b : Decision) → NamedTree a → NamedTree b → NamedTree (on_word at n a b)
   word_named at n a b ha hb r [] k named is suit known can = absurd is
   word_named at n a b ha hb r (first ∷ rest) k named is suit known can =
       ⊎_elim (λ m. under a ha r first rest k (word_known n) at (word_test is.0 is.1 n) is.2 (inl refl) m is.3 suit known can)
       (λ m. under b hb r first rest k (others is.0 (is.1 ++ n ∷ [])) at (word_test is.0 is.1 n) is.2 (inr refl) m is.4 suit known can) (or_parts (names a r) (names b r) named)
 
-  abbrev pub NamedArms : Trees → Type 0
+  abbrev pub NamedArms : Decisions → Type 0
   NamedArms ts = (r : ℕ) (first : Row) (rest : List Row) (k : Knowledge) (at : Place) (t : ℕ) (n : ℕ) (cases : List (List Shape)) → ((c : ℕ) (shapes : List Shape) → slice_get cases c ≡ Some shapes → fields_of types t (n + c) ≡ Some shapes)
       → first_test first.1 k ≡ Some (at, case_test t) → some_names ts r ≡ true → AreTrees types (first ∷ rest) k at (made_known n cases) ts → RowsSuit types s (first ∷ rest) → KnownAs types s k → CanAll (first ∷ rest) k
       → Chosen r (first ∷ rest) k
@@ -154,7 +154,7 @@ module _ (types : Types) (all : AreTypes types) (limits : TypesInLimits types) (
   none_named : NamedArms no_tree
   none_named r first rest k at t n cases fields found named are suit known can = absurd (cc)
 
-  arms_named : (t : Tree) (ts : Trees) → NamedTree t → NamedArms ts → NamedArms (tree_then t ts)
+  arms_named : (t : Decision) (ts : Decisions) → NamedTree t → NamedArms ts → NamedArms (tree_then t ts)
   arms_named t ts h hs r first rest k at ty n [] fields found named are suit known can = absurd are
   arms_named t ts h hs r first rest k at ty n (shapes ∷ cases) fields found named are suit known can =
       let none : n + 0 ≡ n = omega arith in
@@ -163,19 +163,19 @@ module _ (types : Types) (all : AreTypes types) (limits : TypesInLimits types) (
       (λ m. hs r first rest k at ty (n + 1) cases (λ c fs e. let same : n + suc c ≡ n + 1 + c = omega arith in rw same at (fields (suc c) fs e)) found m are.1 suit known can)
       (or_parts (names t r) (some_names ts r) named)
 
-  case_named : (at : Place) (arms : Trees) → NamedArms arms → NamedTree (on_case at arms)
+  case_named : (at : Place) (arms : Decisions) → NamedArms arms → NamedTree (on_case at arms)
   case_named at arms h r [] k named is suit known can = absurd is
   case_named at arms h r (first ∷ rest) k named is suit known can =
       h r first rest k at is.0 0 (cases_of types is.0) (λ c shapes e. let same : 0 + c ≡ c = omega arith in rw same e) is.1 named is.2 suit known can
 
   mutual
-    pub named_tree : (t : Tree) → NamedTree t
+    pub named_tree : (t : Decision) → NamedTree t
     named_tree (row n binds) = row_named n binds
     named_tree (on_flag at a b) = flag_named at a b (named_tree a) (named_tree b)
     named_tree (on_word at n a b) = word_named at n a b (named_tree a) (named_tree b)
     named_tree (on_case at arms) = case_named at arms (named_arms arms)
 
-    named_arms : (ts : Trees) → NamedArms ts
+    named_arms : (ts : Decisions) → NamedArms ts
     named_arms no_tree = none_named
     named_arms (tree_then t ts) = arms_named t ts (named_tree t) (named_arms ts)
 
@@ -211,7 +211,7 @@ same_row : (x y : Choice) → Some x ≡ Some y → (x.0 == y.0) ≡ true
 same_row x y h = let e : x.0 ≡ y.0 = ap (λ z. z.0) (some_choice x y h) in rw e (equal_itself y.0)
 
 mutual
-  pub picked_named : (t : Tree) (v : Value) (c : Choice) → picks t v ≡ Some c → names t c.0 ≡ true
+  pub picked_named : (t : Decision) (v : Value) (c : Choice) → picks t v ≡ Some c → names t c.0 ≡ true
   picked_named (row n binds) v c h = same_row (n, binds) c h
   picked_named (on_flag at a b) v c h =
       ⊎_elim (λ e. or_left (names a c.0) (names b c.0) (picked_named a v c e)) (λ e. or_right (names a c.0) (names b c.0) (picked_named b v c e)) (flag_picked (value_at v at) (picks a v) (picks b v) c h)
@@ -219,7 +219,7 @@ mutual
       ⊎_elim (λ e. or_left (names a c.0) (names b c.0) (picked_named a v c e)) (λ e. or_right (names a c.0) (names b c.0) (picked_named b v c e)) (word_picked (value_at v at) n (picks a v) (picks b v) c h)
   picked_named (on_case at arms) v c h = let p = case_picked (case_at (value_at v at)) (λ i. arm_at arms i v) c h in picked_arms arms p.0 v c p.1
 
-  picked_arms : (ts : Trees) (i : ℕ) (v : Value) (c : Choice) → arm_at ts i v ≡ Some c → some_names ts c.0 ≡ true
+  picked_arms : (ts : Decisions) (i : ℕ) (v : Value) (c : Choice) → arm_at ts i v ≡ Some c → some_names ts c.0 ≡ true
   picked_arms no_tree i v c h = absurd (cc)
   picked_arms (tree_then t ts) zero v c h = or_left (names t c.0) (some_names ts c.0) (picked_named t v c h)
   picked_arms (tree_then t ts) (suc i) v c h = or_right (names t c.0) (some_names ts c.0) (picked_arms ts i v c h)

@@ -4,7 +4,7 @@ use Rattle.std.proofs.lemmas.Bool.Decides.{nat_tests}
 use Rattle.tsl_match.specs.declared.shape.Shape.{Shape}
 use Rattle.tsl_match.specs.declared.shape.Shape.TheVariants.{Bool as Flag, Word, Data}
 use Rattle.tsl_match.specs.Values.{Value, Values, flag, word, made, no_value, value_then}
-use Rattle.tsl_match.specs.Patterns.{Pat, Pats, flag_is, word_is, case_is, pat_then}
+use Rattle.tsl_match.specs.Patterns.{Pattern, Patterns, flag_is, word_is, case_is, pat_then}
 use Rattle.tsl_match.specs.Shapes.{Types, fields_of, HasShape}
 use Rattle.tsl_match.specs.Meets.{meets, all_meet}
 use Rattle.tsl_match.specs.Knowledge.{Knowledge, Parts, unknown, flag_known, word_known, others, case_known, no_part, part_then}
@@ -64,7 +64,7 @@ apart_words n m ns false e h g = refl
 module _ (types : Types) where
   mutual
     -- A pattern that can't match what is known isn't met.
-    pub never : (p : Pat) (k : Knowledge) (v : Value) → can_match p k ≡ false → Fits types k v → meets p v ≡ false
+    pub never : (p : Pattern) (k : Knowledge) (v : Value) → can_match p k ≡ false → Fits types k v → meets p v ≡ false
     never (flag_is b) (flag_known c) v h fits = rw fits h
     never (word_is n) (word_known m) v h fits = rw fits h
     never (word_is n) (others w ns) (word m) h fits = apart_words n m ns (n == m) refl (not_false (is_among n ns) h) fits.1
@@ -74,7 +74,7 @@ module _ (types : Types) where
     never (case_is c ps) (case_known d ks) v h fits = absurd fits
     never p k v h fits = absurd (cc)
 
-    all_never : (ps : Pats) (ks : Parts) (vs : Values) → all_can_match ps ks ≡ false → AllFit types ks vs → all_meet ps vs ≡ false
+    all_never : (ps : Patterns) (ks : Parts) (vs : Values) → all_can_match ps ks ≡ false → AllFit types ks vs → all_meet ps vs ≡ false
     all_never (pat_then p ps) (part_then k ks) (value_then v vs) h fits =
         one_false (meets p v) (all_meet ps vs) (⊎_elim (λ x. inl (never p k v x fits.0)) (λ x. inr (all_never ps ks vs x fits.1)) (and_false (can_match p k) (all_can_match ps ks) h))
     all_never (pat_then p ps) (part_then k ks) no_value h fits = absurd fits

@@ -4,14 +4,16 @@ use Rattle.std.proofs.lemmas.List.Elements.{All-head, All-tail}
 use Rattle.tsl_match.specs.declared.shape.Shape.{Shape}
 use Rattle.tsl_match.specs.declared.shape.Shape.TheVariants.{Bool as Flag, Word, Data, Opaque}
 use Rattle.tsl_match.specs.declared.pattern.Pattern.{Pattern}
-use Rattle.tsl_match.specs.Patterns.{Pat, Pats, any, bind, flag_is, word_is, case_is, no_pat, pat_then, pats_len}
+use Rattle.tsl_match.specs.Patterns as plain
+use Rattle.tsl_match.specs.Patterns.{any, bind, flag_is, word_is, case_is, no_pat, pat_then, pats_len}
 use Rattle.tsl_match.specs.Shapes.{Types, Suits, AllSuit, AreTypes, IsShape, AreShapes}
 use Rattle.tsl_match.specs.Picks.{Row, numbered}
-use Rattle.tsl_match.specs.Knowledge.{Knowledge, unknown}
+use Rattle.tsl_match.specs.Knowledge as plain_knowledge
+use Rattle.tsl_match.specs.Knowledge.{unknown}
 use Rattle.tsl_match.specs.Rule.{can_match}
-use Rattle.tsl_match.specs.declared.knowledge.Known.{Unknown, fold-roll-Known}
-use Rattle.tsl_match.specs.declared.knowledge.Known.TheOpen.{Known-F}
-use Rattle.tsl_match.specs.declared.knowledge.Known.TheVariants.{rolls-Unknown}
+use Rattle.tsl_match.specs.declared.knowledge.Knowledge.{Unknown, fold-roll-Knowledge}
+use Rattle.tsl_match.specs.declared.knowledge.Knowledge.TheOpen.{Knowledge-F}
+use Rattle.tsl_match.specs.declared.knowledge.Knowledge.TheVariants.{rolls-Unknown}
 use Rattle.tsl_match.specs.Views.{pat, knowledge, known_step}
 use Rattle.tsl_match.specs.Limits.{ShapeInLimits, ShapesInLimits, TypesInLimits, PatInLimits, PatsInLimits, RowsInLimits, CanAll}
 use Rattle.tsl_match.proofs.Soundness.{RowsSuit}
@@ -30,14 +32,14 @@ module _ (types : Types) where
   pub types_limits : AreTypes types → TypesInLimits types
   types_limits all = record { cases = all.cases; fields = all.fields; shapes = λ t c shapes e. shapes_limits shapes (all.shapes t c shapes e) }
 
-  suit_len : (shapes : List Shape) (ps : Pats) → AllSuit types shapes ps → pats_len ps ≡ length shapes
+  suit_len : (shapes : List Shape) (ps : plain.Patterns) → AllSuit types shapes ps → pats_len ps ≡ length shapes
   suit_len [] no_pat h = refl
   suit_len (s ∷ shapes) (pat_then p ps) h = ap suc (suit_len shapes ps h.1)
   suit_len [] (pat_then p ps) h = absurd h
   suit_len (s ∷ shapes) no_pat h = absurd h
 
   mutual
-    pub suit_limits : AreTypes types → (s : Shape) (p : Pat) → Suits types s p → PatInLimits p
+    pub suit_limits : AreTypes types → (s : Shape) (p : plain.Pattern) → Suits types s p → PatInLimits p
     suit_limits all (Data t) (case_is c ps) h = (rw (suit_len h.0 ps h.2) (all.fields t c h.0 h.1), suits_limits all h.0 ps h.2)
     suit_limits all Flag (case_is c ps) h = absurd h
     suit_limits all (Word w) (case_is c ps) h = absurd h
@@ -47,7 +49,7 @@ module _ (types : Types) where
     suit_limits all s (flag_is b) h = tt
     suit_limits all s (word_is n) h = tt
 
-    suits_limits : AreTypes types → (shapes : List Shape) (ps : Pats) → AllSuit types shapes ps → PatsInLimits ps
+    suits_limits : AreTypes types → (shapes : List Shape) (ps : plain.Patterns) → AllSuit types shapes ps → PatsInLimits ps
     suits_limits all [] no_pat h = tt
     suits_limits all (s ∷ shapes) (pat_then p ps) h = (suit_limits all s p h.0, suits_limits all shapes ps h.1)
     suits_limits all [] (pat_then p ps) h = absurd h
@@ -61,7 +63,7 @@ module _ (types : Types) where
   rows_limits all s [] h = tt
   rows_limits all s (r ∷ rows) h = (suit_limits all s r.1 h.0, rows_limits all s rows h.1)
 
-can_unknown : (p : Pat) (s : Shape) → can_match p (unknown s) ≡ true
+can_unknown : (p : plain.Pattern) (s : Shape) → can_match p (unknown s) ≡ true
 can_unknown any s = refl
 can_unknown (bind n) s = refl
 can_unknown (flag_is b) s = refl
@@ -73,4 +75,4 @@ can_all_unknown [] s = tt
 can_all_unknown (r ∷ rows) s = (can_unknown r.1 s, can_all_unknown rows s)
 
 pub known_Unknown : (s : Shape) → knowledge (Unknown s) ≡ unknown s
-known_Unknown s = ap knowledge (sym (rolls-Unknown s)) ∙ fold-roll-Known Knowledge known_step (Known-F.Unknown s)
+known_Unknown s = ap knowledge (sym (rolls-Unknown s)) ∙ fold-roll-Knowledge plain_knowledge.Knowledge known_step (Knowledge-F.Unknown s)

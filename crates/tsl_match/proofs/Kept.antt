@@ -4,7 +4,7 @@ use Rattle.word_ops.specs.Width.{IsWidth}
 use Rattle.std.proofs.lemmas.List.{length-map}
 use Rattle.tsl_match.specs.declared.shape.Shape.{Shape}
 use Rattle.tsl_match.specs.Values.{Place}
-use Rattle.tsl_match.specs.Patterns.{Pat, Pats, case_is, pat_then}
+use Rattle.tsl_match.specs.Patterns.{Pattern, Patterns, case_is, pat_then}
 use Rattle.tsl_match.specs.Shapes.{Types, cases_of}
 use Rattle.tsl_match.specs.Picks.{Row}
 use Rattle.tsl_match.specs.Knowledge.{Knowledge, Parts, unknown, case_known, no_part, part_then, unknowns, put, put_part}
@@ -40,12 +40,12 @@ test_here_limits k (word_test w ns n) (inr before) h = rw before.0 at h
 test_here_limits k (case_test t) before h = tt
 
 mutual
-  pub test_limits : (p : Pat) (k : Knowledge) (at : Place) (test : Test) → Opens p k at test → InLimits k → TestInLimits test
+  pub test_limits : (p : Pattern) (k : Knowledge) (at : Place) (test : Test) → Opens p k at test → InLimits k → TestInLimits test
   test_limits p k [] test opens h = test_here_limits k test opens.1 h
   test_limits (case_is c ps) (case_known d ks) (step ∷ at) test opens h = test_in_limits ps ks step.1 at test opens.1 h.1
   test_limits p k (step ∷ at) test opens h = absurd opens
 
-  test_in_limits : (ps : Pats) (ks : Parts) (i : ℕ) (at : Place) (test : Test) → OpensIn ps ks i at test → AllInLimits ks → TestInLimits test
+  test_in_limits : (ps : Patterns) (ks : Parts) (i : ℕ) (at : Place) (test : Test) → OpensIn ps ks i at test → AllInLimits ks → TestInLimits test
   test_in_limits (pat_then p ps) (part_then k ks) zero at test opens h = test_limits p k at test opens h.0
   test_in_limits (pat_then p ps) (part_then k ks) (suc i) at test opens h = test_in_limits ps ks i at test opens h.1
   test_in_limits _ _ i at test opens h = absurd opens

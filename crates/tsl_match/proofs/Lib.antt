@@ -15,6 +15,7 @@ pub mod Soundness
 pub mod Filled
 pub mod Failing
 pub mod Granted
+pub mod Grown
 pub mod Answering
 pub mod OneAnswer
 pub mod Decided

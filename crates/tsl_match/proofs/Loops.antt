@@ -8,12 +8,14 @@ use Rattle.tsl_match.specs.declared.shape.Sig.{Sig}
 use Rattle.tsl_match.specs.declared.pattern.Pattern.{Pattern, Bind, fold-roll-Pattern}
 use Rattle.tsl_match.specs.declared.pattern.Pattern.TheOpen.{Pattern-F}
 use Rattle.tsl_match.specs.declared.pattern.Pattern.TheVariants.{rolls-Bind}
-use Rattle.tsl_match.specs.declared.knowledge.Known.{Known}
+use Rattle.tsl_match.specs.declared.knowledge.Knowledge.{Knowledge}
 use Rattle.tsl_match.specs.Shapes.{cases_of}
 use Rattle.tsl_match.specs.Views.{types, pat, knowledge, pattern_step}
-use Rattle.tsl_match.specs.Patterns.{pats, pats_len, Pats, no_pat}
-use Rattle.tsl_match.specs.Patterns.{Pat, pat_then, bind}
-use Rattle.tsl_match.specs.Knowledge.{Knowledge, parts, no_part}
+use Rattle.tsl_match.specs.Patterns as plain
+use Rattle.tsl_match.specs.Patterns.{pats, pats_len, no_pat}
+use Rattle.tsl_match.specs.Patterns.{pat_then, bind}
+use Rattle.tsl_match.specs.Knowledge as plain_knowledge
+use Rattle.tsl_match.specs.Knowledge.{parts, no_part}
 use Rattle.tsl_match.specs.Limits.{parts_len}
 use Rattle.tsl_match.specs.Rule.{example, examples, all_can_match, first_below, Found, is_among, least_from}
 
@@ -24,15 +26,15 @@ drop_here xs i x e h = rw (add-one, drop-cons xs i x h, ← e) refl
 pub pushed : {X A : Type 0} (f : X → A) (out : List X) (r : X) (rest : List A) → map f (out ++ r ∷ []) ++ rest ≡ map f out ++ f r ∷ rest
 pushed f out r rest = rw map-append (append_assoc (map f out) (f r ∷ []) rest)
 
-pub parts_len-parts : (ks : List Knowledge) → parts_len (parts ks) ≡ length ks
+pub parts_len-parts : (ks : List plain_knowledge.Knowledge) → parts_len (parts ks) ≡ length ks
 parts_len-parts [] = refl
 parts_len-parts (k ∷ ks) = ap suc (parts_len-parts ks)
 
-pub pats_len-pats : (ps : List Pat) → pats_len (pats ps) ≡ length ps
+pub pats_len-pats : (ps : List plain.Pattern) → pats_len (pats ps) ≡ length ps
 pats_len-pats [] = refl
 pats_len-pats (p ∷ ps) = ap suc (pats_len-pats ps)
 
-pub examples-parts : (ks : List Knowledge) → examples (parts ks) ≡ pats (map example ks)
+pub examples-parts : (ks : List plain_knowledge.Knowledge) → examples (parts ks) ≡ pats (map example ks)
 examples-parts [] = refl
 examples-parts (k ∷ ks) = ap (λ ps. pat_then (example k) ps) (examples-parts ks)
 
@@ -40,19 +42,19 @@ examples-parts (k ∷ ks) = ap (λ ps. pat_then (example k) ps) (examples-parts 
 two_ended : {X Y : Type 0} (xs : List X) (ys : List Y) (i : ℕ) → min (length xs) (length ys) ≤ i → (drop i xs ≡ []) ⊎ (drop i ys ≡ [])
 two_ended xs ys i h = ⊎_elim (λ l. inr (drop_all i ys (omega arith))) (λ l. inl (drop_all i xs l)) (cases_lt i (length xs))
 
-can_match_none : (ps : Pats) → all_can_match ps no_part ≡ true
+can_match_none : (ps : plain.Patterns) → all_can_match ps no_part ≡ true
 can_match_none no_pat = refl
 can_match_none (pat_then p ps) = refl
 
-below_none : (best : Option Found) (d i : ℕ) (ps : Pats) → first_below best d i ps no_part ≡ best
+below_none : (best : Option Found) (d i : ℕ) (ps : plain.Patterns) → first_below best d i ps no_part ≡ best
 below_none best d i no_pat = refl
 below_none best d i (pat_then p ps) = refl
 
-pub can_match_end : (xs : List Pattern) (ys : List Known) (i : ℕ) → min (length xs) (length ys) ≤ i → all_can_match (pats (map pat (drop i xs))) (parts (map knowledge (drop i ys))) ≡ true
+pub can_match_end : (xs : List Pattern) (ys : List Knowledge) (i : ℕ) → min (length xs) (length ys) ≤ i → all_can_match (pats (map pat (drop i xs))) (parts (map knowledge (drop i ys))) ≡ true
 can_match_end xs ys i h =
     ⊎_elim (λ e. rw e refl) (λ e. rw e (can_match_none (pats (map pat (drop i xs))))) (two_ended xs ys i h)
 
-pub below_end : (best : Option Found) (d j : ℕ) (xs : List Pattern) (ys : List Known) (i : ℕ) → min (length xs) (length ys) ≤ i
+pub below_end : (best : Option Found) (d j : ℕ) (xs : List Pattern) (ys : List Knowledge) (i : ℕ) → min (length xs) (length ys) ≤ i
     → first_below best d j (pats (map pat (drop i xs))) (parts (map knowledge (drop i ys))) ≡ best
 below_end best d j xs ys i h =
     ⊎_elim (λ e. rw e refl) (λ e. rw e (below_none best d j (pats (map pat (drop i xs))))) (two_ended xs ys i h)
@@ -75,4 +77,4 @@ cases_past sig t h =
     ap (λ o. unwrap_or o []) (slice_get-map (λ ks. map (λ c. c.items) ks.items) sig.datas.items t ∙ ap (option_map (λ ks. map (λ c. c.items) ks.items)) (slice_get_past sig.datas.items t h))
 
 pub pat_Bind : (n : ℕ) → pat (Bind n) ≡ bind n
-pat_Bind n = ap pat (sym (rolls-Bind n)) ∙ fold-roll-Pattern Pat pattern_step (Pattern-F.Bind n)
+pat_Bind n = ap pat (sym (rolls-Bind n)) ∙ fold-roll-Pattern plain.Pattern pattern_step (Pattern-F.Bind n)

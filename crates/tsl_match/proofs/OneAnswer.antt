@@ -2,11 +2,11 @@
 use Rattle.std.proofs.Common.{◌≡◌, ℕ, ◌⊎◌, inl, inr, true, false, Option, Some, List, [], ◌∷◌, ◌++◌, refl, sym, ap, ◌∙◌, subst}
 use Rattle.tsl_match.specs.Knowledge.{Knowledge, flag_known, word_known, others, put}
 use Rattle.tsl_match.specs.Laws.{RuleIsSettled}
-use Rattle.tsl_match.specs.Patterns.{Pat}
+use Rattle.tsl_match.specs.Patterns.{Pattern}
 use Rattle.tsl_match.specs.Picks.{Row}
 use Rattle.tsl_match.specs.Rule.{Found, Test, flag_test, word_test, case_test, first_test, still, made_known, outcomes, example, IsTree, AreTrees, Fails, no_row, after_test}
 use Rattle.tsl_match.specs.Shapes.{Types, cases_of}
-use Rattle.tsl_match.specs.Decisions.{Tree, Trees, row, on_case, on_word, on_flag, no_tree, tree_then}
+use Rattle.tsl_match.specs.Decisions.{Decision, Decisions, row, on_case, on_word, on_flag, no_tree, tree_then}
 use Rattle.tsl_match.specs.Values.{Place}
 
 -- ---- what two answers of one search agree on
@@ -33,11 +33,11 @@ same_type t u h = cc
 
 module _ (types : Types) where
   -- a tree for what a test shows
-  abbrev IsUnder : List Row → Knowledge → Place → Knowledge → Tree → Type 0
+  abbrev IsUnder : List Row → Knowledge → Place → Knowledge → Decision → Type 0
   IsUnder rows k at there t = IsTree types (still rows (put k at there)) (put k at there) t
 
   mutual
-    one_tree : (rows : List Row) (k : Knowledge) (t u : Tree) → IsTree types rows k t → IsTree types rows k u → t ≡ u
+    one_tree : (rows : List Row) (k : Knowledge) (t u : Decision) → IsTree types rows k t → IsTree types rows k u → t ≡ u
     one_tree [] k t u h g = absurd h
     one_tree (first ∷ rest) k (row r binds) (row s named) h g = rw (h.1, h.2, g.1, g.2) refl
     one_tree (first ∷ rest) k (row r binds) (on_flag at a b) h g = cc
@@ -77,7 +77,7 @@ module _ (types : Types) where
         let same = one_trees (first ∷ rest) k at (made_known 0 (cases_of types h.0)) arms more h.2 (subst (λ z. AreTrees types (first ∷ rest) k at (made_known 0 (cases_of types z)) more) (sym type) there) in
         rw (place, same) refl
 
-    one_trees : (rows : List Row) (k : Knowledge) (at : Place) (os : List Knowledge) (ts us : Trees) → AreTrees types rows k at os ts → AreTrees types rows k at os us → ts ≡ us
+    one_trees : (rows : List Row) (k : Knowledge) (at : Place) (os : List Knowledge) (ts us : Decisions) → AreTrees types rows k at os ts → AreTrees types rows k at os us → ts ≡ us
     one_trees rows k at [] no_tree no_tree h g = refl
     one_trees rows k at [] no_tree (tree_then u us) h g = absurd g
     one_trees rows k at [] (tree_then t ts) us h g = absurd h
@@ -88,9 +88,9 @@ module _ (types : Types) where
 
   -- ---- a tree has a tree for all that its test may show
   abbrev HasArms : List Row → Knowledge → Place → Test → Type 0
-  HasArms rows k at test = (ts : Trees) × AreTrees types rows k at (outcomes types test) ts
+  HasArms rows k at test = (ts : Decisions) × AreTrees types rows k at (outcomes types test) ts
 
-  arms_of : (first : Row) (rest : List Row) (k : Knowledge) (t : Tree) (at : Place) (test : Test) → IsTree types (first ∷ rest) k t → first_test first.1 k ≡ Some (at, test) → HasArms (first ∷ rest) k at test
+  arms_of : (first : Row) (rest : List Row) (k : Knowledge) (t : Decision) (at : Place) (test : Test) → IsTree types (first ∷ rest) k t → first_test first.1 k ≡ Some (at, test) → HasArms (first ∷ rest) k at test
   arms_of first rest k (row r binds) at test h asks = cc
   arms_of first rest k (on_flag other a b) at test h asks =
       let place = same_place (first_test first.1 k) other at flag_test test h.0 asks in
@@ -105,13 +105,13 @@ module _ (types : Types) where
       let same = same_test (first_test first.1 k) other at (case_test h.0) test h.1 asks in
       subst (λ z. HasArms (first ∷ rest) k at z) same (subst (λ z. HasArms (first ∷ rest) k z (case_test h.0)) place (arms, h.2))
 
-  arm_for : (rows : List Row) (k there : Knowledge) (at : Place) (earlier later : List Knowledge) (ts : Trees) → AreTrees types rows k at (earlier ++ there ∷ later) ts → (t : Tree) × IsUnder rows k at there t
+  arm_for : (rows : List Row) (k there : Knowledge) (at : Place) (earlier later : List Knowledge) (ts : Decisions) → AreTrees types rows k at (earlier ++ there ∷ later) ts → (t : Decision) × IsUnder rows k at there t
   arm_for rows k there at [] later no_tree h = absurd h
   arm_for rows k there at [] later (tree_then t ts) h = (t, h.0)
   arm_for rows k there at (o ∷ earlier) later no_tree h = absurd h
   arm_for rows k there at (o ∷ earlier) later (tree_then t ts) h = arm_for rows k there at earlier later ts h.1
 
-  not_both : (rows : List Row) (k : Knowledge) (p : Pat) (t : Tree) → Fails types rows k p → IsTree types rows k t → ⊥
+  not_both : (rows : List Row) (k : Knowledge) (p : Pattern) (t : Decision) → Fails types rows k p → IsTree types rows k t → ⊥
   not_both _ _ _ t (no_row k) h = h
   not_both _ _ _ t (after_test first rest k there at test earlier later ts p asks split are fails) h =
       let arms = arms_of first rest k t at test h asks in
@@ -137,31 +137,31 @@ module _ (types : Types) where
       sorted same (inr (inr l)) = inr (inr (l.0, rw (same, l.1) refl))
 
   -- a failure where no row is left
-  example_of : (k : Knowledge) (p : Pat) (rows : List Row) → rows ≡ [] → Fails types rows k p → p ≡ example k
+  example_of : (k : Knowledge) (p : Pattern) (rows : List Row) → rows ≡ [] → Fails types rows k p → p ≡ example k
   example_of _ _ _ none (no_row k) = refl
   example_of _ _ _ none (after_test first rest k there at test earlier later ts p asks split are fails) = cc
 
   -- a failure after a test
-  record IsAfter (first : Row) (rest : List Row) (k : Knowledge) (p : Pat) : Type 0 where
+  record IsAfter (first : Row) (rest : List Row) (k : Knowledge) (p : Pattern) : Type 0 where
     there : Knowledge
     at : Place
     test : Test
     earlier : List Knowledge
     later : List Knowledge
-    ts : Trees
+    ts : Decisions
     asks : first_test first.1 k ≡ Some (at, test)
     split : outcomes types test ≡ earlier ++ there ∷ later
     are : AreTrees types (first ∷ rest) k at earlier ts
     fails : Fails types (still (first ∷ rest) (put k at there)) (put k at there) p
 
-  after_of : (first : Row) (rest rows : List Row) (k : Knowledge) (p : Pat) → rows ≡ first ∷ rest → Fails types rows k p → IsAfter first rest k p
+  after_of : (first : Row) (rest rows : List Row) (k : Knowledge) (p : Pattern) → rows ≡ first ∷ rest → Fails types rows k p → IsAfter first rest k p
   after_of first rest _ _ _ some (no_row k) = cc
   after_of first rest _ _ _ some (after_test head tail k there at test earlier later ts p asks split are fails) =
       let one : head ≡ first = cc in
       let same : tail ≡ rest = cc in
       rw (sym one, sym same) (record { there = there; at = at; test = test; earlier = earlier; later = later; ts = ts; asks = asks; split = split; are = are; fails = fails })
 
-  one_example : (rows : List Row) (k : Knowledge) (p q : Pat) → Fails types rows k p → Fails types rows k q → p ≡ q
+  one_example : (rows : List Row) (k : Knowledge) (p q : Pattern) → Fails types rows k p → Fails types rows k q → p ≡ q
   one_example _ _ _ q (no_row k) g = sym (example_of k q [] refl g)
   one_example _ _ _ q (after_test first rest k there at test earlier later ts p asks split are fails) g =
       let o = after_of first rest (first ∷ rest) k q refl g in
@@ -172,7 +172,7 @@ module _ (types : Types) where
       let fails_too : Fails types (still (first ∷ rest) (put k at o.there)) (put k at o.there) q = subst (λ z. Fails types (still (first ∷ rest) (put k z o.there)) (put k z o.there) q) place o.fails in
       compared o.there o.earlier o.ts are_too fails_too (λ h. one_example (still (first ∷ rest) (put k at there)) (put k at there) p q fails h) (splits there o.there earlier o.earlier later o.later (sym split ∙ split_too))
     where
-      compared : (other : Knowledge) (before : List Knowledge) (us : Trees) → AreTrees types (first ∷ rest) k at before us → Fails types (still (first ∷ rest) (put k at other)) (put k at other) q
+      compared : (other : Knowledge) (before : List Knowledge) (us : Decisions) → AreTrees types (first ∷ rest) k at before us → Fails types (still (first ∷ rest) (put k at other)) (put k at other) q
           → (Fails types (still (first ∷ rest) (put k at there)) (put k at there) q → p ≡ q)
           → (there ≡ other) ⊎ (((later : List Knowledge) × (before ≡ earlier ++ there ∷ later)) ⊎ ((later : List Knowledge) × (earlier ≡ before ++ other ∷ later))) → p ≡ q
       compared other before us are_too fails_too again (inl e) =

@@ -4,7 +4,7 @@ use Rattle.std.proofs.lemmas.Bool.Decides.{nat_tests}
 use Rattle.tsl_match.specs.declared.shape.Shape.{Shape}
 use Rattle.tsl_match.specs.declared.shape.Shape.TheVariants.{Bool as Flag, Word, Data, Opaque}
 use Rattle.tsl_match.specs.Values.{Value, Values, Place, word, made, no_value, value_then, value_at, part_at}
-use Rattle.tsl_match.specs.Patterns.{Pat, Pats, word_is, case_is, pat_then}
+use Rattle.tsl_match.specs.Patterns.{Pattern, Patterns, word_is, case_is, pat_then}
 use Rattle.tsl_match.specs.Shapes.{Types, fields_of, HasShape, Suits, AllSuit}
 use Rattle.tsl_match.specs.Knowledge.{Knowledge, Parts, word_known, others, case_known, part_then, unknowns, put, put_part}
 use Rattle.tsl_match.specs.Rule.{Test, flag_test, word_test, case_test, can_match, all_can_match, is_among}
@@ -51,7 +51,7 @@ module _ (types : Types) where
     pub shows : (o : Knowledge) → Fits types o there → AllFit types (put_part ks i at o) vs
 
   mutual
-    pub reaches : (p : Pat) (k : Knowledge) (v : Value) (at : Place) (test : Test) → Opens p k at test → Fits types k v → Reached k v at test
+    pub reaches : (p : Pattern) (k : Knowledge) (v : Value) (at : Place) (test : Test) → Opens p k at test → Fits types k v → Reached k v at test
     reaches p k v [] test opens fits = record { there = v; is = refl; fits = fits_before k test v opens.1 fits; shows = λ o f. f }
     reaches (case_is c ps) (case_known d ks) (made e vs) (step ∷ at) test opens fits =
         let r = reaches_in ps ks vs step.1 at test opens.1 fits.1 in
@@ -60,7 +60,7 @@ module _ (types : Types) where
     reaches (case_is c ps) (case_known d ks) v (step ∷ at) test opens fits = absurd fits
     reaches p k v (step ∷ at) test opens fits = absurd opens
 
-    reaches_in : (ps : Pats) (ks : Parts) (vs : Values) (i : ℕ) (at : Place) (test : Test) → OpensIn ps ks i at test → AllFit types ks vs → ReachedIn ks vs i at test
+    reaches_in : (ps : Patterns) (ks : Parts) (vs : Values) (i : ℕ) (at : Place) (test : Test) → OpensIn ps ks i at test → AllFit types ks vs → ReachedIn ks vs i at test
     reaches_in (pat_then p ps) (part_then k ks) (value_then v vs) zero at test opens fits =
         let r = reaches p k v at test opens fits.0 in
         record { there = r.there; is = r.is; fits = r.fits; shows = λ o f. (r.shows o f, fits.1) }
@@ -74,7 +74,7 @@ module _ (types : Types) where
   unknown_fields all [] h = tt
   unknown_fields all (s ∷ shapes) h = ((refl, h.0), unknown_fields all shapes h.1)
 
-  known_others : (s : Shape) (p : Pat) (k o : Knowledge) (w : ℕ) (ns : List ℕ) (n : ℕ) → p ≡ word_is n → k ≡ others w ns → length ns + 1 < 2 ^ w → Suits types s p → KnownAs types s k → can_match p k ≡ true
+  known_others : (s : Shape) (p : Pattern) (k o : Knowledge) (w : ℕ) (ns : List ℕ) (n : ℕ) → p ≡ word_is n → k ≡ others w ns → length ns + 1 < 2 ^ w → Suits types s p → KnownAs types s k → can_match p k ≡ true
       → (o ≡ word_known n) ⊎ (o ≡ others w (ns ++ n ∷ [])) → KnownAs types s o
   known_others (Word u) p k o w ns n asks is few suits known can (inl shows) = rw shows (rw asks at suits)
   known_others (Word u) p k o w ns n asks is few suits known can (inr shows) =
@@ -87,7 +87,7 @@ module _ (types : Types) where
   known_others (Data t) p k o w ns n asks is few suits known can shows = absurd (rw asks at suits)
   known_others Opaque p k o w ns n asks is few suits known can shows = absurd (rw asks at suits)
 
-  known_here : TypesInLimits types → (s : Shape) (p : Pat) (k o : Knowledge) (test : Test) → Asks p test → Before test k → Suits types s p → KnownAs types s k → can_match p k ≡ true → Shows types test o → KnownAs types s (put k [] o)
+  known_here : TypesInLimits types → (s : Shape) (p : Pattern) (k o : Knowledge) (test : Test) → Asks p test → Before test k → Suits types s p → KnownAs types s k → can_match p k ≡ true → Shows types test o → KnownAs types s (put k [] o)
   known_here all s p k o flag_test asks before suits known can shows =
       let is = (subst (λ x. KnownAs types s x) before known).0 in
       rw (shows.1, ← is) tt
@@ -105,7 +105,7 @@ module _ (types : Types) where
       rw (shows.3, ← is) (shows.1, shows.2, unknown_fields all shows.1 (all.shapes t shows.0 shows.1 shows.2))
 
   mutual
-    pub known_after : TypesInLimits types → (s : Shape) (p : Pat) (k o : Knowledge) (at : Place) (test : Test) → Opens p k at test → Suits types s p → KnownAs types s k → can_match p k ≡ true → Shows types test o → KnownAs types s (put k at o)
+    pub known_after : TypesInLimits types → (s : Shape) (p : Pattern) (k o : Knowledge) (at : Place) (test : Test) → Opens p k at test → Suits types s p → KnownAs types s k → can_match p k ≡ true → Shows types test o → KnownAs types s (put k at o)
     known_after all s p k o [] test opens suits known can shows = known_here all s p k o test opens.0 opens.1 suits known can shows
     known_after all (Data t) (case_is c ps) (case_known d ks) o (step ∷ at) test opens suits known can shows =
         let same : c ≡ d = equal_numbers c d (and_left (c == d) (all_can_match ps ks) can) in
@@ -114,7 +114,7 @@ module _ (types : Types) where
     known_after all s (case_is c ps) (case_known d ks) o (step ∷ at) test opens suits known can shows = absurd suits
     known_after all s p k o (step ∷ at) test opens suits known can shows = absurd opens
 
-    known_after_in : TypesInLimits types → (shapes : List Shape) (ps : Pats) (ks : Parts) (o : Knowledge) (i : ℕ) (at : Place) (test : Test) → OpensIn ps ks i at test → AllSuit types shapes ps → AllKnownAs types shapes ks → all_can_match ps ks ≡ true → Shows types test o → AllKnownAs types shapes (put_part ks i at o)
+    known_after_in : TypesInLimits types → (shapes : List Shape) (ps : Patterns) (ks : Parts) (o : Knowledge) (i : ℕ) (at : Place) (test : Test) → OpensIn ps ks i at test → AllSuit types shapes ps → AllKnownAs types shapes ks → all_can_match ps ks ≡ true → Shows types test o → AllKnownAs types shapes (put_part ks i at o)
     known_after_in all (s ∷ shapes) (pat_then p ps) (part_then k ks) o zero at test opens suits known can shows =
         (known_after all s p k o at test opens suits.0 known.0 (and_left (can_match p k) (all_can_match ps ks) can) shows, known.1)
     known_after_in all (s ∷ shapes) (pat_then p ps) (part_then k ks) o (suc i) at test opens suits known can shows =

@@ -4,7 +4,7 @@ use Rattle.std.proofs.lemmas.Bool.Decides.{nat_tests}
 use Rattle.tsl_match.specs.declared.shape.Shape.{Shape}
 use Rattle.tsl_match.specs.declared.shape.Shape.TheVariants.{Bool as Flag, Word, Data}
 use Rattle.tsl_match.specs.Values.{Value, Values, word, made, no_value, value_then}
-use Rattle.tsl_match.specs.Patterns.{Pat, Pats, any, bind, flag_is, word_is, case_is, no_pat, pat_then}
+use Rattle.tsl_match.specs.Patterns.{Pattern, Patterns, any, bind, flag_is, word_is, case_is, no_pat, pat_then}
 use Rattle.tsl_match.specs.Shapes.{Types, fields_of, HasShape, Suits, AllSuit}
 use Rattle.tsl_match.specs.Meets.{meets, all_meet}
 use Rattle.tsl_match.specs.Knowledge.{Knowledge, Parts, unknown, flag_known, word_known, others, case_known, no_part, part_then}
@@ -14,7 +14,7 @@ use Rattle.tsl_match.proofs.Numbers.{last_one}
 use Rattle.tsl_match.proofs.Fits.{Fits, AllFit, KnownAs, AllKnownAs}
 
 -- no position in the fields
-abbrev pub NoneIn : Pats → Parts → Type 0
+abbrev pub NoneIn : Patterns → Parts → Type 0
 NoneIn (pat_then p ps) (part_then k ks) = (first_test p k ≡ None) × NoneIn ps ks
 NoneIn _ _ = Unit {0}
 
@@ -37,7 +37,7 @@ map_none : (f : Found → Found) (x : Option Found) → option_map f x ≡ None 
 map_none f None h = refl
 map_none f (Some x) h = absurd (cc)
 
-none_in : (best : Option Found) (d i : ℕ) (ps : Pats) (ks : Parts) → first_below best d i ps ks ≡ None → (best ≡ None) × NoneIn ps ks
+none_in : (best : Option Found) (d i : ℕ) (ps : Patterns) (ks : Parts) → first_below best d i ps ks ≡ None → (best ≡ None) × NoneIn ps ks
 none_in best d i (pat_then p ps) (part_then k ks) h =
     let rest = none_in (outermost best (option_map (below d i) (first_test p k))) d (i + 1) ps ks h in
     let here = outermost_none best (option_map (below d i) (first_test p k)) rest.0 in
@@ -50,7 +50,7 @@ one_left n m w ns true e h = absurd (cc)
 one_left n m w ns false e h = grind (arith, nat_tests)
 
 module _ (types : Types) where
-  settled_unknown : (s : Shape) (p : Pat) (v : Value) → Suits types s p → first_test p (unknown s) ≡ None → HasShape types s v → meets p v ≡ true
+  settled_unknown : (s : Shape) (p : Pattern) (v : Value) → Suits types s p → first_test p (unknown s) ≡ None → HasShape types s v → meets p v ≡ true
   settled_unknown s any v suits none has = refl
   settled_unknown s (bind n) v suits none has = refl
   settled_unknown Flag (flag_is b) v suits none has = absurd (cc)
@@ -66,7 +66,7 @@ module _ (types : Types) where
   settled_others n w u ns v less known absent none fits = absurd fits
 
   mutual
-    pub settled : (s : Shape) (p : Pat) (k : Knowledge) (v : Value) → Suits types s p → KnownAs types s k → can_match p k ≡ true → first_test p k ≡ None → Fits types k v → meets p v ≡ true
+    pub settled : (s : Shape) (p : Pattern) (k : Knowledge) (v : Value) → Suits types s p → KnownAs types s k → can_match p k ≡ true → first_test p k ≡ None → Fits types k v → meets p v ≡ true
     settled s any k v suits known can none fits = refl
     settled s (bind n) k v suits known can none fits = refl
     settled s (flag_is b) (unknown s') v suits known can none fits = settled_unknown s' (flag_is b) v (subst (λ x. Suits types x (flag_is b)) (sym known.0) suits) none fits
@@ -91,7 +91,7 @@ module _ (types : Types) where
     settled (Data t) (case_is c ps) (case_known d ks) v suits known can none fits = absurd fits
     settled s p k v suits known can none fits = absurd suits
 
-    all_settled : (shapes : List Shape) (ps : Pats) (ks : Parts) (vs : Values) → AllSuit types shapes ps → AllKnownAs types shapes ks → all_can_match ps ks ≡ true → NoneIn ps ks → AllFit types ks vs → all_meet ps vs ≡ true
+    all_settled : (shapes : List Shape) (ps : Patterns) (ks : Parts) (vs : Values) → AllSuit types shapes ps → AllKnownAs types shapes ks → all_can_match ps ks ≡ true → NoneIn ps ks → AllFit types ks vs → all_meet ps vs ≡ true
     all_settled [] no_pat no_part no_value suits known can none fits = refl
     all_settled (s ∷ shapes) (pat_then p ps) (part_then k ks) (value_then v vs) suits known can none fits =
         both (meets p v) (all_meet ps vs) (settled s p k v suits.0 known.0 (and_left (can_match p k) (all_can_match ps ks) can) none.0 fits.0)

@@ -7,7 +7,7 @@ use Rattle.tsl_match.specs.Values.{Value, Values, Place, flag, word, made, thing
 use Rattle.tsl_match.specs.Shapes.{Types, fields_of, cases_of, HasShape, HaveShapes, Suits}
 use Rattle.tsl_match.specs.Meets.{meets, bindings}
 use Rattle.tsl_match.specs.Picks.{Row, Choice, first_match, picks, arm_at, case_at, flag_branch}
-use Rattle.tsl_match.specs.Decisions.{Tree, Trees, row, on_case, on_word, on_flag, no_tree, tree_then}
+use Rattle.tsl_match.specs.Decisions.{Decision, Decisions, row, on_case, on_word, on_flag, no_tree, tree_then}
 use Rattle.tsl_match.specs.Knowledge.{Knowledge, flag_known, word_known, others, case_known, unknowns, put}
 use Rattle.tsl_match.specs.Rule.{Test, flag_test, word_test, case_test, can_match, first_test, still, made_known, IsTree, AreTrees}
 use Rattle.tsl_match.specs.Limits.{TypesInLimits, CanAll}
@@ -53,11 +53,11 @@ module _ (types : Types) where
   first_still (r ∷ rows) k v fits = first_more (can_match r.1 k) r (still rows k) rows k v refl fits (first_still rows k v fits)
 
   -- What is to be shown of a tree, for rows and values of a shape.
-  abbrev pub SoundTree : Shape → Tree → Type 0
+  abbrev pub SoundTree : Shape → Decision → Type 0
   SoundTree s t = (rows : List Row) (k : Knowledge) (v : Value) → IsTree types rows k t → RowsSuit s rows → KnownAs types s k → CanAll rows k → Fits types k v → Agree (picks t v) (first_match rows v)
 
   -- where a test shows what the value fits
-  taken : TypesInLimits types → (s : Shape) (first : Row) (rest : List Row) (k o : Knowledge) (at : Place) (test : Test) (t : Tree) (v : Value) → first_test first.1 k ≡ Some (at, test) → Shows types test o
+  taken : TypesInLimits types → (s : Shape) (first : Row) (rest : List Row) (k o : Knowledge) (at : Place) (test : Test) (t : Decision) (v : Value) → first_test first.1 k ≡ Some (at, test) → Shows types test o
       → SoundTree s t → IsTree types (still (first ∷ rest) (put k at o)) (put k at o) t → RowsSuit s (first ∷ rest) → KnownAs types s k → CanAll (first ∷ rest) k → Fits types (put k at o) v
       → Agree (picks t v) (first_match (first ∷ rest) v)
   taken all s first rest k o at test t v found shows ih is suit known can fits =
@@ -94,7 +94,7 @@ module _ (types : Types) where
   row_step s r binds (first ∷ rest) k v is suit known can fits =
       ((r, binds), refl, rw (is.1, is.2, settled types s first.1 k v suit.0 known can.0 is.0 fits) refl)
 
-  flag_step : TypesInLimits types → (s : Shape) (at : Place) (a b : Tree) → SoundTree s a → SoundTree s b → SoundTree s (on_flag at a b)
+  flag_step : TypesInLimits types → (s : Shape) (at : Place) (a b : Decision) → SoundTree s a → SoundTree s b → SoundTree s (on_flag at a b)
   flag_step all s at a b ha hb [] k v is suit known can fits = absurd is
   flag_step all s at a b ha hb (first ∷ rest) k v is suit known can fits =
       let r = reaches types first.1 k v at flag_test (first_opens first.1 k (at, flag_test) is.0) fits in
@@ -103,7 +103,7 @@ module _ (types : Types) where
       (λ e. taken all s first rest k (flag_known true) at flag_test a v is.0 (true, refl) ha is.1 suit known can (r.shows (flag_known true) (u.1 ∙ ap flag e)))
       (λ e. taken all s first rest k (flag_known false) at flag_test b v is.0 (false, refl) hb is.2 suit known can (r.shows (flag_known false) (u.1 ∙ ap flag e))))
 
-  word_step : TypesInLimits types → (s : Shape) (at : Place) (n : ℕ) (a b : Tree) → SoundTree s a → SoundTree s b → SoundTree s (on_word at n a b)
+  word_step : TypesInLimits types → (s : Shape) (at : Place) (n : ℕ) (a b : Decision) → SoundTree s a → SoundTree s b → SoundTree s (on_word at n a b)
   word_step all s at n a b ha hb [] k v is suit known can fits = absurd is
   word_step all s at n a b ha hb (first ∷ rest) k v is suit known can fits =
       let w = is.0 in
@@ -116,7 +116,7 @@ module _ (types : Types) where
       (r.shows (others w (ns ++ n ∷ [])) (subst (λ x. Fits types (others w (ns ++ n ∷ [])) x) (sym r.fits.1) (r.fits.2, among_push m n ns r.fits.3 (flip m n e))))))
 
   -- of the arms from number n on
-  abbrev pub SoundArms : Shape → Trees → Type 0
+  abbrev pub SoundArms : Shape → Decisions → Type 0
   SoundArms s ts = (first : Row) (rest : List Row) (k : Knowledge) (at : Place) (t n : ℕ) (cases : List (List Shape)) (c : ℕ) (shapes : List Shape) (v : Value)
       → first_test first.1 k ≡ Some (at, case_test t) → AreTrees types (first ∷ rest) k at (made_known n cases) ts → slice_get cases c ≡ Some shapes → fields_of types t (n + c) ≡ Some shapes
       → RowsSuit s (first ∷ rest) → KnownAs types s k → CanAll (first ∷ rest) k → Fits types (put k at (case_known (n + c) (unknowns shapes))) v → Agree (arm_at ts c v) (first_match (first ∷ rest) v)
@@ -125,7 +125,7 @@ module _ (types : Types) where
   none_step s first rest k at ty n [] c shapes v found are here field suit known can fits = absurd (cc)
   none_step s first rest k at ty n (fields ∷ cases) c shapes v found are here field suit known can fits = absurd are
 
-  arms_step : TypesInLimits types → (s : Shape) (t : Tree) (ts : Trees) → SoundTree s t → SoundArms s ts → SoundArms s (tree_then t ts)
+  arms_step : TypesInLimits types → (s : Shape) (t : Decision) (ts : Decisions) → SoundTree s t → SoundArms s ts → SoundArms s (tree_then t ts)
   arms_step all s t ts h hs first rest k at ty n [] c shapes v found are here field suit known can fits = absurd are
   arms_step all s t ts h hs first rest k at ty n (fields ∷ cases) zero shapes v found are here field suit known can fits =
       let same : fields ≡ shapes = some_shapes _ _ here in
@@ -135,7 +135,7 @@ module _ (types : Types) where
       let same : n + suc c ≡ n + 1 + c = omega arith in
       hs first rest k at ty (n + 1) cases c shapes v found are.1 here (rw same at field) suit known can (rw same at fits)
 
-  case_step : TypesInLimits types → (s : Shape) (at : Place) (arms : Trees) → SoundArms s arms → SoundTree s (on_case at arms)
+  case_step : TypesInLimits types → (s : Shape) (at : Place) (arms : Decisions) → SoundArms s arms → SoundTree s (on_case at arms)
   case_step all s at arms h [] k v is suit known can fits = absurd is
   case_step all s at arms h (first ∷ rest) k v is suit known can fits =
       let r = reaches types first.1 k v at (case_test is.0) (first_opens first.1 k (at, case_test is.0) is.1) fits in
@@ -147,12 +147,12 @@ module _ (types : Types) where
       rw r.is (subst (λ x. Agree (option_and_then (λ c. arm_at arms c v) (case_at (Some x))) (first_match (first ∷ rest) v)) (sym u.3) arm)
 
   mutual
-    pub sound : TypesInLimits types → (s : Shape) (t : Tree) → SoundTree s t
+    pub sound : TypesInLimits types → (s : Shape) (t : Decision) → SoundTree s t
     sound all s (row r binds) = row_step s r binds
     sound all s (on_flag at a b) = flag_step all s at a b (sound all s a) (sound all s b)
     sound all s (on_word at n a b) = word_step all s at n a b (sound all s a) (sound all s b)
     sound all s (on_case at arms) = case_step all s at arms (sound_arms all s arms)
 
-    sound_arms : TypesInLimits types → (s : Shape) (ts : Trees) → SoundArms s ts
+    sound_arms : TypesInLimits types → (s : Shape) (ts : Decisions) → SoundArms s ts
     sound_arms all s no_tree = none_step s
     sound_arms all s (tree_then t ts) = arms_step all s t ts (sound all s t) (sound_arms all s ts)

@@ -3,24 +3,24 @@
 use Rattle.std.specs.Prelude.{ℕ, zero, suc, ◌+◌, Option, Some, None, List, [], ◌∷◌, ◌++◌, length, if◌then◌else◌}
 use Rattle.tsl_match.specs.declared.shape.Shape.{Shape}
 use Rattle.tsl_match.specs.Values.{Place}
-use Rattle.tsl_match.specs.Patterns.{Pat, Pats, any, flag_is, word_is, case_is, no_pat, pat_then}
+use Rattle.tsl_match.specs.Patterns.{Pattern, Patterns, any, flag_is, word_is, case_is, no_pat, pat_then}
 use Rattle.tsl_match.specs.Shapes.{Types}
 use Rattle.tsl_match.specs.Meets.{bindings}
 use Rattle.tsl_match.specs.Picks.{Row, numbered}
-use Rattle.tsl_match.specs.Decisions.{Tree, trees, row, on_case, on_word, on_flag}
+use Rattle.tsl_match.specs.Decisions.{Decision, trees, row, on_case, on_word, on_flag}
 use Rattle.tsl_match.specs.Knowledge.{Knowledge, unknown, put}
 use Rattle.tsl_match.specs.Rule.{Test, Found, flag_test, word_test, case_test, first_test, outcomes, still, example}
 use Rattle.tsl_match.specs.Names.{names}
 
 -- a tree, the example of the first failure, or more tests than were looked at
 pub data Decided : Type 0 where
-  tree : Tree → Decided
-  fails : Pat → Decided
+  tree : Decision → Decided
+  fails : Pattern → Decided
   deeper : Decided
 
 pub data Arms : Type 0 where
-  made : List Tree → Arms
-  missing : Pat → Arms
+  made : List Decision → Arms
+  missing : Pattern → Arms
   cut : Arms
 
 abbrev pub arm_before : Decided → Arms → Arms
@@ -34,7 +34,7 @@ abbrev pub all_arms : (Knowledge → Decided) → List Knowledge → Arms
 all_arms f [] = made []
 all_arms f (k ∷ ks) = arm_before (f k) (all_arms f ks)
 
-abbrev pub node : Place → Test → List Tree → Decided
+abbrev pub node : Place → Test → List Decision → Decided
 node at (word_test w ns n) (a ∷ (b ∷ [])) = tree (on_word at n a b)
 node at flag_test (a ∷ (b ∷ [])) = tree (on_flag at a b)
 node at (case_test t) ts = tree (on_case at (trees ts))
@@ -63,16 +63,16 @@ decided types (suc n) rows k = next types (decided types n) rows k (test_of rows
 
 -- What a match leads to.
 pub data MatchAnswer : Type 0 where
-  decision : Tree → MatchAnswer
-  not_exhaustive : Pat → MatchAnswer
+  decision : Decision → MatchAnswer
+  not_exhaustive : Pattern → MatchAnswer
   useless : ℕ → MatchAnswer
 
 -- the first of n rows from r on that a tree doesn't name
-abbrev pub first_unnamed : Tree → ℕ → ℕ → Option ℕ
+abbrev pub first_unnamed : Decision → ℕ → ℕ → Option ℕ
 first_unnamed t r zero = None
 first_unnamed t r (suc n) = if names t r then first_unnamed t (r + 1) n else Some r
 
-abbrev pub with_rows : Tree → Option ℕ → MatchAnswer
+abbrev pub with_rows : Decision → Option ℕ → MatchAnswer
 with_rows t None = decision t
 with_rows t (Some r) = useless r
 
@@ -83,20 +83,20 @@ answer_by (tree t) n = with_rows t (first_unnamed t 0 n)
 
 abbrev mutual
   -- how many positions of a pattern may be tested
-  pub size : Pat → ℕ
+  pub size : Pattern → ℕ
   size (flag_is b) = 1
   size (word_is n) = 1
   size (case_is c ps) = suc (sizes ps)
   size _ = 0
 
-  pub sizes : Pats → ℕ
+  pub sizes : Patterns → ℕ
   sizes no_pat = 0
   sizes (pat_then p ps) = size p + sizes ps
 
 -- how many positions of rows may be tested: each test is one of them
-abbrev pub all_sizes : List Pat → ℕ
+abbrev pub all_sizes : List Pattern → ℕ
 all_sizes [] = 0
 all_sizes (p ∷ rows) = size p + all_sizes rows
 
-unfoldable pub match_answer : Types → Shape → List Pat → MatchAnswer
+unfoldable pub match_answer : Types → Shape → List Pattern → MatchAnswer
 match_answer types shape rows = answer_by (decided types (suc (all_sizes rows)) (numbered 0 rows) (unknown shape)) (length rows)

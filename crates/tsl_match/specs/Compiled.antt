@@ -5,27 +5,27 @@ use Rattle.tsl_match.specs.declared.decision.Decision.{Decision}
 use Rattle.tsl_match.specs.declared.match_error.MatchError.{MatchError}
 use Rattle.tsl_match.specs.declared.match_error.MatchError.TheVariants.{NotExhaustive, Useless, NoMemory}
 use Rattle.tsl_match.specs.Values.{Value, Place}
-use Rattle.tsl_match.specs.Patterns.{Pat}
+use Rattle.tsl_match.specs.Patterns.{Pattern}
 use Rattle.tsl_match.specs.Shapes.{Types, HasShape}
 use Rattle.tsl_match.specs.Meets.{meets}
 use Rattle.tsl_match.specs.Picks.{Choice, numbered, first_match, picks}
-use Rattle.tsl_match.specs.Decisions.{Tree}
+use Rattle.tsl_match.specs.Decisions as plain
 use Rattle.tsl_match.specs.Knowledge.{unknown}
 use Rattle.tsl_match.specs.Rule.{IsTree, Fails}
 use Rattle.tsl_match.specs.Answers.{MatchAnswer, decision, not_exhaustive, useless}
 use Rattle.tsl_match.specs.Views.{pat, tree}
 
-module _ (types : Types) (shape : Shape) (rows : List Pat) where
+module _ (types : Types) (shape : Shape) (rows : List Pattern) where
   -- the first of the rows, by its number from 0, that a value meets
   abbrev pub first_of : Value → Option Choice
   first_of v = first_match (numbered 0 rows) v
 
   -- The tree of the rule.
-  abbrev pub IsTreeOf : Tree → Type 0
+  abbrev pub IsTreeOf : plain.Decision → Type 0
   IsTreeOf t = IsTree types (numbered 0 rows) (unknown shape) t
 
   -- For each value of the shape the tree picks the first row that matches, with its bindings.
-  abbrev pub PicksTheFirst : Tree → Type 0
+  abbrev pub PicksTheFirst : plain.Decision → Type 0
   PicksTheFirst t = (v : Value) → HasShape types shape v → picks t v ≡ first_of v
 
   -- Every value of the shape meets some row.
@@ -37,7 +37,7 @@ module _ (types : Types) (shape : Shape) (rows : List Pat) where
   IsOfUse r = (v : Value) × (binds : List (ℕ × Place)) × HasShape types shape v × (first_of v ≡ Some (r, binds))
 
   -- Some value of the shape meets the example, and none that does meets a row.
-  abbrev pub IsUnmatched : Pat → Type 0
+  abbrev pub IsUnmatched : Pattern → Type 0
   IsUnmatched p =
       ((v : Value) × HasShape types shape v × (meets p v ≡ true))
       × ((v : Value) → HasShape types shape v → meets p v ≡ true → first_of v ≡ None)

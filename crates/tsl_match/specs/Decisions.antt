@@ -3,16 +3,16 @@ use Rattle.std.specs.Prelude.{ℕ, List, [], ◌∷◌}
 use Rattle.tsl_match.specs.Values.{Place}
 
 mutual
-  pub data Tree : Type 0 where
-    row : ℕ → List (ℕ × Place) → Tree
-    on_case : Place → Trees → Tree
-    on_word : Place → ℕ → Tree → Tree → Tree
-    on_flag : Place → Tree → Tree → Tree
+  pub data Decision : Type 0 where
+    row : ℕ → List (ℕ × Place) → Decision
+    on_case : Place → Decisions → Decision
+    on_word : Place → ℕ → Decision → Decision → Decision
+    on_flag : Place → Decision → Decision → Decision
 
-  pub data Trees : Type 0 where
-    no_tree : Trees
-    tree_then : Tree → Trees → Trees
+  pub data Decisions : Type 0 where
+    no_tree : Decisions
+    tree_then : Decision → Decisions → Decisions
 
-abbrev pub trees : List Tree → Trees
+abbrev pub trees : List Decision → Decisions
 trees [] = no_tree
 trees (t ∷ ts) = tree_then t (trees ts)

@@ -2,21 +2,21 @@
 use Rattle.std.specs.Prelude.{◌≡◌, ℕ, suc, List}
 use Rattle.tsl_match.specs.declared.shape.Shape.{Shape}
 use Rattle.tsl_match.specs.Knowledge.{Knowledge, unknown}
-use Rattle.tsl_match.specs.Patterns.{Pat}
+use Rattle.tsl_match.specs.Patterns.{Pattern}
 use Rattle.tsl_match.specs.Picks.{Row, numbered}
 use Rattle.tsl_match.specs.Rule.{IsTree, Fails}
 use Rattle.tsl_match.specs.Answers.{tree, fails, deeper, decided, all_sizes}
 use Rattle.tsl_match.specs.Shapes.{Types}
-use Rattle.tsl_match.specs.Decisions.{Tree}
+use Rattle.tsl_match.specs.Decisions.{Decision}
 
 -- For the rows that are left, by what is known, the rule gives one answer.
 pub record IsSettled (types : Types) (rows : List Row) (k : Knowledge) : Type 0 where
   -- one tree at most
-  pub one_tree : (t u : Tree) → IsTree types rows k t → IsTree types rows k u → t ≡ u
+  pub one_tree : (t u : Decision) → IsTree types rows k t → IsTree types rows k u → t ≡ u
   -- one example at most
-  pub one_example : (p q : Pat) → Fails types rows k p → Fails types rows k q → p ≡ q
+  pub one_example : (p q : Pattern) → Fails types rows k p → Fails types rows k q → p ≡ q
   -- and not both
-  pub not_both : (t : Tree) (p : Pat) → IsTree types rows k t → ¬ Fails types rows k p
+  pub not_both : (t : Decision) (p : Pattern) → IsTree types rows k t → ¬ Fails types rows k p
 
 -- The rule gives one answer for any types, rows and knowledge.
 abbrev pub RuleIsSettled : Type 0
@@ -24,6 +24,6 @@ RuleIsSettled = (types : Types) (rows : List Row) (k : Knowledge) → IsSettled 
 
 -- What `decided` gives at any depth is the rule's, and it looks deep enough for all tests of a match.
 pub record DecidedIsTheRules : Type 0 where
-  pub a_tree : (types : Types) (n : ℕ) (rows : List Row) (k : Knowledge) (t : Tree) → decided types n rows k ≡ tree t → IsTree types rows k t
-  pub an_example : (types : Types) (n : ℕ) (rows : List Row) (k : Knowledge) (p : Pat) → decided types n rows k ≡ fails p → Fails types rows k p
-  pub enough : (types : Types) (shape : Shape) (rows : List Pat) → ¬ decided types (suc (all_sizes rows)) (numbered 0 rows) (unknown shape) ≡ deeper
+  pub a_tree : (types : Types) (n : ℕ) (rows : List Row) (k : Knowledge) (t : Decision) → decided types n rows k ≡ tree t → IsTree types rows k t
+  pub an_example : (types : Types) (n : ℕ) (rows : List Row) (k : Knowledge) (p : Pattern) → decided types n rows k ≡ fails p → Fails types rows k p
+  pub enough : (types : Types) (shape : Shape) (rows : List Pattern) → ¬ decided types (suc (all_sizes rows)) (numbered 0 rows) (unknown shape) ≡ deeper

@@ -3,7 +3,7 @@ use Rattle.std.specs.Prelude.{◌≡◌, ℕ, suc, ◌^◌, ◌<◌, true, Some,
 use Rattle.word_ops.specs.Width.{IsWidth}
 use Rattle.tsl_match.specs.declared.shape.Shape.{Shape}
 use Rattle.tsl_match.specs.declared.shape.Shape.TheVariants.{Word}
-use Rattle.tsl_match.specs.Patterns.{Pat, Pats, case_is, no_pat, pat_then, pats_len}
+use Rattle.tsl_match.specs.Patterns.{Pattern, Patterns, case_is, no_pat, pat_then, pats_len}
 use Rattle.tsl_match.specs.Shapes.{Types, cases_of, fields_of}
 use Rattle.tsl_match.specs.Picks.{Row}
 use Rattle.tsl_match.specs.Knowledge.{Knowledge, Parts, unknown, others, case_known, no_part, part_then}
@@ -29,11 +29,11 @@ abbrev mutual
   AllInLimits (part_then k ks) = InLimits k × AllInLimits ks
 
 abbrev mutual
-  pub PatInLimits : Pat → Type 0
+  pub PatInLimits : Pattern → Type 0
   PatInLimits (case_is c ps) = (pats_len ps < 2 ^ 32) × PatsInLimits ps
   PatInLimits _ = Unit {0}
 
-  pub PatsInLimits : Pats → Type 0
+  pub PatsInLimits : Patterns → Type 0
   PatsInLimits no_pat = Unit {0}
   PatsInLimits (pat_then p ps) = PatInLimits p × PatsInLimits ps
 

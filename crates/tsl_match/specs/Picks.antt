@@ -1,16 +1,16 @@
 -- Which row matches first, and which row a decision tree picks.
 use Rattle.std.specs.Prelude.{ℕ, zero, suc, ◌+◌, ◌==◌, true, false, Option, Some, None, List, [], ◌∷◌, option_and_then, if◌then◌else◌}
 use Rattle.tsl_match.specs.Values.{Value, Place, flag, word, made, value_at}
-use Rattle.tsl_match.specs.Patterns.{Pat}
+use Rattle.tsl_match.specs.Patterns.{Pattern}
 use Rattle.tsl_match.specs.Meets.{meets, bindings}
-use Rattle.tsl_match.specs.Decisions.{Tree, Trees, row, on_case, on_word, on_flag, no_tree, tree_then}
+use Rattle.tsl_match.specs.Decisions.{Decision, Decisions, row, on_case, on_word, on_flag, no_tree, tree_then}
 
 -- a row's number and pattern
 abbrev pub Row : Type 0
-Row = ℕ × Pat
+Row = ℕ × Pattern
 
 -- the rows by their numbers, from n
-abbrev pub numbered : ℕ → List Pat → List Row
+abbrev pub numbered : ℕ → List Pattern → List Row
 numbered n [] = []
 numbered n (p ∷ ps) = (n, p) ∷ numbered (n + 1) ps
 
@@ -39,14 +39,14 @@ flag_branch _ a b = None
 
 abbrev mutual
   -- what a tree picks for a value
-  pub picks : Tree → Value → Option Choice
+  pub picks : Decision → Value → Option Choice
   picks (row r binds) v = Some (r, binds)
   picks (on_case at arms) v = option_and_then (λ c. arm_at arms c v) (case_at (value_at v at))
   picks (on_word at n a b) v = word_branch (value_at v at) n (picks a v) (picks b v)
   picks (on_flag at a b) v = flag_branch (value_at v at) (picks a v) (picks b v)
 
   -- what arm number c picks
-  pub arm_at : Trees → ℕ → Value → Option Choice
+  pub arm_at : Decisions → ℕ → Value → Option Choice
   arm_at no_tree c v = None
   arm_at (tree_then t ts) zero v = picks t v
   arm_at (tree_then t ts) (suc c) v = arm_at ts c v

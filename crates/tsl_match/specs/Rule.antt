@@ -4,11 +4,11 @@ use Rattle.tsl_match.specs.declared.shape.Shape.{Shape}
 use Rattle.tsl_match.specs.declared.shape.Shape.TheVariants.{Bool as Flag, Word, Data}
 use Rattle.std.specs.List.{list_any}
 use Rattle.tsl_match.specs.Values.{Place}
-use Rattle.tsl_match.specs.Patterns.{Pat, Pats, any, flag_is, word_is, case_is, no_pat, pat_then}
+use Rattle.tsl_match.specs.Patterns.{Pattern, Patterns, any, flag_is, word_is, case_is, no_pat, pat_then}
 use Rattle.tsl_match.specs.Shapes.{Types, cases_of}
 use Rattle.tsl_match.specs.Meets.{same_flag, bindings}
 use Rattle.tsl_match.specs.Picks.{Row}
-use Rattle.tsl_match.specs.Decisions.{Tree, Trees, row, on_case, on_word, on_flag, no_tree, tree_then}
+use Rattle.tsl_match.specs.Decisions.{Decision, Decisions, row, on_case, on_word, on_flag, no_tree, tree_then}
 use Rattle.tsl_match.specs.Knowledge.{Knowledge, Parts, unknown, flag_known, word_known, others, case_known, no_part, part_then, unknowns, put}
 
 abbrev pub is_among : ℕ → List ℕ → Bool
@@ -16,14 +16,14 @@ is_among n ns = list_any (λ m. m == n) ns
 
 abbrev mutual
   -- whether a pattern can still match
-  pub can_match : Pat → Knowledge → Bool
+  pub can_match : Pattern → Knowledge → Bool
   can_match (flag_is b) (flag_known c) = same_flag b c
   can_match (word_is n) (word_known m) = n == m
   can_match (word_is n) (others w ns) = not (is_among n ns)
   can_match (case_is c ps) (case_known d ks) = c == d && all_can_match ps ks
   can_match _ _ = true
 
-  pub all_can_match : Pats → Parts → Bool
+  pub all_can_match : Patterns → Parts → Bool
   all_can_match (pat_then p ps) (part_then k ks) = can_match p k && all_can_match ps ks
   all_can_match _ _ = true
 
@@ -37,7 +37,7 @@ pub data Test : Type 0 where
   case_test : ℕ → Test
 
 -- the test that a pattern asks for where it stands, if what is known there doesn't settle it
-abbrev pub test_here : Pat → Knowledge → Option Test
+abbrev pub test_here : Pattern → Knowledge → Option Test
 test_here (flag_is b) (unknown Flag) = Some flag_test
 test_here (word_is n) (unknown (Word w)) = Some (word_test w [] n)
 test_here (word_is n) (others w ns) = if nat_lt (length ns + 1) (2 ^ w) then Some (word_test w ns n) else None
@@ -61,12 +61,12 @@ outermost (Some x) (Some y) = if nat_le (length x.0) (length y.0) then Some x el
 abbrev mutual
   -- the first position of a pattern that is still to be tested, outermost first, then from left to
   -- right, and its test
-  pub first_test : Pat → Knowledge → Option Found
+  pub first_test : Pattern → Knowledge → Option Found
   first_test (case_is c ps) (case_known d ks) = first_below None d 0 ps ks
   first_test p k = option_map (λ test. ([], test)) (test_here p k)
 
   -- the first of `best` and those in the fields of constructor c from field i on
-  pub first_below : Option Found → ℕ → ℕ → Pats → Parts → Option Found
+  pub first_below : Option Found → ℕ → ℕ → Patterns → Parts → Option Found
   first_below best c i (pat_then p ps) (part_then k ks) =
       first_below (outermost best (option_map (below c i) (first_test p k))) c (i + 1) ps ks
   first_below best c i _ _ = best
@@ -97,21 +97,21 @@ least_other ns = least_from (length ns) 0 ns
 
 abbrev mutual
   -- what is known, as a pattern
-  pub example : Knowledge → Pat
+  pub example : Knowledge → Pattern
   example (unknown s) = any
   example (flag_known b) = flag_is b
   example (word_known n) = word_is n
   example (others w ns) = word_is (least_other ns)
   example (case_known c ks) = case_is c (examples ks)
 
-  pub examples : Parts → Pats
+  pub examples : Parts → Patterns
   examples no_part = no_pat
   examples (part_then k ks) = pat_then (example k) (examples ks)
 
 module _ (types : Types) where
   abbrev mutual
     -- The tree of the rule, for the rows that are left, by what is known.
-    pub IsTree : List Row → Knowledge → Tree → Type 0
+    pub IsTree : List Row → Knowledge → Decision → Type 0
     IsTree [] k t = ⊥
     IsTree (first ∷ rest) k (row r binds) =
         (first_test first.1 k ≡ None) × (r ≡ first.0) × (binds ≡ bindings [] first.1)
@@ -128,18 +128,18 @@ module _ (types : Types) where
         × AreTrees (first ∷ rest) k at (made_known 0 (cases_of types t)) arms
 
     -- the trees for what a test at a place may show
-    pub AreTrees : List Row → Knowledge → Place → List Knowledge → Trees → Type 0
+    pub AreTrees : List Row → Knowledge → Place → List Knowledge → Decisions → Type 0
     AreTrees rows k at [] no_tree = Unit {0}
     AreTrees rows k at (there ∷ later) (tree_then t ts) =
         IsTree (still rows (put k at there)) (put k at there) t × AreTrees rows k at later ts
     AreTrees rows k at _ _ = ⊥
 
   -- The example of the first failure, for the rows that are left, by what is known.
-  pub data Fails : List Row → Knowledge → Pat → Type 0 where
+  pub data Fails : List Row → Knowledge → Pattern → Type 0 where
     -- no row is left
     no_row : (k : Knowledge) → Fails [] k (example k)
     -- a test may show what no row is left for, and nothing that it may show earlier fails
-    after_test : (first : Row) (rest : List Row) (k there : Knowledge) (at : Place) (test : Test) (earlier later : List Knowledge) (ts : Trees) (p : Pat)
+    after_test : (first : Row) (rest : List Row) (k there : Knowledge) (at : Place) (test : Test) (earlier later : List Knowledge) (ts : Decisions) (p : Pattern)
         → first_test first.1 k ≡ Some (at, test)
         → outcomes types test ≡ earlier ++ there ∷ later
         → AreTrees (first ∷ rest) k at earlier ts

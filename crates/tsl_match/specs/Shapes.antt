@@ -4,7 +4,7 @@ use Rattle.word_ops.specs.Width.{IsWidth}
 use Rattle.tsl_match.specs.declared.shape.Shape.{Shape}
 use Rattle.tsl_match.specs.declared.shape.Shape.TheVariants.{Bool as Flag, Word, Data, Opaque}
 use Rattle.tsl_match.specs.Values.{Value, Values, flag, word, made, thing, no_value, value_then}
-use Rattle.tsl_match.specs.Patterns.{Pat, Pats, any, bind, flag_is, word_is, case_is, no_pat, pat_then}
+use Rattle.tsl_match.specs.Patterns.{Pattern, Patterns, any, bind, flag_is, word_is, case_is, no_pat, pat_then}
 
 -- types by their numbers, their constructors by theirs, and the shapes of the fields of each
 abbrev pub Types : Type 0
@@ -34,7 +34,7 @@ module _ (types : Types) where
 
   abbrev mutual
     -- A pattern that may stand where values have a shape.
-    pub Suits : Shape → Pat → Type 0
+    pub Suits : Shape → Pattern → Type 0
     Suits s any = Unit {0}
     Suits s (bind n) = Unit {0}
     Suits Flag (flag_is b) = Unit {0}
@@ -42,7 +42,7 @@ module _ (types : Types) where
     Suits (Data t) (case_is c ps) = (shapes : List Shape) × (fields_of types t c ≡ Some shapes) × AllSuit shapes ps
     Suits _ _ = ⊥
 
-    pub AllSuit : List Shape → Pats → Type 0
+    pub AllSuit : List Shape → Patterns → Type 0
     AllSuit [] no_pat = Unit {0}
     AllSuit (s ∷ shapes) (pat_then p ps) = Suits s p × AllSuit shapes ps
     AllSuit _ _ = ⊥

@@ -5,14 +5,14 @@ use Rattle.tsl_match.specs.declared.step.Step.TheVariants.{Settled, Asked}
 use Rattle.tsl_match.specs.Values.{Place}
 use Rattle.tsl_match.specs.Shapes.{Types}
 use Rattle.tsl_match.specs.Picks.{Row}
-use Rattle.tsl_match.specs.Decisions.{Tree, on_word}
+use Rattle.tsl_match.specs.Decisions.{Decision, on_word}
 use Rattle.tsl_match.specs.Knowledge.{Knowledge, word_known, others, put}
 use Rattle.tsl_match.specs.Rule.{Test, word_test, first_test, outcomes, still, IsTree}
 use Rattle.tsl_match.specs.Views.{tree, knowledge, candidate}
 
 -- The tree that asks whether words at places are numbers, in this order, each with what follows
 -- where it is, and is t where none is.
-abbrev pub asked_first : List (Place × ℕ × Tree) → Tree → Tree
+abbrev pub asked_first : List (Place × ℕ × Decision) → Decision → Decision
 asked_first [] t = t
 asked_first (q ∷ questions) t = on_word q.0 q.1 q.2 (asked_first questions t)
 

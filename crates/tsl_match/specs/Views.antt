@@ -6,8 +6,8 @@ use Rattle.tsl_match.specs.declared.pattern.Pattern.TheOpen.{Pattern-F}
 use Rattle.tsl_match.specs.declared.decision.Path.{Path}
 use Rattle.tsl_match.specs.declared.decision.Decision.{Decision, fold-Decision}
 use Rattle.tsl_match.specs.declared.decision.Decision.TheOpen.{Decision-F}
-use Rattle.tsl_match.specs.declared.knowledge.Known.{Known, fold-Known}
-use Rattle.tsl_match.specs.declared.knowledge.Known.TheOpen.{Known-F}
+use Rattle.tsl_match.specs.declared.knowledge.Knowledge.{Knowledge, fold-Knowledge}
+use Rattle.tsl_match.specs.declared.knowledge.Knowledge.TheOpen.{Knowledge-F}
 use Rattle.tsl_match.specs.declared.knowledge.Test.{Test}
 use Rattle.tsl_match.specs.declared.knowledge.Test.TheVariants.{Flag, Word, Case}
 use Rattle.tsl_match.specs.declared.knowledge.Found.{Found}
@@ -17,45 +17,48 @@ use Rattle.tsl_match.specs.Values.{Place}
 use Rattle.tsl_match.specs.Picks.{Row}
 use Rattle.tsl_match.specs.Rule.{Test as Asked, Found as FoundAt, flag_test, word_test, case_test}
 use Rattle.tsl_match.specs.Shapes.{Types}
-use Rattle.tsl_match.specs.Patterns.{Pat, pats, any, bind, flag_is, word_is, case_is}
-use Rattle.tsl_match.specs.Decisions.{Tree, trees, row, on_case, on_word, on_flag}
-use Rattle.tsl_match.specs.Knowledge.{Knowledge, parts, unknown, flag_known, word_known, others, case_known}
+use Rattle.tsl_match.specs.Patterns as plain_patterns
+use Rattle.tsl_match.specs.Patterns.{pats, any, bind, flag_is, word_is, case_is}
+use Rattle.tsl_match.specs.Decisions as plain_decisions
+use Rattle.tsl_match.specs.Decisions.{trees, row, on_case, on_word, on_flag}
+use Rattle.tsl_match.specs.Knowledge as plain_knowledge
+use Rattle.tsl_match.specs.Knowledge.{parts, unknown, flag_known, word_known, others, case_known}
 
 abbrev pub types : Sig → Types
 types sig = map (λ cases. map (λ fields. fields.items) cases.items) sig.datas.items
 
-abbrev pub pattern_step : Pattern-F Pat → Pat
+abbrev pub pattern_step : Pattern-F plain_patterns.Pattern → plain_patterns.Pattern
 pattern_step Pattern-F.Any = any
 pattern_step (Pattern-F.Bind n) = bind n
 pattern_step (Pattern-F.Flag b) = flag_is b
 pattern_step (Pattern-F.Word n) = word_is n
 pattern_step (Pattern-F.Case c ps) = case_is c (pats ps.items)
 
-abbrev pub pat : Pattern → Pat
-pat = fold-Pattern Pat pattern_step
+abbrev pub pat : Pattern → plain_patterns.Pattern
+pat = fold-Pattern plain_patterns.Pattern pattern_step
 
 -- a variable and the place that it names
 abbrev pub bound : ℕ × Path → ℕ × Place
 bound b = (b.0, b.1.steps.items)
 
-abbrev pub decision_step : Decision-F Tree → Tree
+abbrev pub decision_step : Decision-F plain_decisions.Decision → plain_decisions.Decision
 decision_step (Decision-F.Row r binds) = row r (map bound binds.items)
 decision_step (Decision-F.OnCase at arms) = on_case at.steps.items (trees arms.items)
 decision_step (Decision-F.OnWord at n a b) = on_word at.steps.items n a.value b.value
 decision_step (Decision-F.OnFlag at a b) = on_flag at.steps.items a.value b.value
 
-abbrev pub tree : Decision → Tree
-tree = fold-Decision Tree decision_step
+abbrev pub tree : Decision → plain_decisions.Decision
+tree = fold-Decision plain_decisions.Decision decision_step
 
-abbrev pub known_step : Known-F Knowledge → Knowledge
-known_step (Known-F.Unknown s) = unknown s
-known_step (Known-F.Flag b) = flag_known b
-known_step (Known-F.Word n) = word_known n
-known_step (Known-F.Others w ns) = others w ns.items
-known_step (Known-F.Made c ks) = case_known c (parts ks.items)
+abbrev pub known_step : Knowledge-F plain_knowledge.Knowledge → plain_knowledge.Knowledge
+known_step (Knowledge-F.Unknown s) = unknown s
+known_step (Knowledge-F.Flag b) = flag_known b
+known_step (Knowledge-F.Word n) = word_known n
+known_step (Knowledge-F.Others w ns) = others w ns.items
+known_step (Knowledge-F.Made c ks) = case_known c (parts ks.items)
 
-abbrev pub knowledge : Known → Knowledge
-knowledge = fold-Known Knowledge known_step
+abbrev pub knowledge : Knowledge → plain_knowledge.Knowledge
+knowledge = fold-Knowledge plain_knowledge.Knowledge known_step
 
 abbrev pub test : Test → Asked
 test Flag = flag_test
@@ -69,5 +72,5 @@ abbrev pub candidate : Candidate → Row
 candidate r = (r.number, pat r.pattern.now)
 
 -- the place, the number, and what follows where it is there
-abbrev pub question : Question → Place × ℕ × Tree
+abbrev pub question : Question → Place × ℕ × plain_decisions.Decision
 question q = (q.at.steps.items, q.value, tree q.yes)

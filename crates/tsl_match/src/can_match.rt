@@ -6,21 +6,21 @@ ghost use Rattle.tsl_match.specs.Knowledge.{parts as known_parts};
 ghost use Rattle.tsl_match.specs.Views.{pat, knowledge};
 ghost use Rattle.tsl_match.specs.Rule.{can_match, all_can_match};
 
-use crate::knowledge::Known;
+use crate::knowledge::Knowledge;
 use crate::pattern::Pattern;
 
 /// Whether a value of which this is known may meet the pattern.
 #[cycle(can_match)]
-pub fn can_match(pattern: &Pattern, known: &Known) -> bool
+pub fn can_match(pattern: &Pattern, known: &Knowledge) -> bool
     ensures { result ≡ can_match (pat pattern.now) (knowledge known.now) }
 {
     match (pattern, known) {
-        (Pattern::Flag(asked), Known::Flag(value)) => { if *asked { *value } else { !*value } }
-        (Pattern::Word(asked), Known::Word(value)) => *asked == *value,
-        (Pattern::Word(asked), Known::Others { width: _w, tested }) => !tested.contains(asked),
+        (Pattern::Flag(asked), Knowledge::Flag(value)) => { if *asked { *value } else { !*value } }
+        (Pattern::Word(asked), Knowledge::Word(value)) => *asked == *value,
+        (Pattern::Word(asked), Knowledge::Others { width: _w, tested }) => !tested.contains(asked),
         (
             Pattern::Case { case, parts },
-            Known::Made {
+            Knowledge::Made {
                 case: made,
                 parts: fields,
             },
@@ -31,7 +31,7 @@ pub fn can_match(pattern: &Pattern, known: &Known) -> bool
 
 /// Whether each of the patterns may still match, as far as there are both.
 #[cycle(can_match)]
-fn all_can_match(patterns: &[Pattern], fields: &[Known]) -> bool
+fn all_can_match(patterns: &[Pattern], fields: &[Knowledge]) -> bool
     ensures { result
         ≡ all_can_match (pats (map pat patterns.now)) (known_parts (map knowledge fields.now)) }
 {

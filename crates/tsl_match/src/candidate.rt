@@ -7,7 +7,7 @@ ghost use Rattle.tsl_match.specs.Rule.{still};
 ghost use Rattle.tsl_match.specs.Views.{pat, knowledge, candidate};
 
 use crate::can_match::can_match;
-use crate::knowledge::Known;
+use crate::knowledge::Knowledge;
 use crate::pattern::Pattern;
 use crate::put::put;
 use std::alloc::{AllocError, Global};
@@ -38,7 +38,7 @@ pub fn candidates<'a>(alloc: Global, rows: &'a [Pattern]) -> Result<Vec<Candidat
 pub fn still<'a>(
     alloc: Global,
     left: &[Candidate<'a>],
-    known: &Known,
+    known: &Knowledge,
 ) -> Result<Vec<Candidate<'a>>, AllocError>
     ensures { IfOk result
         (λ r. map candidate r.items ≡ still (map candidate left.now) (knowledge known.now)) }
@@ -57,14 +57,14 @@ pub fn still<'a>(
 pub fn still_others<'a>(
     alloc: Global,
     left: &[Candidate<'a>],
-    known: &Known,
+    known: &Knowledge,
     at: &[(u32, u32)],
     value: u64,
 ) -> Result<Vec<Candidate<'a>>, AllocError>
     ensures { IfOk result
         (λ r. map candidate r.items ≡ still (map candidate left.now) (put (knowledge known.now) at.now (others 64 (value ∷ [])))) }
 {
-    let newest = Known::Others {
+    let newest = Knowledge::Others {
         width: 64,
         tested: vec![in alloc; value]?,
     };

@@ -18,7 +18,7 @@ use crate::candidate::{Candidate, candidates, still, still_others};
 use crate::decision::{Decision, Path};
 use crate::example::example;
 use crate::first_test::first_test;
-use crate::knowledge::{Found, Known, Test};
+use crate::knowledge::{Found, Knowledge, Test};
 use crate::match_error::MatchError;
 use crate::names::first_unnamed;
 use crate::outcomes::outcomes;
@@ -51,7 +51,7 @@ pub fn compile(
     ensures answer { Answers result (match_answer (types sig.now) shape (map pat rows.now)) }
 {
     let left = candidates(alloc, rows)?;
-    let decision = decide(alloc, sig, left, Known::Unknown(shape))?;
+    let decision = decide(alloc, sig, left, Knowledge::Unknown(shape))?;
     match first_unnamed(alloc, &decision, rows.len() as u32)? {
         Some(row) => Err(MatchError::Useless { row }),
         None => Ok(decision),
@@ -64,7 +64,7 @@ fn decide(
     alloc: Global,
     sig: &Sig,
     left: Vec<Candidate>,
-    known: Known,
+    known: Knowledge,
 ) -> Result<Decision, MatchError>
     requires sig { TypesInLimits (types sig.now) }
     requires rows { RowsInLimits (map candidate left.items) }
@@ -99,7 +99,7 @@ fn first_step<'a>(
     alloc: Global,
     sig: &Sig,
     left: &[Candidate<'a>],
-    known: &Known,
+    known: &Knowledge,
 ) -> Result<Step<'a>, MatchError>
     requires sig { TypesInLimits (types sig.now) }
     requires rows { RowsInLimits (map candidate left.now) }
@@ -133,7 +133,7 @@ fn step_by<'a>(
     alloc: Global,
     sig: &Sig,
     left: &[Candidate<'a>],
-    known: &Known,
+    known: &Knowledge,
     at: Path,
     asked: Test,
 ) -> Result<Step<'a>, MatchError>
@@ -171,10 +171,10 @@ fn step_by_word<'a>(
     alloc: Global,
     sig: &Sig,
     left: &[Candidate<'a>],
-    known: &Known,
+    known: &Knowledge,
     at: Path,
     value: u64,
-    outcomes: &[Known],
+    outcomes: &[Knowledge],
 ) -> Result<Step<'a>, MatchError>
     requires sig { TypesInLimits (types sig.now) }
     requires rows { RowsInLimits (map candidate left.now) }
@@ -201,9 +201,9 @@ fn arms(
     alloc: Global,
     sig: &Sig,
     left: &[Candidate],
-    known: &Known,
+    known: &Knowledge,
     at: &[(u32, u32)],
-    outcomes: &[Known],
+    outcomes: &[Knowledge],
 ) -> Result<Vec<Decision>, MatchError>
     requires sig { TypesInLimits (types sig.now) }
     requires rows { RowsInLimits (map candidate left.now) }
@@ -227,9 +227,9 @@ fn after(
     alloc: Global,
     sig: &Sig,
     left: &[Candidate],
-    known: &Known,
+    known: &Knowledge,
     at: &[(u32, u32)],
-    there: &Known,
+    there: &Knowledge,
 ) -> Result<Decision, MatchError>
     requires sig { TypesInLimits (types sig.now) }
     requires rows { RowsInLimits (map candidate left.now) }

@@ -6,21 +6,21 @@ ghost use Rattle.tsl_match.specs.Knowledge.{parts as known_parts};
 ghost use Rattle.tsl_match.specs.Rule.{example, examples, least_other};
 ghost use Rattle.tsl_match.specs.Views.{pat, knowledge};
 
-use crate::knowledge::Known;
+use crate::knowledge::Knowledge;
 use crate::pattern::Pattern;
 use std::alloc::{AllocError, Global};
 
 /// The pattern of what is known; a word of which some numbers were tested is the least other.
 #[cycle(example)]
-pub fn example(alloc: Global, known: &Known) -> Result<Pattern, AllocError>
+pub fn example(alloc: Global, known: &Knowledge) -> Result<Pattern, AllocError>
     ensures { IfOk result (λ r. pat r ≡ example (knowledge known.now)) }
 {
     match known {
-        Known::Unknown(_shape) => Ok(Pattern::Any),
-        Known::Flag(value) => Ok(Pattern::Flag(*value)),
-        Known::Word(value) => Ok(Pattern::Word(*value)),
-        Known::Others { width: _w, tested } => Ok(Pattern::Word(least_other(tested))),
-        Known::Made { case, parts } => Ok(Pattern::Case {
+        Knowledge::Unknown(_shape) => Ok(Pattern::Any),
+        Knowledge::Flag(value) => Ok(Pattern::Flag(*value)),
+        Knowledge::Word(value) => Ok(Pattern::Word(*value)),
+        Knowledge::Others { width: _w, tested } => Ok(Pattern::Word(least_other(tested))),
+        Knowledge::Made { case, parts } => Ok(Pattern::Case {
             case: *case,
             parts: examples(alloc, parts)?,
         }),
@@ -28,7 +28,7 @@ pub fn example(alloc: Global, known: &Known) -> Result<Pattern, AllocError>
 }
 
 #[cycle(example)]
-fn examples(alloc: Global, fields: &[Known]) -> Result<Vec<Pattern>, AllocError>
+fn examples(alloc: Global, fields: &[Knowledge]) -> Result<Vec<Pattern>, AllocError>
     ensures { IfOk result
         (λ r. pats (map pat r.items) ≡ examples (known_parts (map knowledge fields.now))) }
 {

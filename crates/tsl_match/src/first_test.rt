@@ -8,7 +8,7 @@ ghost use Rattle.tsl_match.specs.Limits.{InLimits, AllInLimits, parts_len};
 ghost use Rattle.tsl_match.specs.Views.{pat, knowledge, test, found};
 ghost use Rattle.tsl_match.specs.Rule.{test_here, first_test, first_below, outermost, below};
 
-use crate::knowledge::{Found, Known, Test};
+use crate::knowledge::{Found, Knowledge, Test};
 use crate::pattern::Pattern;
 use crate::shape::Shape;
 use smallvec::SmallVec;
@@ -20,7 +20,7 @@ use std::alloc::{AllocError, Global};
 pub fn first_test(
     alloc: Global,
     pattern: &Pattern,
-    known: &Known,
+    known: &Knowledge,
 ) -> Result<Option<Found>, AllocError>
     requires { InLimits (knowledge known.now) }
     ensures { IfOk result
@@ -32,7 +32,7 @@ pub fn first_test(
                 case: _asked,
                 parts,
             },
-            Known::Made {
+            Knowledge::Made {
                 case,
                 parts: fields,
             },
@@ -47,7 +47,7 @@ fn first_below(
     alloc: Global,
     case: u32,
     patterns: &[Pattern],
-    fields: &[Known],
+    fields: &[Knowledge],
 ) -> Result<Option<Found>, AllocError>
     requires few { parts_len (known_parts (map knowledge fields.now)) < 2 ^ 32 }
     requires limits { AllInLimits (known_parts (map knowledge fields.now)) }
@@ -93,19 +93,23 @@ fn outermost(left: Option<Found>, right: Option<Found>) -> Option<Found>
 }
 
 /// The test at the outermost position.
-fn test_here(alloc: Global, pattern: &Pattern, known: &Known) -> Result<Option<Found>, AllocError>
+fn test_here(
+    alloc: Global,
+    pattern: &Pattern,
+    known: &Knowledge,
+) -> Result<Option<Found>, AllocError>
     requires { InLimits (knowledge known.now) }
     ensures { IfOk result
         (λ r. option_map found r ≡ option_map (λ t. ([], t)) (test_here (pat pattern.now) (knowledge known.now))) }
 {
     let asked = match (pattern, known) {
-        (Pattern::Flag(_b), Known::Unknown(Shape::Bool)) => Test::Flag,
-        (Pattern::Word(value), Known::Unknown(Shape::Word(width))) => Test::Word {
+        (Pattern::Flag(_b), Knowledge::Unknown(Shape::Bool)) => Test::Flag,
+        (Pattern::Word(value), Knowledge::Unknown(Shape::Word(width))) => Test::Word {
             width: *width,
             tested: Vec::new(alloc),
             value: *value,
         },
-        (Pattern::Word(value), Known::Others { width, tested }) if has_two(*width, tested) => {
+        (Pattern::Word(value), Knowledge::Others { width, tested }) if has_two(*width, tested) => {
             Test::Word {
                 width: *width,
                 tested: Vec::from_slice(alloc, tested)?,
@@ -117,7 +121,7 @@ fn test_here(alloc: Global, pattern: &Pattern, known: &Known) -> Result<Option<F
                 case: _case,
                 parts: _parts,
             },
-            Known::Unknown(Shape::Data(t)),
+            Knowledge::Unknown(Shape::Data(t)),
         ) => Test::Case(*t),
         _ => return Ok(None),
     };

@@ -5,7 +5,7 @@ use smallvec::SmallVec;
 
 /// What is known of a value after some tests.
 #[derive(Drop)]
-pub enum Known {
+pub enum Knowledge {
     /// Its shape alone.
     Unknown(Shape),
     /// The truth value that it is.
@@ -15,7 +15,7 @@ pub enum Known {
     /// The numbers of its width that it isn't, in the order in which they were tested.
     Others { width: u32, tested: Vec<u64> },
     /// Its constructor, and what is known of each field.
-    Made { case: u32, parts: Vec<Known> },
+    Made { case: u32, parts: Vec<Knowledge> },
 }
 
 /// What a test asks of the value at a position.

@@ -6,17 +6,17 @@ ghost use Rattle.tsl_match.specs.Knowledge.{unknown};
 ghost use Rattle.tsl_match.specs.Rule.{outcomes, made_known};
 ghost use Rattle.tsl_match.specs.Views.{types, knowledge, test};
 
-use crate::knowledge::{Known, Test};
+use crate::knowledge::{Knowledge, Test};
 use crate::shape::{Shape, Sig};
 use std::alloc::{AllocError, Global};
 
 /// What is known of the tested value after each answer, in the order of a decision's branches.
-pub fn outcomes(alloc: Global, sig: &Sig, asked: &Test) -> Result<Vec<Known>, AllocError>
+pub fn outcomes(alloc: Global, sig: &Sig, asked: &Test) -> Result<Vec<Knowledge>, AllocError>
     requires { (t : ℕ) → length (cases_of (types sig.now) t) < 2 ^ 32 }
     ensures { IfOk result (λ r. map knowledge r.items ≡ outcomes (types sig.now) (test asked.now)) }
 {
     match asked {
-        Test::Flag => two(alloc, Known::Flag(true), Known::Flag(false)),
+        Test::Flag => two(alloc, Knowledge::Flag(true), Knowledge::Flag(false)),
         Test::Word {
             width,
             tested,
@@ -24,11 +24,11 @@ pub fn outcomes(alloc: Global, sig: &Sig, asked: &Test) -> Result<Vec<Known>, Al
         } => {
             let mut more = Vec::from_slice(alloc, tested)?;
             more.push(*value)?;
-            let others = Known::Others {
+            let others = Knowledge::Others {
                 width: *width,
                 tested: more,
             };
-            two(alloc, Known::Word(*value), others)
+            two(alloc, Knowledge::Word(*value), others)
         }
         Test::Case(t) => match sig.datas.get(*t as usize) {
             Some(cases) => made_known(alloc, cases),
@@ -38,7 +38,7 @@ pub fn outcomes(alloc: Global, sig: &Sig, asked: &Test) -> Result<Vec<Known>, Al
 }
 
 /// Two answers.
-fn two(alloc: Global, first: Known, second: Known) -> Result<Vec<Known>, AllocError>
+fn two(alloc: Global, first: Knowledge, second: Knowledge) -> Result<Vec<Knowledge>, AllocError>
     ensures { IfOk result (λ r. r.items ≡ first ∷ (second ∷ [])) }
 {
     let mut out = Vec::new(alloc);
@@ -48,13 +48,13 @@ fn two(alloc: Global, first: Known, second: Known) -> Result<Vec<Known>, AllocEr
 }
 
 /// Each of these constructors, as what is known.
-fn made_known(alloc: Global, cases: &[Vec<Shape>]) -> Result<Vec<Known>, AllocError>
+fn made_known(alloc: Global, cases: &[Vec<Shape>]) -> Result<Vec<Knowledge>, AllocError>
     requires { length cases.now < 2 ^ 32 }
     ensures { IfOk result (λ r. map knowledge r.items ≡ made_known 0 (map (λ c. c.items) cases.now)) }
 {
     let mut out = Vec::new(alloc);
     for (i, fields) in cases.iter().enumerate() {
-        out.push(Known::Made {
+        out.push(Knowledge::Made {
             case: i as u32,
             parts: unknown_fields(alloc, fields)?,
         })?;
@@ -63,12 +63,12 @@ fn made_known(alloc: Global, cases: &[Vec<Shape>]) -> Result<Vec<Known>, AllocEr
 }
 
 /// Fields of which the shapes alone are known.
-fn unknown_fields(alloc: Global, shapes: &[Shape]) -> Result<Vec<Known>, AllocError>
+fn unknown_fields(alloc: Global, shapes: &[Shape]) -> Result<Vec<Knowledge>, AllocError>
     ensures { IfOk result (λ r. map knowledge r.items ≡ map unknown shapes.now) }
 {
     let mut out = Vec::new(alloc);
     for shape in shapes {
-        out.push(Known::Unknown(*shape))?;
+        out.push(Knowledge::Unknown(*shape))?;
     }
     Ok(out)
 }

@@ -4,23 +4,23 @@ ghost use Rattle.std.specs.Prelude.{◌≡◌, map, IfOk};
 ghost use Rattle.tsl_match.specs.Knowledge.{parts as known_parts, put, put_part};
 ghost use Rattle.tsl_match.specs.Views.{knowledge};
 
-use crate::knowledge::Known;
+use crate::knowledge::Knowledge;
 use std::alloc::{AllocError, Global};
 
 /// The same once more.
 #[cycle(copy)]
-fn copy(alloc: Global, known: &Known) -> Result<Known, AllocError>
+fn copy(alloc: Global, known: &Knowledge) -> Result<Knowledge, AllocError>
     ensures { IfOk result (λ r. knowledge r ≡ knowledge known.now) }
 {
     match known {
-        Known::Unknown(shape) => Ok(Known::Unknown(*shape)),
-        Known::Flag(value) => Ok(Known::Flag(*value)),
-        Known::Word(value) => Ok(Known::Word(*value)),
-        Known::Others { width, tested } => Ok(Known::Others {
+        Knowledge::Unknown(shape) => Ok(Knowledge::Unknown(*shape)),
+        Knowledge::Flag(value) => Ok(Knowledge::Flag(*value)),
+        Knowledge::Word(value) => Ok(Knowledge::Word(*value)),
+        Knowledge::Others { width, tested } => Ok(Knowledge::Others {
             width: *width,
             tested: Vec::from_slice(alloc, tested)?,
         }),
-        Known::Made { case, parts } => Ok(Known::Made {
+        Knowledge::Made { case, parts } => Ok(Knowledge::Made {
             case: *case,
             parts: copies(alloc, parts)?,
         }),
@@ -28,7 +28,7 @@ fn copy(alloc: Global, known: &Known) -> Result<Known, AllocError>
 }
 
 #[cycle(copy)]
-fn copies(alloc: Global, parts: &[Known]) -> Result<Vec<Known>, AllocError>
+fn copies(alloc: Global, parts: &[Knowledge]) -> Result<Vec<Knowledge>, AllocError>
     ensures { IfOk result (λ r. map knowledge r.items ≡ map knowledge parts.now) }
 {
     let mut out = Vec::new(alloc);
@@ -42,17 +42,17 @@ fn copies(alloc: Global, parts: &[Known]) -> Result<Vec<Known>, AllocError>
 #[cycle(put)]
 pub fn put(
     alloc: Global,
-    known: &Known,
+    known: &Knowledge,
     at: &[(u32, u32)],
-    there: &Known,
-) -> Result<Known, AllocError>
+    there: &Knowledge,
+) -> Result<Knowledge, AllocError>
     ensures { IfOk result (λ r. knowledge r ≡ put (knowledge known.now) at.now (knowledge there.now)) }
 {
     let Some((step, rest)) = at.split_first() else {
         return copy(alloc, there);
     };
     match known {
-        Known::Made { case, parts } => Ok(Known::Made {
+        Knowledge::Made { case, parts } => Ok(Knowledge::Made {
             case: *case,
             parts: put_part(alloc, parts, step.1, rest, there)?,
         }),
@@ -64,11 +64,11 @@ pub fn put(
 #[cycle(put)]
 fn put_part(
     alloc: Global,
-    parts: &[Known],
+    parts: &[Knowledge],
     field: u32,
     at: &[(u32, u32)],
-    there: &Known,
-) -> Result<Vec<Known>, AllocError>
+    there: &Knowledge,
+) -> Result<Vec<Knowledge>, AllocError>
     ensures { IfOk result
         (λ r. known_parts (map knowledge r.items) ≡ put_part (known_parts (map knowledge parts.now)) field at.now (knowledge there.now)) }
 {

@@ -7,7 +7,7 @@ ghost use Rattle.tsl_match.specs.Views.{tree, question};
 
 use crate::candidate::Candidate;
 use crate::decision::{Decision, Path};
-use crate::knowledge::Known;
+use crate::knowledge::Knowledge;
 use std::alloc::{AllocError, Global};
 
 /// Whether the word at a place is a number, and what follows where it is.
@@ -27,7 +27,7 @@ pub enum Step<'a> {
     Asked {
         question: Question,
         left: Vec<Candidate<'a>>,
-        known: Known,
+        known: Knowledge,
     },
 }
 

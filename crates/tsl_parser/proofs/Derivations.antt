@@ -10,8 +10,8 @@ use Rattle.tsl_lexer.specs.declared.token.Mark.TheVariants as m
 use Rattle.tsl_syntax.specs.declared.rules.Literal.{Literal}
 use Rattle.tsl_syntax.specs.Tree.{Term as Expr, Pattern, Arm as ArmTree}
 use Rattle.tsl_syntax.specs.Parsing.{Parser, begins_atom, begins_unary, begins_term, begins_pattern, is_mark, word_begins_atom, first_kind}
-use Rattle.tsl_syntax.specs.TermRules.{body, level}
-use Rattle.tsl_syntax.specs.Grammar.{Leveled, tokens_of, IsLiteral, Pat, Pats, Term, Level, Unary, Post, Atom, Terms, Arm, Arms}
+use Rattle.tsl_syntax.specs.TermRules.{body, at_precedence}
+use Rattle.tsl_syntax.specs.Grammar.{Leveled, tokens_of, IsLiteral, Pat, Pats, Term, AtPrecedence, Unary, Post, Atom, Terms, Arm, Arms}
 use Rattle.tsl_syntax.specs.Grammar as g
 use Rattle.tsl_syntax.specs.Operators.{loosest}
 use Rattle.tsl_syntax.specs.Tokens.{max_level, is_prefix, is_operation, is_cast}
@@ -40,7 +40,7 @@ pub unary_rises : {ℓ top : ℕ} {us : List Leveled} {x : Expr} → Unary ℓ t
 unary_rises (g.post a) = post_rises a
 unary_rises (g.prefix kind s e a) = omega (arith, unary_rises a)
 
-pub level_rises : {p ℓ top : ℕ} {us : List Leveled} {x : Expr} → Level p ℓ top us x → ℓ ≤ top
+pub level_rises : {p ℓ top : ℕ} {us : List Leveled} {x : Expr} → AtPrecedence p ℓ top us x → ℓ ≤ top
 level_rises (g.unary a) = unary_rises a
 level_rises (g.one a) = level_rises a
 level_rises (g.more kind s x e go y) = omega (arith, level_rises x, level_rises y)
@@ -55,7 +55,7 @@ pub unary_fits : {ℓ top : ℕ} {us : List Leveled} {x : Expr} → Unary ℓ to
 unary_fits (g.post a) low fits = post_fits a low fits
 unary_fits (g.prefix kind s e a) low fits = unary_fits a fits.0 fits.1
 
-pub level_fits : {p ℓ top : ℕ} {us : List Leveled} {x : Expr} → Level p ℓ top us x → ℓ ≤ max_level → Fits us → top ≤ max_level
+pub level_fits : {p ℓ top : ℕ} {us : List Leveled} {x : Expr} → AtPrecedence p ℓ top us x → ℓ ≤ max_level → Fits us → top ≤ max_level
 level_fits (g.unary a) low fits = unary_fits a low fits
 level_fits (g.one a) low fits = level_fits a low fits
 level_fits (g.more kind s {a = a} x e go y) low fits = let right = fits-append_right a _ fits in level_fits y right.0 right.1
@@ -156,16 +156,16 @@ pub unary_begins : {ℓ top : ℕ} {us : List Leveled} {x : Expr} → Unary ℓ 
 unary_begins (g.post {a = a} x) = begins_weaker starts_atom starts_unary atom_unary _ a (post_begins x)
 unary_begins (g.prefix kind s e x) = (prefix_unary kind e, omega arith)
 
-pub level_begins : {p ℓ top : ℕ} {us : List Leveled} {x : Expr} → Level p ℓ top us x → Begins starts_unary ℓ us
-level_begins (g.unary a) = unary_begins a
-level_begins (g.one a) = level_begins a
-level_begins (g.more kind s {a = a} x e go y) = begins-append starts_unary _ a _ (level_begins x)
-level_begins (g.once kind s {a = a} x e go y) = begins-append starts_unary _ a _ (level_begins x)
+pub at_precedence_begins : {p ℓ top : ℕ} {us : List Leveled} {x : Expr} → AtPrecedence p ℓ top us x → Begins starts_unary ℓ us
+at_precedence_begins (g.unary a) = unary_begins a
+at_precedence_begins (g.one a) = at_precedence_begins a
+at_precedence_begins (g.more kind s {a = a} x e go y) = begins-append starts_unary _ a _ (at_precedence_begins x)
+at_precedence_begins (g.once kind s {a = a} x e go y) = begins-append starts_unary _ a _ (at_precedence_begins x)
 
 pub term_begins : {ℓ : ℕ} {us : List Leveled} {x : Expr} → Term ℓ us x → Begins starts_term (suc ℓ) us
 term_begins (g.let_in s₁ s₂ s₃ s₄ text a b) = (refl, omega arith)
 term_begins (g.if_else s₁ s₂ s₃ a b d) = (refl, omega arith)
-term_begins (g.operators {a = a} x) = begins_weaker starts_unary starts_term unary_term _ a (level_begins x)
+term_begins (g.operators {a = a} x) = begins_weaker starts_unary starts_term unary_term _ a (at_precedence_begins x)
 
 pub terms_begin : {ℓ : ℕ} {us : List Leveled} {xs : List Expr} → Terms ℓ us xs → Begins starts_term (suc ℓ) us
 terms_begin (g.Terms.last x) = term_begins x
@@ -203,11 +203,11 @@ pattern_no_close (k.Word w) h = refl
 
 -- a body that begins as an operand is no `let` and no `if`
 pub body_level : (P : Parser Pattern) (T : Parser Expr) (ℓ l : ℕ) (us : List Leveled) (rest : List Token) → Begins starts_unary ℓ us
-    → body P T (at l (tokens_of us ++ rest)) ≡ level P T loosest (at l (tokens_of us ++ rest))
+    → body P T (at l (tokens_of us ++ rest)) ≡ at_precedence P T loosest (at l (tokens_of us ++ rest))
 unfolding body
 body_level P T ℓ l [] rest h = absurd h
 body_level P T ℓ l (u ∷ us) rest h = by u.0.kind h.0 where
-  by : (kind : Kind) → starts_unary kind → body P T (at l (record { kind = kind; from = u.0.from; to = u.0.to } ∷ tokens_of us ++ rest)) ≡ level P T loosest (at l (record { kind = kind; from = u.0.from; to = u.0.to } ∷ tokens_of us ++ rest))
+  by : (kind : Kind) → starts_unary kind → body P T (at l (record { kind = kind; from = u.0.from; to = u.0.to } ∷ tokens_of us ++ rest)) ≡ at_precedence P T loosest (at l (record { kind = kind; from = u.0.from; to = u.0.to } ∷ tokens_of us ++ rest))
   by (k.Number v) h = refl
   by (k.Upper text) h = refl
   by (k.Lower text) h = refl

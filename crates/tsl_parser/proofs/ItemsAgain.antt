@@ -17,7 +17,7 @@ use Rattle.tsl_syntax.specs.declared.tree.GuardArg.TheVariants as other_variants
 use Rattle.tsl_syntax.specs.declared.tree.ArgDecl.{ArgDecl}
 use Rattle.tsl_syntax.specs.declared.tree.ArgDecl.TheVariants as arg_variants
 use Rattle.tsl_syntax.specs.declared.rules.Literal.{Literal}
-use Rattle.tsl_syntax.specs.Tree.{Term as Expr, Constructor, Datatype as DataTree, Function as FunTree, Row as RowTree, DecodeSection, Item as ItemTree}
+use Rattle.tsl_syntax.specs.Tree.{Term as Expr, Constructor, Datatype as DataTree, Row as RowTree, DecodeSection, Item as ItemTree}
 use Rattle.tsl_syntax.specs.Tree as e
 use Rattle.tsl_syntax.specs.Parsing.{Parser, ◌>>=◌, first_kind, is_mark, is_word}
 use Rattle.tsl_syntax.specs.Lists.{separated, until, many}
@@ -135,7 +135,7 @@ unfolding params
 params_again g.Params.none = record { again = λ rest ok. rw ok.0 refl }
 params_again (g.Params.some all) = record { again = λ rest ok. rw (fields_begin all rest) ((fields_again all).again rest ok.1) }
 
-function_again : {us : List Leveled} {f : FunTree} → Function us f → Again function 0 us f 0 anything
+function_again : {us : List Leveled} {f : e.Function} → Function us f → Again function 0 us f 0 anything
 unfolding function
 function_again (g.Function.function text ty s₁ s₂ s₃ s₄ s₅ s₆ s₇ s₈ inside body) =
     again_next _ (again_word w.KwFun s₁ 0 low refl)

@@ -1,5 +1,6 @@
 pub mod Again
 pub mod Cut
+pub mod Declared
 pub mod Derivations
 pub mod Exact
 pub mod Found

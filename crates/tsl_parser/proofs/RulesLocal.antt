@@ -18,12 +18,12 @@ use Rattle.tsl_syntax.specs.declared.tree.GuardArg.TheVariants as other_variants
 use Rattle.tsl_syntax.specs.declared.tree.ArgDecl.TheVariants as arg_variants
 use Rattle.tsl_syntax.specs.declared.rules.Literal.{Literal}
 use Rattle.tsl_syntax.specs.declared.rules.Fault.TheVariants.{Syntax, TooDeep}
-use Rattle.tsl_syntax.specs.Tree.{Term as Expr, Pattern, Arm as ArmTree, Constructor, Datatype as DataTree, Function as FunTree, Row as RowTree, DecodeSection, Item as ItemTree}
+use Rattle.tsl_syntax.specs.Tree.{Term as Expr, Pattern, Arm as ArmTree, Constructor, Datatype as DataTree, Row as RowTree, DecodeSection, Item as ItemTree}
 use Rattle.tsl_syntax.specs.Tree as e
 use Rattle.tsl_syntax.specs.Parsing.{Parser, ◌>>=◌, ◌>>◌, pure, stop, skip, eat, expect, expect_word, number, lower, upper, enter, rise, leave, begins_term, begins_pattern, is_mark, is_word}
 use Rattle.tsl_syntax.specs.Lists.{separated, until, many}
 use Rattle.tsl_syntax.specs.PatternRules.{pattern, pattern_body, pattern_body_by, pattern_any, pattern_variable, pattern_word, pattern_flag, pattern_make, pattern_parts}
-use Rattle.tsl_syntax.specs.TermRules.{term, body, body_by, let_in, if_else, level, chain_from, unary_from, post, index, indexes_from, atom, atom_by, atom_by_word, word, flag, named, call, arguments, made, parts, operation, cast, arm, match_on, paren, max_turns}
+use Rattle.tsl_syntax.specs.TermRules.{term, body, body_by, let_in, if_else, at_precedence, chain_from, unary_from, post, index, indexes_from, atom, atom_by, atom_by_word, word, flag, named, call, arguments, made, parts, operation, cast, arm, match_on, paren, max_turns}
 use Rattle.tsl_syntax.specs.ItemRules.{field, constructor, case_fields, datatype, map_type, params, function, part, part_by, part_fixed, part_named, guard_op, guard_op_by, other, other_by, guard, guards, arg, arg_by, arg_word, args, arg_list, row, decode, item, item_by, items, items_from, items_by}
 use Rattle.tsl_syntax.specs.Nodes.{let_of, if_of, binary_of, prefix_of, get_of, put_of, operation_of, cast_of, arm_of, match_of, paren_of, field_of, case_of, datatype_of, map_of, fun_of, part_of, guard_of, row_of, decode_of}
 use Rattle.tsl_syntax.specs.Operators.{binds, groups, operator, prefix_operator, loosest}
@@ -391,15 +391,15 @@ module _ (P : Parser Pattern) (T : Parser Expr) (patterns : Local P) (pattern_wa
   moves_unary (suc n) = moves_by_next (λ next. if is_prefix next then prefix_turn n next else post P T)
       (λ next. moves_choose (is_prefix next) (prefix_turn n next) (post P T) (moves_prefix_turn n next (moves_unary n)) moves_post)
 
-  local_level : (p : ℕ) → Local (level P T p)
-  unfolding level
-  local_level zero = local_unary max_turns
-  local_level (suc p) = local_then _ (local_level p) (λ x. local_chain_from (level P T p) (local_level p) (suc p) max_turns x)
+  local_at_precedence : (p : ℕ) → Local (at_precedence P T p)
+  unfolding at_precedence
+  local_at_precedence zero = local_unary max_turns
+  local_at_precedence (suc p) = local_then _ (local_at_precedence p) (λ x. local_chain_from (at_precedence P T p) (local_at_precedence p) (suc p) max_turns x)
 
-  moves_level : (p : ℕ) → Moves (level P T p)
-  unfolding level
-  moves_level zero = moves_unary max_turns
-  moves_level (suc p) = moves_then (chain_from (level P T p) (suc p) max_turns) (moves_level p) (λ x. local_chain_from (level P T p) (local_level p) (suc p) max_turns x)
+  moves_at_precedence : (p : ℕ) → Moves (at_precedence P T p)
+  unfolding at_precedence
+  moves_at_precedence zero = moves_unary max_turns
+  moves_at_precedence (suc p) = moves_then (chain_from (at_precedence P T p) (suc p) max_turns) (moves_at_precedence p) (λ x. local_chain_from (at_precedence P T p) (local_at_precedence p) (suc p) max_turns x)
 
   abbrev after_let : Span → Parser Expr
   after_let start = lower >>= (λ name. expect m.Equals >>= (λ _. T >>= (λ x. expect_word w.KwIn >>= (λ _. T >>= (λ y. pure (let_of start name x y))))))
@@ -435,7 +435,7 @@ module _ (P : Parser Pattern) (T : Parser Expr) (patterns : Local P) (pattern_wa
     by : (next : Option Kind) → Local (body_by P T next)
     by (Some (k.Word w.KwLet)) = local_let
     by (Some (k.Word w.KwIf)) = local_if_else
-    by _ = local_level loosest
+    by _ = local_at_precedence loosest
 
   moves_body : Moves (body P T)
   unfolding body
@@ -443,7 +443,7 @@ module _ (P : Parser Pattern) (T : Parser Expr) (patterns : Local P) (pattern_wa
     by : (next : Option Kind) → Moves (body_by P T next)
     by (Some (k.Word w.KwLet)) = moves_let
     by (Some (k.Word w.KwIf)) = moves_if_else
-    by _ = moves_level loosest
+    by _ = moves_at_precedence loosest
 
 term_needs : (depth : ℕ) → Needs (term depth)
 unfolding term enter
@@ -555,7 +555,7 @@ local_params : Local params
 unfolding params
 local_params = local_by_next (λ next. if is_mark m.RParen next then pure [] else separated field m.Comma) (λ next. local_choose (is_mark m.RParen next) (pure []) (separated field m.Comma) (local_pure []) local_fields)
 
-abbrev after_fun : Span → Parser FunTree
+abbrev after_fun : Span → Parser e.Function
 after_fun start = lower >>= (λ x. expect m.LParen >>= (λ _. params >>= (λ found. expect m.RParen >>= (λ _. expect m.Arrow >>= (λ _. upper >>= (λ ty. expect m.Equals >>= (λ _. term max_level >>= (λ inner. expect m.Semi >>= (λ end. pure (fun_of start x found ty inner end))))))))))
 
 local_after_fun : (start : Span) → Local (after_fun start)

@@ -16,14 +16,14 @@ use Rattle.tsl_syntax.specs.State.{At}
 use Rattle.tsl_syntax.specs.Parsing.{Outcome, Parser, ◌>>◌, and_then, pure, first_kind, is_mark, is_word, leave, begins_term}
 use Rattle.tsl_syntax.specs.Lists.{separated, separated_from, many, until_from}
 use Rattle.tsl_syntax.specs.PatternRules.{pattern}
-use Rattle.tsl_syntax.specs.TermRules.{term, body, let_in, if_else, level, chain_from, unary_from, post, index, indexes_from, atom, atom_by_word, word, flag, named, call, arguments, made, parts, operation, cast, arm, match_on, paren, max_turns}
-use Rattle.tsl_syntax.specs.Grammar.{Leveled, tokens_of, token, IsLiteral, Pat, Term, Level, Unary, Post, Atom, Arguments, Terms, Arm, Arms, name, num, mark, keyword, upper}
+use Rattle.tsl_syntax.specs.TermRules.{term, body, let_in, if_else, at_precedence, chain_from, unary_from, post, index, indexes_from, atom, atom_by_word, word, flag, named, call, arguments, made, parts, operation, cast, arm, match_on, paren, max_turns}
+use Rattle.tsl_syntax.specs.Grammar.{Leveled, tokens_of, token, IsLiteral, Pat, Term, AtPrecedence, Unary, Post, Atom, Arguments, Terms, Arm, Arms, name, num, mark, keyword, upper}
 use Rattle.tsl_syntax.specs.Grammar as g
 use Rattle.tsl_syntax.specs.Nodes.{let_of, if_of, binary_of, prefix_of, get_of, put_of, call_of, make_of, operation_of, cast_of, arm_of, match_of, paren_of}
 use Rattle.tsl_syntax.specs.Operators.{binds, groups, operator, prefix_operator, loosest}
 use Rattle.tsl_syntax.specs.Tokens.{max_level, is_prefix, is_operation, is_cast}
 use Rattle.tsl_parser.proofs.Cut.{at, cut, Fits, tokens-append-rest, and_then-cut, cut-append, cut_under, by_fits}
-use Rattle.tsl_parser.proofs.Derivations.{Begins, begins_some, starts_pattern, starts_term, term_begins, terms_begin, arm_begins, post_begins, level_begins, level_rises, level_fits, post_rises, post_fits, body_level, first_no_prefix, term_no_close, pattern_no_close}
+use Rattle.tsl_parser.proofs.Derivations.{Begins, begins_some, starts_pattern, starts_term, term_begins, terms_begin, arm_begins, post_begins, at_precedence_begins, level_rises, level_fits, post_rises, post_fits, body_level, first_no_prefix, term_no_close, pattern_no_close}
 use Rattle.tsl_parser.proofs.LevelsAgain.{low_or_top, rise_low, rise_high, enter_low, enter_high}
 use Rattle.tsl_parser.proofs.Again.{Again, anything, again_then, again_next, again_pure, again_last, again_expect, again_word, again_number, again_lower, again_upper, again_eat, again_no, again_literal, not_mark, items_last, items_next, tokens_fewer, closes, until_end, until_next}
 use Rattle.tsl_parser.proofs.PatternsAgain.{no_paren, pat_again}
@@ -60,18 +60,18 @@ AtomAgain ℓ us x = Reads (λ depth. atom (pattern depth) (term depth)) ℓ us 
 abbrev pub BodyAgain : ℕ → List Leveled → Expr → Type 0
 BodyAgain ℓ us x = (depth : ℕ) → max_level ≤ depth + ℓ → 0 < ℓ → ℓ ≤ max_level → (top : ℕ) × Again (body (pattern depth) (term depth)) ℓ us x top (Loose loosest)
 
-abbrev pub LevelAgain : ℕ → ℕ → ℕ → List Leveled → Expr → Type 0
-LevelAgain p ℓ top us x = (depth : ℕ) → max_level ≤ depth + ℓ → 0 < ℓ → ℓ ≤ max_level → Again (level (pattern depth) (term depth) p) ℓ us x top (Loose p)
+abbrev pub PrecedenceAgain : ℕ → ℕ → ℕ → List Leveled → Expr → Type 0
+PrecedenceAgain p ℓ top us x = (depth : ℕ) → max_level ≤ depth + ℓ → 0 < ℓ → ℓ ≤ max_level → Again (at_precedence (pattern depth) (term depth) p) ℓ us x top (Loose p)
 
 -- the operands are read up to a place where the chain goes on
 abbrev pub ChainAgain : ℕ → ℕ → ℕ → List Leveled → Expr → Type 0
 ChainAgain p ℓ top us x = (depth : ℕ) → max_level ≤ depth + ℓ → 0 < ℓ → ℓ ≤ max_level → (n : ℕ) × (max_turns + ℓ ≤ n + top) × ((rest : List Token) → Loose p rest
-    → level (pattern depth) (term depth) (suc p) (at ℓ (tokens_of us ++ rest)) ≡ cut us rest (chain_from (level (pattern depth) (term depth) p) (suc p) n x (at top rest)))
+    → at_precedence (pattern depth) (term depth) (suc p) (at ℓ (tokens_of us ++ rest)) ≡ cut us rest (chain_from (at_precedence (pattern depth) (term depth) p) (suc p) n x (at top rest)))
 
 -- operators that group are read as a chain
-abbrev pub LevelGoal : ℕ → ℕ → ℕ → List Leveled → Expr → Type 0
-LevelGoal zero ℓ top us x = LevelAgain zero ℓ top us x
-LevelGoal (suc p) ℓ top us x = (groups (suc p) ≡ true → ChainAgain p ℓ top us x) × LevelAgain (suc p) ℓ top us x
+abbrev pub PrecedenceGoal : ℕ → ℕ → ℕ → List Leveled → Expr → Type 0
+PrecedenceGoal zero ℓ top us x = PrecedenceAgain zero ℓ top us x
+PrecedenceGoal (suc p) ℓ top us x = (groups (suc p) ≡ true → ChainAgain p ℓ top us x) × PrecedenceAgain (suc p) ℓ top us x
 
 -- an operand is read up to a place where keys go on
 abbrev pub PostAgain : ℕ → ℕ → List Leveled → Expr → Type 0
@@ -472,14 +472,14 @@ op_no_key (k.Word w) p h = refl
 op_loose : (kind : Kind) (s : Span) (p : ℕ) (rest : List Token) → binds (Some kind) ≡ suc p → Loose p (token kind s ∷ rest)
 op_loose kind s p rest h = record { ended = record { no_call = op_no_paren kind p h; no_key = op_no_key kind p h }; no_op = λ q some le e. omega arith }
 
-chain_one : {p ℓ top : ℕ} {a : List Leveled} {x : Expr} → ℓ ≤ top → LevelAgain p ℓ top a x → ChainAgain p ℓ top a x
-unfolding level
+chain_one : {p ℓ top : ℕ} {a : List Leveled} {x : Expr} → ℓ ≤ top → PrecedenceAgain p ℓ top a x → ChainAgain p ℓ top a x
+unfolding at_precedence
 chain_one {p = p} {top = top} {a = a} {x = x} rises first depth deep some low = (
   max_turns,
   omega arith,
   λ rest loose.
-      ap (λ o. and_then o (chain_from (level (pattern depth) (term depth) p) (suc p) max_turns)) ((first depth deep some low).again rest loose)
-      ∙ and_then-cut a rest (Ok x, at top rest) (chain_from (level (pattern depth) (term depth) p) (suc p) max_turns),
+      ap (λ o. and_then o (chain_from (at_precedence (pattern depth) (term depth) p) (suc p) max_turns)) ((first depth deep some low).again rest loose)
+      ∙ and_then-cut a rest (Ok x, at top rest) (chain_from (at_precedence (pattern depth) (term depth) p) (suc p) max_turns),
 )
 
 -- what a chain does after an operator and its operand
@@ -506,11 +506,11 @@ grouped operand prec n y a h = rw h refl
 alone : (operand : Parser Expr) (prec n : ℕ) (y : Expr) (a : At) → groups prec ≡ false → after_op operand prec n y a ≡ (Ok y, a)
 alone operand prec n y a h = rw h refl
 
-chain_more : {p ℓ mid top : ℕ} (kind : Kind) (s : Span) {a b : List Leveled} {x y : Expr} → Level (suc p) ℓ mid a x → ChainAgain p ℓ mid a x → binds (Some kind) ≡ suc p → groups (suc p) ≡ true → suc mid ≤ top → LevelAgain p (suc mid) top b y
+chain_more : {p ℓ mid top : ℕ} (kind : Kind) (s : Span) {a b : List Leveled} {x y : Expr} → AtPrecedence (suc p) ℓ mid a x → ChainAgain p ℓ mid a x → binds (Some kind) ≡ suc p → groups (suc p) ≡ true → suc mid ≤ top → PrecedenceAgain p (suc mid) top b y
     → ChainAgain p ℓ top (a ++ (token kind s, suc mid) ∷ b) (binary_of (operator (Some kind)) x y)
 chain_more {p = p} {ℓ = ℓ} {mid = mid} {top = top} kind s {a = a} {b = b} {x = x} {y = y} read first e group rises second depth deep some low =
     let so_far = first depth deep some low in
-    let operand : Parser Expr = level (pattern depth) (term depth) p in
+    let operand : Parser Expr = at_precedence (pattern depth) (term depth) p in
     let enough : max_turns + ℓ ≤ so_far.0 + mid = so_far.1 in (
       so_far.0 - 1,
       omega arith,
@@ -518,7 +518,7 @@ chain_more {p = p} {ℓ = ℓ} {mid = mid} {top = top} kind s {a = a} {b = b} {x
           let us : List Leveled = (token kind s, suc mid) ∷ b in
           let made : Expr = binary_of (operator (Some kind)) x y in
           let end : Outcome Expr = chain_from operand (suc p) (so_far.0 - 1) made (at top rest) in
-          ap (λ ts. level (pattern depth) (term depth) (suc p) (at ℓ ts)) (tokens-append-rest a us rest)
+          ap (λ ts. at_precedence (pattern depth) (term depth) (suc p) (at ℓ ts)) (tokens-append-rest a us rest)
           ∙ so_far.2 (tokens_of us ++ rest) (op_loose kind s p (tokens_of b ++ rest) e)
           ∙ cut_under a (tokens_of us ++ rest) (chain_from operand (suc p) so_far.0 x (at mid (tokens_of us ++ rest))) (cut us rest end)
           (λ fits.
@@ -536,10 +536,10 @@ unfolding chain_from
 no_more_ops operand p n x top rest h = rw (other_nat (binds (first_kind rest)) (suc p) (λ e. h.no_op (suc p) (omega arith) (omega arith) e)) refl
 
 -- a chain ends where no operator comes
-chain_ends : {p ℓ top : ℕ} {a : List Leveled} {x : Expr} → (ℓ ≤ max_level → Fits a → top ≤ max_level) → ChainAgain p ℓ top a x → LevelAgain (suc p) ℓ top a x
+chain_ends : {p ℓ top : ℕ} {a : List Leveled} {x : Expr} → (ℓ ≤ max_level → Fits a → top ≤ max_level) → ChainAgain p ℓ top a x → PrecedenceAgain (suc p) ℓ top a x
 chain_ends {p = p} {ℓ = ℓ} {top = top} {a = a} {x = x} fitting all depth deep some low =
     let chain = all depth deep some low in
-    let operand : Parser Expr = level (pattern depth) (term depth) p in
+    let operand : Parser Expr = at_precedence (pattern depth) (term depth) p in
     let enough : max_turns + ℓ ≤ chain.0 + top = chain.1 in
     record {
       again = λ rest loose.
@@ -551,27 +551,27 @@ chain_ends {p = p} {ℓ = ℓ} {top = top} {a = a} {x = x} fitting all depth dee
           ap (λ n. chain_from operand (suc p) n x (at top rest)) turns ∙ no_more_ops operand p (chain.0 - 1) x top rest loose);
     }
 
-level_goal : {ℓ top : ℕ} {a : List Leveled} {x : Expr} (p : ℕ) → LevelGoal p ℓ top a x → LevelAgain p ℓ top a x
+level_goal : {ℓ top : ℕ} {a : List Leveled} {x : Expr} (p : ℕ) → PrecedenceGoal p ℓ top a x → PrecedenceAgain p ℓ top a x
 level_goal zero all = all
 level_goal (suc p) all = all.1
 
-goal_one : {p ℓ top : ℕ} {a : List Leveled} {x : Expr} → Level p ℓ top a x → LevelAgain p ℓ top a x → LevelGoal (suc p) ℓ top a x
+goal_one : {p ℓ top : ℕ} {a : List Leveled} {x : Expr} → AtPrecedence p ℓ top a x → PrecedenceAgain p ℓ top a x → PrecedenceGoal (suc p) ℓ top a x
 goal_one {p = p} read first =
     let chain = chain_one {p = p} (level_rises read) first in
     (λ _. chain, chain_ends (λ low fits. level_fits read low fits) chain)
 
-goal_more : {p ℓ mid top : ℕ} (kind : Kind) (s : Span) {a b : List Leveled} {x y : Expr} → Level (suc p) ℓ mid a x → LevelGoal (suc p) ℓ mid a x → binds (Some kind) ≡ suc p → groups (suc p) ≡ true → Level p (suc mid) top b y → LevelAgain p (suc mid) top b y
-    → LevelGoal (suc p) ℓ top (a ++ (token kind s, suc mid) ∷ b) (binary_of (operator (Some kind)) x y)
+goal_more : {p ℓ mid top : ℕ} (kind : Kind) (s : Span) {a b : List Leveled} {x y : Expr} → AtPrecedence (suc p) ℓ mid a x → PrecedenceGoal (suc p) ℓ mid a x → binds (Some kind) ≡ suc p → groups (suc p) ≡ true → AtPrecedence p (suc mid) top b y → PrecedenceAgain p (suc mid) top b y
+    → PrecedenceGoal (suc p) ℓ top (a ++ (token kind s, suc mid) ∷ b) (binary_of (operator (Some kind)) x y)
 goal_more {p = p} kind s first all e group second more =
     let chain = chain_more kind s first (all.0 group) e group (level_rises second) more in
     (λ _. chain, chain_ends (λ low fits. level_fits (g.more kind s first e group second) low fits) chain)
 
 -- an operator that stands alone
-once_again : {p ℓ mid top : ℕ} (kind : Kind) (s : Span) {a b : List Leveled} {x y : Expr} → Level p ℓ mid a x → LevelAgain p ℓ mid a x → binds (Some kind) ≡ suc p → groups (suc p) ≡ false → LevelAgain p (suc mid) top b y
-    → LevelAgain (suc p) ℓ top (a ++ (token kind s, suc mid) ∷ b) (binary_of (operator (Some kind)) x y)
-unfolding level
+once_again : {p ℓ mid top : ℕ} (kind : Kind) (s : Span) {a b : List Leveled} {x y : Expr} → AtPrecedence p ℓ mid a x → PrecedenceAgain p ℓ mid a x → binds (Some kind) ≡ suc p → groups (suc p) ≡ false → PrecedenceAgain p (suc mid) top b y
+    → PrecedenceAgain (suc p) ℓ top (a ++ (token kind s, suc mid) ∷ b) (binary_of (operator (Some kind)) x y)
+unfolding at_precedence
 once_again {p = p} {ℓ = ℓ} {mid = mid} {top = top} kind s {a = a} {b = b} {x = x} {y = y} read first e single second depth deep some low =
-    let operand : Parser Expr = level (pattern depth) (term depth) p in
+    let operand : Parser Expr = at_precedence (pattern depth) (term depth) p in
     let made : Expr = binary_of (operator (Some kind)) x y in
     let us : List Leveled = (token kind s, suc mid) ∷ b in
     record {
@@ -589,22 +589,22 @@ once_again {p = p} {ℓ = ℓ} {mid = mid} {top = top} kind s {a = a} {b = b} {x
           ∙ sym (cut-append a us rest (Ok made, at top rest));
     }
 
-goal_once : {p ℓ mid top : ℕ} (kind : Kind) (s : Span) {a b : List Leveled} {x y : Expr} → Level p ℓ mid a x → LevelAgain p ℓ mid a x → binds (Some kind) ≡ suc p → groups (suc p) ≡ false → LevelAgain p (suc mid) top b y
-    → LevelGoal (suc p) ℓ top (a ++ (token kind s, suc mid) ∷ b) (binary_of (operator (Some kind)) x y)
+goal_once : {p ℓ mid top : ℕ} (kind : Kind) (s : Span) {a b : List Leveled} {x y : Expr} → AtPrecedence p ℓ mid a x → PrecedenceAgain p ℓ mid a x → binds (Some kind) ≡ suc p → groups (suc p) ≡ false → PrecedenceAgain p (suc mid) top b y
+    → PrecedenceGoal (suc p) ℓ top (a ++ (token kind s, suc mid) ∷ b) (binary_of (operator (Some kind)) x y)
 goal_once {p = p} kind s read first e single second = (λ group. absurd (let no : true ≡ false = sym group ∙ single in cc), once_again kind s read first e single second)
 
-level_unary : {ℓ top : ℕ} {a : List Leveled} {x : Expr} → UnaryAgain ℓ top a x → LevelAgain zero ℓ top a x
-unfolding level
+level_unary : {ℓ top : ℕ} {a : List Leveled} {x : Expr} → UnaryAgain ℓ top a x → PrecedenceAgain zero ℓ top a x
+unfolding at_precedence
 level_unary h depth deep some low = record { again = λ rest loose. (h depth max_turns deep some low (omega arith)).again rest loose.ended }
 
 -- ---- bodies
 
-again_body_level : {ℓ top : ℕ} {a : List Leveled} {x : Expr} → Level loosest ℓ top a x → LevelAgain loosest ℓ top a x → BodyAgain ℓ a x
-again_body_level {ℓ = ℓ} {top = top} {a = a} read all depth deep some low = (
+again_body_at_precedence : {ℓ top : ℕ} {a : List Leveled} {x : Expr} → AtPrecedence loosest ℓ top a x → PrecedenceAgain loosest ℓ top a x → BodyAgain ℓ a x
+again_body_at_precedence {ℓ = ℓ} {top = top} {a = a} read all depth deep some low = (
   top,
   record {
     again = λ rest loose.
-        body_level (pattern depth) (term depth) ℓ ℓ a rest (level_begins read) ∙ (all depth deep some low).again rest loose;
+        body_level (pattern depth) (term depth) ℓ ℓ a rest (at_precedence_begins read) ∙ (all depth deep some low).again rest loose;
   },
 )
 
@@ -679,13 +679,13 @@ mutual
       again_term _ _ _ (refl, omega arith) (again_body_let s₁ s₂ s₃ s₄ text a b x y (term_again first) (term_again second))
   term_again (g.if_else s₁ s₂ s₃ {a = a} {b = b} {d = d} {c = c} {x = x} {y = y} condition first second) =
       again_term _ _ _ (refl, omega arith) (again_body_if s₁ s₂ s₃ a b d c x y (term_again condition) (term_again first) (term_again second))
-  term_again (g.operators x) = again_term _ _ _ (term_begins (g.operators x)) (again_body_level x (level_goal loosest (level_again x)))
+  term_again (g.operators x) = again_term _ _ _ (term_begins (g.operators x)) (again_body_at_precedence x (level_goal loosest (at_precedence_again x)))
 
-  pub level_again : {p ℓ top : ℕ} {us : List Leveled} {x : Expr} → Level p ℓ top us x → LevelGoal p ℓ top us x
-  level_again (g.unary x) = level_unary (unary_again x)
-  level_again (g.one {p = p} x) = goal_one x (level_goal p (level_again x))
-  level_again (g.more {p = p} kind s x e group y) = goal_more kind s x (level_again x) e group y (level_goal p (level_again y))
-  level_again (g.once {p = p} kind s x e single y) = goal_once kind s x (level_goal p (level_again x)) e single (level_goal p (level_again y))
+  pub at_precedence_again : {p ℓ top : ℕ} {us : List Leveled} {x : Expr} → AtPrecedence p ℓ top us x → PrecedenceGoal p ℓ top us x
+  at_precedence_again (g.unary x) = level_unary (unary_again x)
+  at_precedence_again (g.one {p = p} x) = goal_one x (level_goal p (at_precedence_again x))
+  at_precedence_again (g.more {p = p} kind s x e group y) = goal_more kind s x (at_precedence_again x) e group y (level_goal p (at_precedence_again y))
+  at_precedence_again (g.once {p = p} kind s x e single y) = goal_once kind s x (level_goal p (at_precedence_again x)) e single (level_goal p (at_precedence_again y))
 
   pub unary_again : {ℓ top : ℕ} {us : List Leveled} {x : Expr} → Unary ℓ top us x → UnaryAgain ℓ top us x
   unary_again (g.post x) = unary_post x (post_again x)

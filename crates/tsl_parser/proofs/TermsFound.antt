@@ -16,8 +16,8 @@ use Rattle.tsl_syntax.specs.Tree as e
 use Rattle.tsl_syntax.specs.Parsing.{Outcome, Parser, ◌>>=◌, ◌>>◌, and_then, pure, stop, skip, first_kind, is_mark, begins_term, enter, enter_if, rise, leave}
 use Rattle.tsl_syntax.specs.Lists.{separated, many}
 use Rattle.tsl_syntax.specs.PatternRules.{pattern}
-use Rattle.tsl_syntax.specs.TermRules.{term, body, let_in, if_else, level, chain_from, unary_from, post, index, indexes_from, atom, word, flag, named, call, arguments, made, parts, operation, cast, arm, match_on, paren, max_turns}
-use Rattle.tsl_syntax.specs.Grammar.{Leveled, tokens_of, token, Pat, Term, Level, Unary, Post, Atom, Arguments, Terms, Arm, Arms}
+use Rattle.tsl_syntax.specs.TermRules.{term, body, let_in, if_else, at_precedence, chain_from, unary_from, post, index, indexes_from, atom, word, flag, named, call, arguments, made, parts, operation, cast, arm, match_on, paren, max_turns}
+use Rattle.tsl_syntax.specs.Grammar.{Leveled, tokens_of, token, Pat, Term, AtPrecedence, Unary, Post, Atom, Arguments, Terms, Arm, Arms}
 use Rattle.tsl_syntax.specs.Grammar as g
 use Rattle.tsl_syntax.specs.Nodes.{binary_of, prefix_of, get_of, put_of}
 use Rattle.tsl_syntax.specs.Operators.{binds, groups, operator, prefix_operator, loosest}
@@ -51,12 +51,12 @@ some_atom ℓ = g.var [] nowhere
 some_post : (ℓ : ℕ) → Post ℓ ℓ (g.lower [] nowhere ℓ ∷ []) (e.var some_name)
 some_post ℓ = g.Post.atom (some_atom ℓ)
 
-some_level : (p ℓ : ℕ) → Level p ℓ ℓ (g.lower [] nowhere ℓ ∷ []) (e.var some_name)
-some_level zero ℓ = g.unary (g.post (some_post ℓ))
-some_level (suc p) ℓ = g.one (some_level p ℓ)
+some_at_precedence : (p ℓ : ℕ) → AtPrecedence p ℓ ℓ (g.lower [] nowhere ℓ ∷ []) (e.var some_name)
+some_at_precedence zero ℓ = g.unary (g.post (some_post ℓ))
+some_at_precedence (suc p) ℓ = g.one (some_at_precedence p ℓ)
 
 pub some_term : (ℓ : ℕ) → Term ℓ (g.lower [] nowhere (suc ℓ) ∷ []) (e.var some_name)
-some_term ℓ = g.operators (some_level loosest (suc ℓ))
+some_term ℓ = g.operators (some_at_precedence loosest (suc ℓ))
 
 -- ---- atoms
 
@@ -358,27 +358,27 @@ unary_found depth (suc n) ℓ deep some inner (t ∷ ts) low turns =
 
 -- what a chain that has come to a level goes on to
 abbrev ChainOn : ℕ → ℕ → List Leveled → ℕ → List Leveled → Expr → Type 0
-ChainOn p ℓ us top vs x = Level (suc p) ℓ top (us ++ vs) x
+ChainOn p ℓ us top vs x = AtPrecedence (suc p) ℓ top (us ++ vs) x
 
 -- what is asked of the parser of the operands, at each level
 abbrev OperandFound : Parser Expr → ℕ → ℕ → Type 0
-OperandFound operand p ℓ = (l : ℕ) → ℓ ≤ l → l ≤ max_level → (s : List Token) → Read (λ top us x. Level p l top us x) s (operand (at l s))
+OperandFound operand p ℓ = (l : ℕ) → ℓ ≤ l → l ≤ max_level → (s : List Token) → Read (λ top us x. AtPrecedence p l top us x) s (operand (at l s))
 
 -- one operator, and what comes after it
 op_found : (operand : Parser Expr) (p ℓ top : ℕ) (us : List Leveled) (x : Expr) (t : Token) (ts : List Token) (go : Expr → Parser Expr)
-    → ((m : ℕ) (vs : List Leveled) (y : Expr) → Level p (suc top) m vs y → Level (suc p) ℓ m (us ++ (t, suc top) ∷ vs) (binary_of (operator (Some t.kind)) x y))
+    → ((m : ℕ) (vs : List Leveled) (y : Expr) → AtPrecedence p (suc top) m vs y → AtPrecedence (suc p) ℓ m (us ++ (t, suc top) ∷ vs) (binary_of (operator (Some t.kind)) x y))
     → ℓ ≤ top → top ≤ max_level → OperandFound operand p ℓ
-    → ((us : List Leveled) (y : Expr) (next : ℕ) (s : List Token) → Level (suc p) ℓ next us y → suc top ≤ next → Low next s → Read (ChainOn p ℓ us) s (go y (at next s)))
+    → ((us : List Leveled) (y : Expr) (next : ℕ) (s : List Token) → AtPrecedence (suc p) ℓ next us y → suc top ≤ next → Low next s → Read (ChainOn p ℓ us) s (go y (at next s)))
     → Read (ChainOn p ℓ us) (t ∷ ts) ((rise >> (skip >> (operand >>= (λ right. go (binary_of (operator (Some t.kind)) x right))))) (at top (t ∷ ts)))
 op_found operand p ℓ top us x t ts go joins rises low operands again = elim (low_or_top top low) [
   | inl less ↦ let fit : suc top ≤ max_level = omega arith in
       rw (rise_low top (t ∷ ts) less)
       (read_shift (ChainOn p ℓ us) ((t, suc top) ∷ []) (t ∷ ts) ts (and_then (operand (at (suc top) ts)) (λ right. go (binary_of (operator (Some t.kind)) x right))) refl (fit, tt)
-      (read_then (λ m vs y. Level p (suc top) m vs y) (λ m vs y. Level (suc p) ℓ m (us ++ (t, suc top) ∷ vs) y) ts (operand (at (suc top) ts)) (λ right. go (binary_of (operator (Some t.kind)) x right))
+      (read_then (λ m vs y. AtPrecedence p (suc top) m vs y) (λ m vs y. AtPrecedence (suc p) ℓ m (us ++ (t, suc top) ∷ vs) y) ts (operand (at (suc top) ts)) (λ right. go (binary_of (operator (Some t.kind)) x right))
       (operands (suc top) (omega arith) fit ts)
       (λ y next rest vs found low.
       let higher : suc top ≤ next = level_rises found in
-      read_map (ChainOn p ℓ (us ++ (t, suc top) ∷ vs)) (λ m ws z. Level (suc p) ℓ m (us ++ (t, suc top) ∷ (vs ++ ws)) z) rest (go (binary_of (operator (Some t.kind)) x y) (at next rest))
+      read_map (ChainOn p ℓ (us ++ (t, suc top) ∷ vs)) (λ m ws z. AtPrecedence (suc p) ℓ m (us ++ (t, suc top) ∷ (vs ++ ws)) z) rest (go (binary_of (operator (Some t.kind)) x y) (at next rest))
       (λ m ws z h. rw (← append_assoc us ((t, suc top) ∷ vs) ws) h)
       (again (us ++ (t, suc top) ∷ vs) (binary_of (operator (Some t.kind)) x y) next rest (joins next vs y found) higher low))))
   | inr full ↦ rw (rise_high top (t ∷ ts) full)
@@ -393,7 +393,7 @@ op_found operand p ℓ top us x t ts go joins rises low operands again = elim (l
         next = refl;
         fits = tt;
         past = omega arith;
-        could = joins (suc top) (g.lower [] nowhere (suc top) ∷ []) (e.var some_name) (some_level p (suc top));
+        could = joins (suc top) (g.lower [] nowhere (suc top) ∷ []) (e.var some_name) (some_at_precedence p (suc top));
       })
 ]
 
@@ -406,7 +406,7 @@ turn_by operand prec n x t here group =
     if here then (rise >> (skip >> (operand >>= (λ right. if group then chain_from operand prec n (binary_of (operator (Some t.kind)) x right) else pure (binary_of (operator (Some t.kind)) x right))))) else pure x
 
 chain_found : (operand : Parser Expr) (p ℓ : ℕ) → 0 < ℓ → groups (suc p) ≡ true → OperandFound operand p ℓ → (n : ℕ) (us : List Leveled) (x : Expr) (top : ℕ) (s : List Token)
-    → Level (suc p) ℓ top us x → Room n ℓ top s → Read (ChainOn p ℓ us) s (chain_from operand (suc p) n x (at top s))
+    → AtPrecedence (suc p) ℓ top us x → Room n ℓ top s → Read (ChainOn p ℓ us) s (chain_from operand (suc p) n x (at top s))
 unfolding chain_from
 chain_found operand p ℓ some group operands zero us x top [] read room = absurd (omega arith)
 chain_found operand p ℓ some group operands zero us x top (t ∷ ts) read room = absurd (let rises = level_rises read in omega (arith, room.0, room.1))
@@ -424,7 +424,7 @@ chain_found operand p ℓ some group operands (suc n) us x top (t ∷ ts) read r
     ] refl)
 
 once_found : (operand : Parser Expr) (p ℓ : ℕ) → groups (suc p) ≡ false → OperandFound operand p ℓ → (n : ℕ) (us : List Leveled) (x : Expr) (top : ℕ) (s : List Token)
-    → Level p ℓ top us x → Low top s → Read (ChainOn p ℓ us) s (chain_from operand (suc p) (suc n) x (at top s))
+    → AtPrecedence p ℓ top us x → Low top s → Read (ChainOn p ℓ us) s (chain_from operand (suc p) (suc n) x (at top s))
 unfolding chain_from
 once_found operand p ℓ single operands n us x top [] read low =
     let none : (0 == suc p) ≡ false = other_nat 0 (suc p) (λ e. omega arith) in rw none (read_pure (ChainOn p ℓ us) top [] x tt (rw (append-nil us) (g.one read)))
@@ -438,24 +438,24 @@ once_found operand p ℓ single operands n us x top (t ∷ ts) read low =
     ] refl)
 
 -- an operand, and a chain of operators
-next_level : (operand : Parser Expr) (p l : ℕ) → 0 < l → OperandFound operand p l → (s : List Token) → Read (λ top us x. Level p l top us x) s (operand (at l s)) → l ≤ max_level
-    → Read (λ top us x. Level (suc p) l top us x) s (and_then (operand (at l s)) (chain_from operand (suc p) max_turns))
-next_level operand p l some operands s first low = elim (groups (suc p)) as (λ b. groups (suc p) ≡ b → Read (λ top us x. Level (suc p) l top us x) s (and_then (operand (at l s)) (chain_from operand (suc p) max_turns))) [
-  | true ↦ λ group. read_then (λ top us x. Level p l top us x) (λ top us x. Level (suc p) l top us x) s (operand (at l s)) (chain_from operand (suc p) max_turns) first
+next_at_precedence : (operand : Parser Expr) (p l : ℕ) → 0 < l → OperandFound operand p l → (s : List Token) → Read (λ top us x. AtPrecedence p l top us x) s (operand (at l s)) → l ≤ max_level
+    → Read (λ top us x. AtPrecedence (suc p) l top us x) s (and_then (operand (at l s)) (chain_from operand (suc p) max_turns))
+next_at_precedence operand p l some operands s first low = elim (groups (suc p)) as (λ b. groups (suc p) ≡ b → Read (λ top us x. AtPrecedence (suc p) l top us x) s (and_then (operand (at l s)) (chain_from operand (suc p) max_turns))) [
+  | true ↦ λ group. read_then (λ top us x. AtPrecedence p l top us x) (λ top us x. AtPrecedence (suc p) l top us x) s (operand (at l s)) (chain_from operand (suc p) max_turns) first
       (λ x top rest us found low. let rises : l ≤ top = level_rises found in
       chain_found operand p l some group operands max_turns us x top rest (g.one found) (room_at max_turns l top rest low (omega arith) (omega arith)))
-  | false ↦ λ single. read_then (λ top us x. Level p l top us x) (λ top us x. Level (suc p) l top us x) s (operand (at l s)) (chain_from operand (suc p) max_turns) first
+  | false ↦ λ single. read_then (λ top us x. AtPrecedence p l top us x) (λ top us x. AtPrecedence (suc p) l top us x) s (operand (at l s)) (chain_from operand (suc p) max_turns) first
       (λ x top rest us found low. once_found operand p l single operands 256 us x top rest found low)
 ] refl
 
-level_found : (depth ℓ : ℕ) → max_level ≤ depth + ℓ → 0 < ℓ → ((l : ℕ) → max_level ≤ depth + l → TermFound depth l)
-    → (p : ℕ) → OperandFound (level (pattern depth) (term depth) p) p ℓ
-unfolding level
-level_found depth ℓ deep some inner zero l above low s = read_map (UnaryAt l) (λ top us x. Level zero l top us x) s (unary_from (pattern depth) (term depth) max_turns (at l s)) (λ top us x h. g.unary h)
+at_precedence_found : (depth ℓ : ℕ) → max_level ≤ depth + ℓ → 0 < ℓ → ((l : ℕ) → max_level ≤ depth + l → TermFound depth l)
+    → (p : ℕ) → OperandFound (at_precedence (pattern depth) (term depth) p) p ℓ
+unfolding at_precedence
+at_precedence_found depth ℓ deep some inner zero l above low s = read_map (UnaryAt l) (λ top us x. AtPrecedence zero l top us x) s (unary_from (pattern depth) (term depth) max_turns (at l s)) (λ top us x h. g.unary h)
     (unary_found depth max_turns l (omega arith) (omega arith) inner s (low_any l s low) (turns_at max_turns l s (omega arith) (omega arith)))
-level_found depth ℓ deep some inner (suc p) l above low s =
-    next_level (level (pattern depth) (term depth) p) p l (omega arith) (λ m higher below ts. level_found depth ℓ deep some inner p m (omega arith) below ts) s
-    (level_found depth ℓ deep some inner p l above low s) low
+at_precedence_found depth ℓ deep some inner (suc p) l above low s =
+    next_at_precedence (at_precedence (pattern depth) (term depth) p) p l (omega arith) (λ m higher below ts. at_precedence_found depth ℓ deep some inner p m (omega arith) below ts) s
+    (at_precedence_found depth ℓ deep some inner p l above low s) low
 
 -- ---- bodies
 
@@ -463,9 +463,9 @@ abbrev BodyAt : ℕ → ℕ → List Leveled → Expr → Type 0
 BodyAt ℓ top us x = Term ℓ us x
 
 operators_found : (depth ℓ : ℕ) → max_level ≤ depth + suc ℓ → suc ℓ ≤ max_level → ((l : ℕ) → max_level ≤ depth + l → TermFound depth l)
-    → (s : List Token) → Read (BodyAt ℓ) s (level (pattern depth) (term depth) loosest (at (suc ℓ) s))
-operators_found depth ℓ deep low inner s = read_map (λ top us x. Level loosest (suc ℓ) top us x) (BodyAt ℓ) s (level (pattern depth) (term depth) loosest (at (suc ℓ) s)) (λ top us x h. g.operators h)
-    (level_found depth (suc ℓ) deep (omega arith) inner loosest (suc ℓ) (omega arith) low s)
+    → (s : List Token) → Read (BodyAt ℓ) s (at_precedence (pattern depth) (term depth) loosest (at (suc ℓ) s))
+operators_found depth ℓ deep low inner s = read_map (λ top us x. AtPrecedence loosest (suc ℓ) top us x) (BodyAt ℓ) s (at_precedence (pattern depth) (term depth) loosest (at (suc ℓ) s)) (λ top us x h. g.operators h)
+    (at_precedence_found depth (suc ℓ) deep (omega arith) inner loosest (suc ℓ) (omega arith) low s)
 
 let_found : (depth ℓ : ℕ) → max_level ≤ depth + suc ℓ → suc ℓ ≤ max_level → ((l : ℕ) → max_level ≤ depth + l → TermFound depth l)
     → (s : List Token) → Read (BodyAt ℓ) s (let_in (term depth) (at (suc ℓ) s))
@@ -518,7 +518,7 @@ leave_found ℓ s (Err TooDeep, new) low r =
     record { used = r.used; over = r.over; after = r.after; more = r.more; top = ℓ; value = r.value; whole = r.whole; next = r.next; fits = r.fits; past = r.past; could = (refl, r.could) }
 leave_found ℓ s (Err NoMemory, new) low r = r
 
-up : (p : ℕ) {ℓ top : ℕ} {us : List Leveled} {x : Expr} → Level zero ℓ top us x → Level p ℓ top us x
+up : (p : ℕ) {ℓ top : ℕ} {us : List Leveled} {x : Expr} → AtPrecedence zero ℓ top us x → AtPrecedence p ℓ top us x
 up zero h = h
 up (suc p) h = g.one (up p h)
 

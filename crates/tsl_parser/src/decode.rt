@@ -11,12 +11,13 @@ ghost use Rattle.tsl_lexer.specs.declared.token.Mark.TheVariants as marks;
 use std::alloc::Global;
 use tsl_lexer::{Keyword, Kind, Mark};
 use tsl_reader::or_drop;
-use tsl_reader::reader::{Reader, hull};
+use tsl_reader::reader::{Reader, hull, pushed};
 use tsl_syntax::rules::Fault;
 use tsl_syntax::tree::{
     ArgDecl, DecodeDecl, GuardArg, GuardDecl, GuardOp, PartDecl, RowDecl, Span,
 };
 
+/// part_fixed = Number ":" Number .
 #[tactic(auto, unfolding(tsl_syntax::specs::ItemRules::part_fixed))]
 fn part_fixed(tokens: &mut Reader<'_>) -> Result<PartDecl, Fault>
     ensures { Gives (spec.part_fixed tokens.old) result tokens.new }
@@ -29,6 +30,7 @@ fn part_fixed(tokens: &mut Reader<'_>) -> Result<PartDecl, Fault>
     })
 }
 
+/// part_named = Lower ":" Number .
 #[tactic(auto, unfolding(tsl_syntax::specs::ItemRules::part_named))]
 fn part_named(alloc: Global, tokens: &mut Reader<'_>) -> Result<PartDecl, Fault>
     ensures { Gives (spec.part_named tokens.old) result tokens.new }
@@ -40,6 +42,7 @@ fn part_named(alloc: Global, tokens: &mut Reader<'_>) -> Result<PartDecl, Fault>
     Ok(PartDecl::Named { name, w, span })
 }
 
+/// part = ( Number | Lower ) ":" Number .
 #[tactic(auto, unfolding(tsl_syntax::specs::ItemRules::part))]
 fn part(alloc: Global, tokens: &mut Reader<'_>) -> Result<PartDecl, Fault>
     ensures { Gives (spec.part tokens.old) result tokens.new }
@@ -51,21 +54,25 @@ fn part(alloc: Global, tokens: &mut Reader<'_>) -> Result<PartDecl, Fault>
     }
 }
 
-#[tactic(auto, using(tsl_reader::proofs::Turns::turn, tsl_reader::proofs::Turns::over), unfolding(tsl_syntax::specs::Lists::many, tsl_syntax::specs::Lists::until_from, tsl_syntax::specs::Parsing::sees))]
+/// parts = part { part } .
+/// They end where a `]` comes, which is left.
 fn parts(alloc: Global, tokens: &mut Reader<'_>) -> Result<Vec<PartDecl>, Fault>
     ensures { GivesBy (λ v. v.items) (lists.many spec.part marks.RBracket tokens.old) result tokens.new }
 {
-    let mut found = Vec::new(alloc);
-    found.push(part(alloc, tokens)?)?;
+    let first = part(alloc, tokens)?;
+    let mut found = pushed(Vec::new(alloc), first)?;
     for _turn in 0..tokens.left() {
         if tokens.sees(Mark::RBracket) {
             return Ok(found);
         }
-        found.push(part(alloc, tokens)?)?;
+        let next = or_drop!(part(alloc, tokens), found);
+        found = pushed(found, next)?;
     }
+    drop(found);
     Err(Fault::Syntax)
 }
 
+/// guard_op = "==" | "!=" | "<" .
 #[tactic(auto, unfolding(tsl_syntax::specs::ItemRules::guard_op))]
 fn guard_op(tokens: &mut Reader<'_>) -> Result<GuardOp, Fault>
     ensures { Gives (spec.guard_op tokens.old) result tokens.new }
@@ -80,6 +87,7 @@ fn guard_op(tokens: &mut Reader<'_>) -> Result<GuardOp, Fault>
     Ok(op)
 }
 
+/// other = Lower | Number .
 #[tactic(auto, unfolding(tsl_syntax::specs::ItemRules::other))]
 fn other(alloc: Global, tokens: &mut Reader<'_>) -> Result<GuardArg, Fault>
     ensures { Gives (spec.other tokens.old) result tokens.new }
@@ -100,6 +108,7 @@ fn other_span(other: &GuardArg) -> Span
     }
 }
 
+/// guard = Lower ( "==" | "!=" | "<" ) ( Lower | Number ) .
 #[tactic(auto, unfolding(tsl_syntax::specs::ItemRules::guard))]
 fn guard(alloc: Global, tokens: &mut Reader<'_>) -> Result<GuardDecl, Fault>
     ensures { Gives (spec.guard tokens.old) result tokens.new }
@@ -116,20 +125,23 @@ fn guard(alloc: Global, tokens: &mut Reader<'_>) -> Result<GuardDecl, Fault>
     })
 }
 
-#[tactic(auto, using(tsl_reader::proofs::Turns::turn, tsl_reader::proofs::Turns::over), unfolding(tsl_syntax::specs::Lists::separated, tsl_syntax::specs::Lists::separated_from))]
+/// guard_list = guard { "," guard } .
 fn guard_list(alloc: Global, tokens: &mut Reader<'_>) -> Result<Vec<GuardDecl>, Fault>
     ensures { GivesBy (λ v. v.items) (lists.separated spec.guard marks.Comma tokens.old) result tokens.new }
 {
     let mut found = Vec::new(alloc);
     for _turn in 0..tokens.left() {
-        found.push(guard(alloc, tokens)?)?;
+        let next = or_drop!(guard(alloc, tokens), found);
+        found = pushed(found, next)?;
         if !tokens.eat(Mark::Comma) {
             return Ok(found);
         }
     }
+    drop(found);
     Err(Fault::Syntax)
 }
 
+/// guards = [ "when" guard { "," guard } ] .
 #[tactic(auto, unfolding(tsl_syntax::specs::ItemRules::guards))]
 fn guards(alloc: Global, tokens: &mut Reader<'_>) -> Result<Vec<GuardDecl>, Fault>
     ensures { GivesBy (λ v. v.items) (spec.guards tokens.old) result tokens.new }
@@ -141,6 +153,7 @@ fn guards(alloc: Global, tokens: &mut Reader<'_>) -> Result<Vec<GuardDecl>, Faul
     guard_list(alloc, tokens)
 }
 
+/// arg_word = Number ":" Number .
 #[tactic(auto, unfolding(tsl_syntax::specs::ItemRules::arg_word))]
 fn arg_word(tokens: &mut Reader<'_>) -> Result<ArgDecl, Fault>
     ensures { Gives (spec.arg_word tokens.old) result tokens.new }
@@ -153,6 +166,7 @@ fn arg_word(tokens: &mut Reader<'_>) -> Result<ArgDecl, Fault>
     })
 }
 
+/// arg = Lower | Number ":" Number .
 #[tactic(auto, unfolding(tsl_syntax::specs::ItemRules::arg))]
 fn arg(alloc: Global, tokens: &mut Reader<'_>) -> Result<ArgDecl, Fault>
     ensures { Gives (spec.arg tokens.old) result tokens.new }
@@ -164,20 +178,23 @@ fn arg(alloc: Global, tokens: &mut Reader<'_>) -> Result<ArgDecl, Fault>
     }
 }
 
-#[tactic(auto, using(tsl_reader::proofs::Turns::turn, tsl_reader::proofs::Turns::over), unfolding(tsl_syntax::specs::Lists::separated, tsl_syntax::specs::Lists::separated_from))]
+/// arg_items = arg { "," arg } .
 fn arg_items(alloc: Global, tokens: &mut Reader<'_>) -> Result<Vec<ArgDecl>, Fault>
     ensures { GivesBy (λ v. v.items) (lists.separated spec.arg marks.Comma tokens.old) result tokens.new }
 {
     let mut found = Vec::new(alloc);
     for _turn in 0..tokens.left() {
-        found.push(arg(alloc, tokens)?)?;
+        let next = or_drop!(arg(alloc, tokens), found);
+        found = pushed(found, next)?;
         if !tokens.eat(Mark::Comma) {
             return Ok(found);
         }
     }
+    drop(found);
     Err(Fault::Syntax)
 }
 
+/// args = [ "(" arg { "," arg } ")" ] .
 #[tactic(auto, unfolding(tsl_syntax::specs::ItemRules::args, tsl_syntax::specs::ItemRules::arg_list))]
 fn args(alloc: Global, tokens: &mut Reader<'_>) -> Result<Vec<ArgDecl>, Fault>
     ensures { GivesBy (λ v. v.items) (spec.args tokens.old) result tokens.new }
@@ -190,6 +207,7 @@ fn args(alloc: Global, tokens: &mut Reader<'_>) -> Result<Vec<ArgDecl>, Fault>
     Ok(found)
 }
 
+/// row = "[" part { part } "]" [ "when" guard { "," guard } ] "=>" Upper [ "(" arg { "," arg } ")" ] ";" .
 #[tactic(auto, unfolding(tsl_syntax::specs::ItemRules::row))]
 fn row(alloc: Global, tokens: &mut Reader<'_>) -> Result<RowDecl, Fault>
     ensures { GivesBy row_view (spec.row tokens.old) result tokens.new }
@@ -211,7 +229,8 @@ fn row(alloc: Global, tokens: &mut Reader<'_>) -> Result<RowDecl, Fault>
     })
 }
 
-#[tactic(auto, using(tsl_reader::proofs::Turns::turn, tsl_reader::proofs::Turns::over, tsl_reader::proofs::Turns::map_more), unfolding(tsl_syntax::specs::Lists::until, tsl_syntax::specs::Lists::until_from, tsl_syntax::specs::Parsing::sees))]
+/// rows = { row } .
+/// They end where a `}` comes, which is left.
 fn rows(alloc: Global, tokens: &mut Reader<'_>) -> Result<Vec<RowDecl>, Fault>
     ensures { GivesBy (λ v. map row_view v.items) (lists.until spec.row marks.RBrace tokens.old) result tokens.new }
 {
@@ -220,12 +239,14 @@ fn rows(alloc: Global, tokens: &mut Reader<'_>) -> Result<Vec<RowDecl>, Fault>
         if tokens.sees(Mark::RBrace) {
             return Ok(found);
         }
-        found.push(row(alloc, tokens)?)?;
+        let next = or_drop!(row(alloc, tokens), found);
+        found = pushed(found, next)?;
     }
+    drop(found);
     Err(Fault::Syntax)
 }
 
-/// A decode section.
+/// decode = "decode" "{" { row } "}" .
 #[tactic(auto, unfolding(tsl_syntax::specs::ItemRules::decode))]
 pub fn decode(alloc: Global, tokens: &mut Reader<'_>) -> Result<DecodeDecl, Fault>
     ensures { GivesBy section_view (spec.decode tokens.old) result tokens.new }

@@ -11,11 +11,12 @@ use crate::decode::decode;
 use std::alloc::Global;
 use tsl_lexer::{Keyword, Kind, Mark};
 use tsl_reader::or_drop;
-use tsl_reader::reader::{MAX_LEVEL, Reader, hull};
+use tsl_reader::reader::{MAX_LEVEL, Reader, hull, pushed};
 use tsl_syntax::rules::Fault;
 use tsl_syntax::tree::{CaseDecl, DataDecl, FieldDecl, FunDecl, Item, MapDecl, Name};
 use tsl_terms::term;
 
+/// field = Lower ":" Upper .
 #[tactic(auto, unfolding(tsl_syntax::specs::ItemRules::field))]
 fn field(alloc: Global, tokens: &mut Reader<'_>) -> Result<FieldDecl, Fault>
     ensures { Gives (spec.field tokens.old) result tokens.new }
@@ -27,20 +28,23 @@ fn field(alloc: Global, tokens: &mut Reader<'_>) -> Result<FieldDecl, Fault>
     Ok(FieldDecl { name, ty, span })
 }
 
-#[tactic(auto, using(tsl_reader::proofs::Turns::turn, tsl_reader::proofs::Turns::over), unfolding(tsl_syntax::specs::Lists::separated, tsl_syntax::specs::Lists::separated_from))]
+/// fields = field { "," field } .
 fn fields(alloc: Global, tokens: &mut Reader<'_>) -> Result<Vec<FieldDecl>, Fault>
     ensures { GivesBy (λ v. v.items) (lists.separated spec.field marks.Comma tokens.old) result tokens.new }
 {
     let mut found = Vec::new(alloc);
     for _turn in 0..tokens.left() {
-        found.push(field(alloc, tokens)?)?;
+        let next = or_drop!(field(alloc, tokens), found);
+        found = pushed(found, next)?;
         if !tokens.eat(Mark::Comma) {
             return Ok(found);
         }
     }
+    drop(found);
     Err(Fault::Syntax)
 }
 
+/// The rest of a case behind its "(": field { "," field } ")" .
 #[tactic(auto, unfolding(tsl_syntax::specs::ItemRules::case_fields))]
 fn case_fields(alloc: Global, tokens: &mut Reader<'_>, name: Name) -> Result<CaseDecl, Fault>
     ensures { GivesBy constructor_view (spec.case_fields name tokens.old) result tokens.new }
@@ -51,6 +55,7 @@ fn case_fields(alloc: Global, tokens: &mut Reader<'_>, name: Name) -> Result<Cas
     Ok(CaseDecl { name, fields, span })
 }
 
+/// case = Upper [ "(" field { "," field } ")" ] .
 #[tactic(auto, unfolding(tsl_syntax::specs::ItemRules::constructor))]
 fn constructor(alloc: Global, tokens: &mut Reader<'_>) -> Result<CaseDecl, Fault>
     ensures { GivesBy constructor_view (spec.constructor tokens.old) result tokens.new }
@@ -67,20 +72,23 @@ fn constructor(alloc: Global, tokens: &mut Reader<'_>) -> Result<CaseDecl, Fault
     })
 }
 
-#[tactic(auto, using(tsl_reader::proofs::Turns::turn, tsl_reader::proofs::Turns::over, tsl_reader::proofs::Turns::map_more), unfolding(tsl_syntax::specs::Lists::separated, tsl_syntax::specs::Lists::separated_from))]
+/// constructors = case { "|" case } .
 fn constructors(alloc: Global, tokens: &mut Reader<'_>) -> Result<Vec<CaseDecl>, Fault>
     ensures { GivesBy (λ v. map constructor_view v.items) (lists.separated spec.constructor marks.Bar tokens.old) result tokens.new }
 {
     let mut found = Vec::new(alloc);
     for _turn in 0..tokens.left() {
-        found.push(constructor(alloc, tokens)?)?;
+        let next = or_drop!(constructor(alloc, tokens), found);
+        found = pushed(found, next)?;
         if !tokens.eat(Mark::Bar) {
             return Ok(found);
         }
     }
+    drop(found);
     Err(Fault::Syntax)
 }
 
+/// type = "type" Upper "=" case { "|" case } ";" .
 #[tactic(auto, unfolding(tsl_syntax::specs::ItemRules::datatype))]
 fn datatype(alloc: Global, tokens: &mut Reader<'_>) -> Result<DataDecl, Fault>
     ensures { GivesBy datatype_view (spec.datatype tokens.old) result tokens.new }
@@ -97,6 +105,7 @@ fn datatype(alloc: Global, tokens: &mut Reader<'_>) -> Result<DataDecl, Fault>
     })
 }
 
+/// map = "map" Upper "[" Upper "->" Upper "]" "default" Number ";" .
 #[tactic(auto, unfolding(tsl_syntax::specs::ItemRules::map_type))]
 fn map_type(alloc: Global, tokens: &mut Reader<'_>) -> Result<MapDecl, Fault>
     ensures { Gives (spec.map_type tokens.old) result tokens.new }
@@ -120,6 +129,8 @@ fn map_type(alloc: Global, tokens: &mut Reader<'_>) -> Result<MapDecl, Fault>
     })
 }
 
+/// params = [ field { "," field } ] .
+/// There are none where a `)` comes, which is left.
 #[tactic(auto, unfolding(tsl_syntax::specs::ItemRules::params, tsl_syntax::specs::Parsing::sees))]
 fn params(alloc: Global, tokens: &mut Reader<'_>) -> Result<Vec<FieldDecl>, Fault>
     ensures { GivesBy (λ v. v.items) (spec.params tokens.old) result tokens.new }
@@ -130,6 +141,7 @@ fn params(alloc: Global, tokens: &mut Reader<'_>) -> Result<Vec<FieldDecl>, Faul
     fields(alloc, tokens)
 }
 
+/// fun = "fun" Lower "(" [ field { "," field } ] ")" "->" Upper "=" term ";" .
 #[tactic(auto, unfolding(tsl_syntax::specs::ItemRules::function))]
 fn function(alloc: Global, tokens: &mut Reader<'_>) -> Result<FunDecl, Fault>
     ensures { GivesBy function_view (spec.function tokens.old) result tokens.new }
@@ -153,6 +165,7 @@ fn function(alloc: Global, tokens: &mut Reader<'_>) -> Result<FunDecl, Fault>
     })
 }
 
+/// item = type | map | fun | decode .
 #[tactic(auto, unfolding(tsl_syntax::specs::ItemRules::item))]
 fn item(alloc: Global, tokens: &mut Reader<'_>) -> Result<Item, Fault>
     ensures { GivesBy item_view (spec.item tokens.old) result tokens.new }
@@ -166,7 +179,8 @@ fn item(alloc: Global, tokens: &mut Reader<'_>) -> Result<Item, Fault>
     }
 }
 
-/// All declarations, to the last token.
+/// spec = { type | map | fun | decode } .
+/// It ends with the last token.
 #[tactic(auto, using(tsl_reader::proofs::Turns::turn, tsl_reader::proofs::Turns::over, tsl_reader::proofs::Turns::map_more), unfolding(tsl_syntax::specs::ItemRules::items, tsl_syntax::specs::ItemRules::items_from))]
 pub fn declarations(alloc: Global, tokens: &mut Reader<'_>) -> Result<Vec<Item>, Fault>
     ensures { GivesBy (λ v. map item_view v.items) (spec.items tokens.old) result tokens.new }
@@ -177,7 +191,7 @@ pub fn declarations(alloc: Global, tokens: &mut Reader<'_>) -> Result<Vec<Item>,
             return Ok(found);
         }
         let next = or_drop!(item(alloc, tokens), found);
-        found.push(next)?;
+        found = pushed(found, next)?;
     }
     Ok(found)
 }

@@ -28,6 +28,7 @@ pub fn pattern_span(pat: &Pat) -> Span
     }
 }
 
+/// pattern_any = "_" .
 #[tactic(auto, unfolding(tsl_syntax::specs::PatternRules::pattern_any))]
 fn pattern_any(tokens: &mut Reader<'_>) -> Result<Pat, Fault>
     ensures { GivesBy pattern_view (spec.pattern_any tokens.old) result tokens.new }
@@ -37,6 +38,7 @@ fn pattern_any(tokens: &mut Reader<'_>) -> Result<Pat, Fault>
     })
 }
 
+/// pattern_variable = Lower .
 #[tactic(auto, unfolding(tsl_syntax::specs::PatternRules::pattern_variable))]
 fn pattern_variable(alloc: Global, tokens: &mut Reader<'_>) -> Result<Pat, Fault>
     ensures { GivesBy pattern_view (spec.pattern_variable tokens.old) result tokens.new }
@@ -44,6 +46,7 @@ fn pattern_variable(alloc: Global, tokens: &mut Reader<'_>) -> Result<Pat, Fault
     Ok(Pat::Var(tokens.lower(alloc)?))
 }
 
+/// pattern_word = Number ":" Number .
 #[tactic(auto, unfolding(tsl_syntax::specs::PatternRules::pattern_word))]
 fn pattern_word(tokens: &mut Reader<'_>) -> Result<Pat, Fault>
     ensures { GivesBy pattern_view (spec.pattern_word tokens.old) result tokens.new }
@@ -56,6 +59,8 @@ fn pattern_word(tokens: &mut Reader<'_>) -> Result<Pat, Fault>
     })
 }
 
+/// pattern_flag = "true" | "false" .
+/// The keyword that must come is `word`; it means `v`.
 #[tactic(auto, unfolding(tsl_syntax::specs::PatternRules::pattern_flag))]
 fn pattern_flag(tokens: &mut Reader<'_>, word: Keyword, v: bool) -> Result<Pat, Fault>
     ensures { GivesBy pattern_view (spec.pattern_flag word v tokens.old) result tokens.new }
@@ -64,6 +69,7 @@ fn pattern_flag(tokens: &mut Reader<'_>, word: Keyword, v: bool) -> Result<Pat, 
     Ok(Pat::Flag { v, span })
 }
 
+/// patterns = pat { "," pat } .
 #[cycle(pattern)]
 #[tactic(auto, using(crate::proofs::Turns::turn, crate::proofs::Turns::over, crate::proofs::Turns::map_more), unfolding(tsl_syntax::specs::Lists::separated, tsl_syntax::specs::Lists::separated_from))]
 fn patterns(alloc: Global, tokens: &mut Reader<'_>, depth: usize) -> Result<Vec<Pat>, Fault>
@@ -81,6 +87,7 @@ fn patterns(alloc: Global, tokens: &mut Reader<'_>, depth: usize) -> Result<Vec<
     Err(Fault::Syntax)
 }
 
+/// The rest of a constructor behind its "(": pat { "," pat } ")" .
 #[cycle(pattern)]
 #[tactic(auto, unfolding(tsl_syntax::specs::PatternRules::pattern_parts))]
 fn pattern_parts(
@@ -97,6 +104,7 @@ fn pattern_parts(
     Ok(Pat::Make { name, parts, span })
 }
 
+/// pattern_make = Upper [ "(" pat { "," pat } ")" ] .
 #[cycle(pattern)]
 #[tactic(auto, unfolding(tsl_syntax::specs::PatternRules::pattern_make))]
 fn pattern_make(alloc: Global, tokens: &mut Reader<'_>, depth: usize) -> Result<Pat, Fault>
@@ -114,6 +122,7 @@ fn pattern_make(alloc: Global, tokens: &mut Reader<'_>, depth: usize) -> Result<
     })
 }
 
+/// The choices of pat: "_" | Lower | Number ":" Number | "true" | "false" | Upper [ "(" pat { "," pat } ")" ] .
 #[cycle(pattern)]
 #[tactic(auto, unfolding(tsl_syntax::specs::PatternRules::pattern_body))]
 fn pattern_body(alloc: Global, tokens: &mut Reader<'_>, depth: usize) -> Result<Pat, Fault>
@@ -130,7 +139,8 @@ fn pattern_body(alloc: Global, tokens: &mut Reader<'_>, depth: usize) -> Result<
     }
 }
 
-/// A pattern, with patterns nested no deeper than `depth`.
+/// pat = "_" | Lower | Number ":" Number | "true" | "false" | Upper [ "(" pat { "," pat } ")" ] .
+/// Patterns nest no deeper than `depth`.
 #[cycle(pattern)]
 #[tactic(auto, unfolding(tsl_syntax::specs::PatternRules::pattern))]
 pub fn pattern(alloc: Global, tokens: &mut Reader<'_>, depth: usize) -> Result<Pat, Fault>

@@ -53,6 +53,7 @@ impl<'a> Model for Reader<'a> {
 }
 
 impl<'a> Reader<'a> {
+    /// A cursor before all tokens, at level 0.
     pub fn new(tokens: &'a [Token]) -> Reader<'a>
         ensures { result ≡ record { level = 0; rest = tokens.now } }
     {
@@ -107,7 +108,7 @@ impl<'a> Reader<'a> {
         is_word(word, self.next())
     }
 
-    /// Takes the next token, and answers its span.
+    /// Takes the next token, whatever it is, and answers its span.
     pub fn skip(&mut self) -> Span
         ensures { spec.skip self.old ≡ (Ok result, self.new) }
     {
@@ -123,7 +124,7 @@ impl<'a> Reader<'a> {
         }
     }
 
-    /// Takes this mark, which must come.
+    /// Takes this mark, which must come: mark .
     #[tactic(auto, unfolding(tsl_syntax::specs::Parsing::expect, tsl_syntax::specs::Parsing::sees))]
     pub fn expect(&mut self, mark: Mark) -> Result<Span, Fault>
         ensures { Gives (spec.expect mark self.old) result self.new }
@@ -135,7 +136,7 @@ impl<'a> Reader<'a> {
         }
     }
 
-    /// Takes this keyword, which must come.
+    /// Takes this keyword, which must come: word .
     #[tactic(auto, unfolding(tsl_syntax::specs::Parsing::expect_word))]
     pub fn expect_word(&mut self, word: Keyword) -> Result<Span, Fault>
         ensures { Gives (spec.expect_word word self.old) result self.new }
@@ -147,7 +148,7 @@ impl<'a> Reader<'a> {
         }
     }
 
-    /// Takes this mark, if it comes.
+    /// Takes this mark, if it comes: [ mark ] .
     #[tactic(auto, unfolding(tsl_syntax::specs::Parsing::eat, tsl_syntax::specs::Parsing::sees))]
     pub fn eat(&mut self, mark: Mark) -> bool
         ensures { spec.eat mark self.old ≡ (Ok result, self.new) }
@@ -159,7 +160,7 @@ impl<'a> Reader<'a> {
         found
     }
 
-    /// A number.
+    /// A number: Number .
     #[tactic(auto, unfolding(tsl_syntax::specs::Parsing::number))]
     pub fn number(&mut self) -> Result<Num, Fault>
         ensures { Gives (spec.number self.old) result self.new }
@@ -173,7 +174,7 @@ impl<'a> Reader<'a> {
         }
     }
 
-    /// The literal `v:w`.
+    /// The literal `v:w`: Number ":" Number .
     #[tactic(auto, unfolding(tsl_syntax::specs::Parsing::literal))]
     pub fn literal(&mut self) -> Result<Literal, Fault>
         ensures { Gives (spec.literal self.old) result self.new }
@@ -188,7 +189,7 @@ impl<'a> Reader<'a> {
         })
     }
 
-    /// A name that does not begin with a capital letter.
+    /// A name that does not begin with a capital letter: Lower .
     #[tactic(auto, unfolding(tsl_syntax::specs::Parsing::lower))]
     pub fn lower(&mut self, alloc: Global) -> Result<Name, Fault>
         ensures { Gives (spec.lower self.old) result self.new }
@@ -202,7 +203,7 @@ impl<'a> Reader<'a> {
         }
     }
 
-    /// A name that begins with a capital letter.
+    /// A name that begins with a capital letter: Upper .
     #[tactic(auto, unfolding(tsl_syntax::specs::Parsing::upper))]
     pub fn upper(&mut self, alloc: Global) -> Result<Name, Fault>
         ensures { Gives (spec.upper self.old) result self.new }
@@ -229,6 +230,7 @@ impl<'a> Reader<'a> {
         }
     }
 
+    /// Goes one level deeper, where a form begins here, and answers the level to go back to.
     fn enter_if(&mut self, begins: bool) -> Result<usize, Fault>
         ensures { Gives (spec.enter_if begins self.old) result self.new }
     {

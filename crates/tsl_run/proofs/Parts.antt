@@ -1,5 +1,5 @@
 -- The code that words ask for has few parts.
-use Rattle.std.proofs.Common.{◌≡◌, ℕ, ◌≤◌, Bool, true, false, List, [], ◌∷◌, Option, Some, None, length, map, refl, sym, ◌∙◌, ap, subst, arith, leb-true}
+use Rattle.std.proofs.Common.{◌≡◌, ℕ, ◌≤◌, List, [], ◌∷◌, Option, Some, None, length, map, refl, sym, ◌∙◌, ap, subst, arith, leb-true}
 use Rattle.std.specs.Prelude.{if◌then◌else◌, nat_le, option_and_then, option_map, suc}
 use Rattle.std.specs.List.{slice_split}
 use Rattle.std.proofs.lemmas.List.{length-map}
@@ -19,20 +19,13 @@ use Rattle.command_words.specs.Views as view
 use Rattle.command_words.specs.Views.{part_of}
 use Rattle.command_words.specs.Words as w
 use Rattle.command_words.specs.Words.{analyse_of, analysis_of, asked, asked_by, code_of, emulate_of, list_of, request_of, takes_all}
+use Rattle.function_calls.proofs.Typing.{both_given as bound, if_given as guarded}
 
 -- ---- steps that give something
-
-bound : {A B : Type 0} (given : Option A) (next : A → Option B) (end : B) → option_and_then next given ≡ Some end → (a : A) × (given ≡ Some a) × (next a ≡ Some end)
-bound None next end is = absurd (cc)
-bound (Some a) next end is = (a, refl, is)
 
 mapped : {A B : Type 0} (made : A → B) (given : Option A) (end : B) → option_map made given ≡ Some end → (a : A) × (given ≡ Some a) × (made a ≡ end)
 mapped made None end is = absurd (cc)
 mapped made (Some a) end is = (a, refl, let same : Some (made a) ≡ Some end = is in cc)
-
-guarded : {A : Type 0} (b : Bool) (given : Option A) (end : A) → (if b then given else None) ≡ Some end → (b ≡ true) × (given ≡ Some end)
-guarded true given end is = (refl, is)
-guarded false given end is = absurd (cc)
 
 -- ---- parts
 

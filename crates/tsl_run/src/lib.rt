@@ -12,9 +12,10 @@
 //! step.
 //!
 //! What is proved: `run` ends with an outcome that it comes to and writes its line, or a front of it where the sink fails, or
-//! nothing for want of memory (`ends`). Over inputs that tell their bytes an answer is owed (`answered`). All else that a caller
-//! wants follows from that, as the law `laws::ends_follow` shows: each fault has its cause, one line is written, and where
-//! nothing fails what is owed is answered. `run_in_memory` is the run where nothing fails, and its contract says so.
+//! nothing for want of memory (`ends`). From this it follows that over inputs that tell their bytes an answer is owed
+//! (`answered`). With `write_fault`, all else that a caller wants follows too, as the law `laws::ends_follow` shows: each fault has
+//! its cause, one line is written, and where nothing fails what is owed is answered. `run_in_memory` is the run where nothing
+//! fails, and its contract says so.
 #![tactic(auto)]
 
 ghost use Rattle.std.specs.Prelude.{◌≡◌, ◌≢◌, ◌⊎◌, IsTrue, List, None, ℕ};
@@ -52,7 +53,7 @@ pub fn run<I: Inputs, S: Sink>(
     ensures inputs_kept { InputsKept (I.state inputs.old) (I.state inputs.new) }
     ensures sink_kept { SinkKept (S.state sink.old) (S.state sink.new) }
 
-    // Over inputs that tell, what is answered is owed, and its text is written.
+    // Over inputs that tell, what is answered is owed, and its text is written. This follows from ends.
     ensures answered { IsTrue (I.state inputs.old).tells → IsAnswer result
         → (text : List ℕ) × Owes (texts words.now) (I.state inputs.old).held result text
         × Appends (S.state sink.old) (S.state sink.new) text }

@@ -21,7 +21,7 @@ use Rattle.tsl_syntax.specs.declared.tree.GuardArg.TheVariants as other_variants
 use Rattle.tsl_syntax.specs.declared.tree.ArgDecl.{ArgDecl}
 use Rattle.tsl_syntax.specs.declared.tree.ArgDecl.TheVariants as arg_variants
 use Rattle.tsl_syntax.specs.declared.rules.Literal.{Literal}
-use Rattle.tsl_syntax.specs.Tree.{Term as Expr, Pattern, Arm as ArmTree, Constructor, Datatype as DataTree, Function as FunTree, Row as RowTree, DecodeSection, Item as ItemTree}
+use Rattle.tsl_syntax.specs.Tree.{Term as Expr, Pattern, Arm as ArmTree, Constructor, Datatype as DataTree, Row as RowTree, DecodeSection, Item as ItemTree}
 use Rattle.tsl_syntax.specs.Tree as e
 use Rattle.tsl_syntax.specs.Nodes.{literal_of, pattern_make_of, let_of, if_of, binary_of, prefix_of, get_of, put_of, call_of, make_of, operation_of, cast_of, arm_of, match_of, paren_of, field_of, case_of, datatype_of, map_of, fun_of, part_of, guard_of, row_of, decode_of}
 use Rattle.tsl_syntax.specs.Operators.{binds, groups, operator, prefix_operator, loosest}
@@ -91,18 +91,18 @@ mutual
         → Term ℓ (keyword w.KwLet s₁ (suc ℓ) ∷ lower text s₂ (suc ℓ) ∷ mark m.Equals s₃ (suc ℓ) ∷ (a ++ keyword w.KwIn s₄ (suc ℓ) ∷ b)) (let_of s₁ (name text s₂) x y)
     if_else : {ℓ : ℕ} (s₁ s₂ s₃ : Span) {a b d : List Leveled} {c x y : Expr} → Term (suc ℓ) a c → Term (suc ℓ) b x → Term (suc ℓ) d y
         → Term ℓ (keyword w.KwIf s₁ (suc ℓ) ∷ (a ++ keyword w.KwThen s₂ (suc ℓ) ∷ (b ++ keyword w.KwElse s₃ (suc ℓ) ∷ d))) (if_of s₁ c x y)
-    operators : {ℓ top : ℕ} {a : List Leveled} {x : Expr} → Level loosest (suc ℓ) top a x → Term ℓ a x
+    operators : {ℓ top : ℕ} {a : List Leveled} {x : Expr} → AtPrecedence loosest (suc ℓ) top a x → Term ℓ a x
 
   -- operators up to a precedence, from a level to a level: each operator is one level more; those of one precedence group to the left, or stand alone
-  pub data Level : ℕ → ℕ → ℕ → List Leveled → Expr → Type 0 where
-    unary : {ℓ top : ℕ} {a : List Leveled} {x : Expr} → Unary ℓ top a x → Level zero ℓ top a x
-    one : {p ℓ top : ℕ} {a : List Leveled} {x : Expr} → Level p ℓ top a x → Level (suc p) ℓ top a x
+  pub data AtPrecedence : ℕ → ℕ → ℕ → List Leveled → Expr → Type 0 where
+    unary : {ℓ top : ℕ} {a : List Leveled} {x : Expr} → Unary ℓ top a x → AtPrecedence zero ℓ top a x
+    one : {p ℓ top : ℕ} {a : List Leveled} {x : Expr} → AtPrecedence p ℓ top a x → AtPrecedence (suc p) ℓ top a x
     more : {p ℓ mid top : ℕ} (kind : Kind) (s : Span) {a b : List Leveled} {x y : Expr}
-        → Level (suc p) ℓ mid a x → binds (Some kind) ≡ suc p → groups (suc p) ≡ true → Level p (suc mid) top b y
-        → Level (suc p) ℓ top (a ++ (token kind s, suc mid) ∷ b) (binary_of (operator (Some kind)) x y)
+        → AtPrecedence (suc p) ℓ mid a x → binds (Some kind) ≡ suc p → groups (suc p) ≡ true → AtPrecedence p (suc mid) top b y
+        → AtPrecedence (suc p) ℓ top (a ++ (token kind s, suc mid) ∷ b) (binary_of (operator (Some kind)) x y)
     once : {p ℓ mid top : ℕ} (kind : Kind) (s : Span) {a b : List Leveled} {x y : Expr}
-        → Level p ℓ mid a x → binds (Some kind) ≡ suc p → groups (suc p) ≡ false → Level p (suc mid) top b y
-        → Level (suc p) ℓ top (a ++ (token kind s, suc mid) ∷ b) (binary_of (operator (Some kind)) x y)
+        → AtPrecedence p ℓ mid a x → binds (Some kind) ≡ suc p → groups (suc p) ≡ false → AtPrecedence p (suc mid) top b y
+        → AtPrecedence (suc p) ℓ top (a ++ (token kind s, suc mid) ∷ b) (binary_of (operator (Some kind)) x y)
 
   -- prefix operators, each one level more
   pub data Unary : ℕ → ℕ → List Leveled → Expr → Type 0 where
@@ -192,7 +192,7 @@ pub data Params : List Leveled → List FieldDecl → Type 0 where
   none : Params [] []
   some : {us : List Leveled} {fs : List FieldDecl} → Fields us fs → Params us fs
 
-pub data Function : List Leveled → FunTree → Type 0 where
+pub data Function : List Leveled → e.Function → Type 0 where
   function : (text ty : List ℕ) (s₁ s₂ s₃ s₄ s₅ s₆ s₇ s₈ : Span) {us vs : List Leveled} {fs : List FieldDecl} {x : Expr} → Params us fs → Term 0 vs x
       → Function (keyword w.KwFun s₁ 0 ∷ lower text s₂ 0 ∷ mark m.LParen s₃ 0 ∷ (us
       ++ mark m.RParen s₄ 0 ∷ mark m.Arrow s₅ 0 ∷ upper ty s₆ 0 ∷ mark m.Equals s₇ 0 ∷ (vs ++ mark m.Semi s₈ 0 ∷ []))) (fun_of s₁ (name text s₂) fs (name ty s₆) x s₈)
@@ -242,7 +242,7 @@ pub data Decode : List Leveled → DecodeSection → Type 0 where
 pub data Item : List Leveled → ItemTree → Type 0 where
   datatype : {us : List Leveled} {x : DataTree} → Datatype us x → Item us (e.datatype x)
   map_type : {us : List Leveled} {x : MapDecl} → MapType us x → Item us (e.map_type x)
-  function : {us : List Leveled} {x : FunTree} → Function us x → Item us (e.Item.function x)
+  function : {us : List Leveled} {x : e.Function} → Function us x → Item us (e.Item.function x)
   decode : {us : List Leveled} {x : DecodeSection} → Decode us x → Item us (e.decode x)
 
 abbrev pub Items : List Leveled → List ItemTree → Type 0

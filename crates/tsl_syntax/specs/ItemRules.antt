@@ -17,7 +17,7 @@ use Rattle.tsl_syntax.specs.declared.tree.GuardArg.TheVariants as other_variants
 use Rattle.tsl_syntax.specs.declared.tree.ArgDecl.{ArgDecl}
 use Rattle.tsl_syntax.specs.declared.tree.ArgDecl.TheVariants as arg_variants
 use Rattle.tsl_syntax.specs.declared.rules.Fault.TheVariants.{Syntax}
-use Rattle.tsl_syntax.specs.Tree.{Term as Expr, Constructor, Datatype, Function as FunDecl, Row, DecodeSection, Item}
+use Rattle.tsl_syntax.specs.Tree.{Term as Expr, Constructor, Datatype, Row, DecodeSection, Item}
 use Rattle.tsl_syntax.specs.Tree as e
 use Rattle.tsl_syntax.specs.Parsing.{Parser, ◌>>=◌, ◌>>◌, pure, stop, by_next, skip, expect, expect_word, literal, number, lower, upper, eat, is_mark, is_word}
 use Rattle.tsl_syntax.specs.Lists.{separated, until, many}
@@ -76,7 +76,7 @@ map_type = do
 unfoldable pub params : Parser (List FieldDecl)
 params = by_next (λ next. if is_mark m.RParen next then pure [] else separated field m.Comma)
 
-unfoldable pub function : Parser FunDecl
+unfoldable pub function : Parser e.Function
 function = do
   start ← expect_word w.KwFun
   name ← lower

@@ -16,7 +16,7 @@ use Rattle.tsl_syntax.specs.declared.tree.GuardArg.{GuardArg}
 use Rattle.tsl_syntax.specs.declared.tree.GuardArg.TheVariants as other_variants
 use Rattle.tsl_syntax.specs.declared.tree.ArgDecl.{ArgDecl}
 use Rattle.tsl_syntax.specs.declared.rules.Literal.{Literal}
-use Rattle.tsl_syntax.specs.Tree.{Term as Expr, Pattern, Arm, Constructor, Datatype, Function as FunDecl, Row, DecodeSection}
+use Rattle.tsl_syntax.specs.Tree.{Term as Expr, Pattern, Arm, Constructor, Datatype, Row, DecodeSection}
 use Rattle.tsl_syntax.specs.Tree as e
 
 -- from the beginning of one to the end of another
@@ -110,7 +110,7 @@ datatype_of start name cases end = record { name = name; cases = cases; span = h
 abbrev pub map_of : Span → Name → Name → Name → Num → Span → MapDecl
 map_of start name key value default end = record { name = name; key = key; value = value; default = default; span = hull start end }
 
-abbrev pub fun_of : Span → Name → List FieldDecl → Name → Expr → Span → FunDecl
+abbrev pub fun_of : Span → Name → List FieldDecl → Name → Expr → Span → e.Function
 fun_of start name params ty body end = record { name = name; params = params; result_type = ty; body = body; span = hull start end }
 
 abbrev pub part_of : Name → Num → PartDecl

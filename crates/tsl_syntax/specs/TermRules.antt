@@ -192,16 +192,16 @@ module _ (pattern : Parser Pattern) (term : Parser Expr) where
     pure (prefix_of (prefix_operator next) start x)) else post)
 
   -- operators of this precedence and those that bind more tightly
-  unfoldable pub level : ℕ → Parser Expr
-  level zero = unary_from max_turns
-  level (suc prec) = do
-    first ← level prec
-    chain_from (level prec) (suc prec) max_turns first
+  unfoldable pub at_precedence : ℕ → Parser Expr
+  at_precedence zero = unary_from max_turns
+  at_precedence (suc prec) = do
+    first ← at_precedence prec
+    chain_from (at_precedence prec) (suc prec) max_turns first
 
   abbrev pub body_by : Option Kind → Parser Expr
   body_by (Some (k.Word w.KwLet)) = let_in term
   body_by (Some (k.Word w.KwIf)) = if_else term
-  body_by _ = level loosest
+  body_by _ = at_precedence loosest
 
   unfoldable pub body : Parser Expr
   body = by_next body_by

@@ -1,4 +1,15 @@
 //! The trees of specifications, and all that is defined of them: the grammar, its rules, and which tree or fault tokens have.
+//!
+//! `tree` has the types of the code's trees, each form with its span in bytes; `rules` says why a rule refuses. In specs/ stand:
+//!
+//! - Tree, View: trees as plain data, and which one a tree of the code is.
+//! - Grammar: which tree tokens have, and the level of each. In the body `x + y * z` of a function these are 1, 2, 2, 3 and 3.
+//! - Exact, Laws: the tree of a list of tokens, its first wrong token, its first that is too deep. Each list has just one of these.
+//! - Nodes, Operators, Tokens: the node of each production with its span, precedences, classes of tokens.
+//! - State, Parsing, Lists, PatternRules, TermRules, ItemRules: the spec parser, a definition for each function that parses.
+//!
+//! What is proved: `fault_line` writes the line of a fault, as `spec 31 P1` for `Syntax { at: 31 }` (specs/FaultLines). That the
+//! spec parser and the grammar agree is shown in `tsl_parser`. This crate stands on `tsl_lexer`, which has the tokens.
 #![tactic(auto)]
 
 ghost use Rattle.std.specs.Prelude.{◌≡◌, IfOk};

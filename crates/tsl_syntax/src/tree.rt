@@ -26,14 +26,14 @@ pub struct Num {
 }
 
 /// A whole specification. `end` is the length of its source.
-#[derive(Debug, Drop)]
+#[derive(Drop)]
 pub struct Tree {
     pub items: Vec<Item>,
     pub end: u32,
 }
 
 /// A declaration.
-#[derive(Debug, Drop)]
+#[derive(Drop)]
 pub enum Item {
     Data(DataDecl),
     Map(MapDecl),
@@ -76,7 +76,7 @@ pub struct MapDecl {
 }
 
 /// `fun name(..) -> Type = term;`
-#[derive(Debug, Drop)]
+#[derive(Drop)]
 pub struct FunDecl {
     pub name: Name,
     pub params: Vec<FieldDecl>,
@@ -165,7 +165,7 @@ pub enum PreOp {
 
 /// `pattern => term;`
 #[cycle(expr)]
-#[derive(Debug, Drop)]
+#[derive(Drop)]
 pub struct Arm {
     pub pat: Pat,
     pub body: Expr,
@@ -174,7 +174,7 @@ pub struct Arm {
 
 /// A term.
 #[cycle(expr)]
-#[derive(Debug, Drop)]
+#[derive(Drop)]
 pub enum Expr {
     Let {
         name: Name,
@@ -259,7 +259,7 @@ pub enum Expr {
 }
 
 /// A pattern.
-#[derive(Debug, Drop)]
+#[derive(Drop)]
 pub enum Pat {
     Any {
         span: Span,

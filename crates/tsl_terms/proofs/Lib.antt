@@ -1,2 +1,9 @@
 pub mod Chain
+pub mod Deeper
+pub mod Ends
+pub mod Indexes
+pub mod Items
+pub mod Levels
+pub mod Measures
 pub mod Unary
+pub mod Views

@@ -1,8 +1,9 @@
 //! Terms, by recursive descent.
 
-ghost use Rattle.std.specs.Prelude.{◌≡◌, map};
+ghost use Rattle.std.specs.Prelude.{◌≡◌, map, Ok, Err, MatchResult};
 ghost use Rattle.std.specs.Option.{option_copied};
 ghost use Rattle.tsl_syntax.specs.Parsing.{GivesBy};
+ghost use Rattle.tsl_syntax.specs.declared.rules.Fault.TheVariants.{NoMemory};
 ghost use Rattle.tsl_syntax.specs.Lists as lists;
 ghost use Rattle.tsl_syntax.specs.PatternRules as patterns;
 ghost use Rattle.tsl_syntax.specs.Operators as operators;
@@ -10,7 +11,7 @@ ghost use Rattle.tsl_syntax.specs.TermRules as spec;
 ghost use Rattle.tsl_syntax.specs.View.{term as term_view, arm as arm_view};
 ghost use Rattle.tsl_lexer.specs.declared.token.Mark.TheVariants as marks;
 
-use std::alloc::Global;
+use std::alloc::{AllocError, Global};
 use tsl_lexer::{Keyword, Kind, Mark};
 use tsl_reader::make::{
     arm_of, binary_of, cast_of, get_of, if_of, let_of, match_of, operation_of, paren_of, prefix_of,
@@ -79,6 +80,17 @@ fn prefix_operator(next: Option<&Kind>) -> PreOp
     }
 }
 
+/// The term that was made, unless memory ran out.
+fn given(made: Result<Expr, AllocError>) -> Result<Expr, Fault>
+    ensures { MatchResult made (λ e. result ≡ Ok e) (λ _. result ≡ Err NoMemory) }
+{
+    match made {
+        Ok(e) => Ok(e),
+        Err(_) => Err(Fault::NoMemory),
+    }
+}
+
+/// word = Number ":" Number .
 #[tactic(auto, unfolding(tsl_syntax::specs::TermRules::word))]
 fn word(tokens: &mut Reader<'_>) -> Result<Expr, Fault>
     ensures { GivesBy term_view (spec.word tokens.old) result tokens.new }
@@ -91,6 +103,8 @@ fn word(tokens: &mut Reader<'_>) -> Result<Expr, Fault>
     })
 }
 
+/// flag = "true" | "false" .
+/// The keyword that must come is `word`; it means `v`.
 #[tactic(auto, unfolding(tsl_syntax::specs::TermRules::flag))]
 fn flag(tokens: &mut Reader<'_>, word: Keyword, v: bool) -> Result<Expr, Fault>
     ensures { GivesBy term_view (spec.flag word v tokens.old) result tokens.new }
@@ -99,19 +113,19 @@ fn flag(tokens: &mut Reader<'_>, word: Keyword, v: bool) -> Result<Expr, Fault>
     Ok(Expr::Flag { v, span })
 }
 
+/// paren = "(" term ")" .
 #[cycle(term)]
-#[tactic(auto, unfolding(tsl_syntax::specs::TermRules::paren))]
 fn paren(alloc: Global, tokens: &mut Reader<'_>, depth: usize) -> Result<Expr, Fault>
     ensures { GivesBy term_view (spec.paren (spec.term depth) tokens.old) result tokens.new }
 {
     let start = tokens.expect(Mark::LParen)?;
     let x = term(alloc, tokens, depth)?;
     let end = or_drop!(tokens.expect(Mark::RParen), x);
-    Ok(paren_of(alloc, start, x, end)?)
+    given(paren_of(alloc, start, x, end))
 }
 
+/// terms = term { "," term } .
 #[cycle(term)]
-#[tactic(auto, using(tsl_reader::proofs::Turns::turn, tsl_reader::proofs::Turns::over, tsl_reader::proofs::Turns::map_more), unfolding(tsl_syntax::specs::Lists::separated, tsl_syntax::specs::Lists::separated_from))]
 fn terms(alloc: Global, tokens: &mut Reader<'_>, depth: usize) -> Result<Vec<Expr>, Fault>
     ensures { GivesBy (λ v. map term_view v.items) (lists.separated (spec.term depth) marks.Comma tokens.old) result tokens.new }
 {
@@ -127,8 +141,9 @@ fn terms(alloc: Global, tokens: &mut Reader<'_>, depth: usize) -> Result<Vec<Exp
     Err(Fault::Syntax)
 }
 
+/// arguments = [ term { "," term } ] .
+/// There are none where a `)` comes, which is left.
 #[cycle(term)]
-#[tactic(auto, unfolding(tsl_syntax::specs::TermRules::arguments, tsl_syntax::specs::Parsing::sees))]
 fn arguments(alloc: Global, tokens: &mut Reader<'_>, depth: usize) -> Result<Vec<Expr>, Fault>
     ensures { GivesBy (λ v. map term_view v.items) (spec.arguments (spec.term depth) tokens.old) result tokens.new }
 {
@@ -138,8 +153,8 @@ fn arguments(alloc: Global, tokens: &mut Reader<'_>, depth: usize) -> Result<Vec
     terms(alloc, tokens, depth)
 }
 
+/// The rest of a call behind its "(": [ term { "," term } ] ")" .
 #[cycle(term)]
-#[tactic(auto, unfolding(tsl_syntax::specs::TermRules::call))]
 fn call(alloc: Global, tokens: &mut Reader<'_>, depth: usize, name: Name) -> Result<Expr, Fault>
     ensures { GivesBy term_view (spec.call (spec.term depth) name tokens.old) result tokens.new }
 {
@@ -149,8 +164,8 @@ fn call(alloc: Global, tokens: &mut Reader<'_>, depth: usize, name: Name) -> Res
     Ok(Expr::Call { name, args, span })
 }
 
+/// named = Lower [ "(" [ term { "," term } ] ")" ] .
 #[cycle(term)]
-#[tactic(auto, unfolding(tsl_syntax::specs::TermRules::named))]
 fn named(alloc: Global, tokens: &mut Reader<'_>, depth: usize) -> Result<Expr, Fault>
     ensures { GivesBy term_view (spec.named (spec.term depth) tokens.old) result tokens.new }
 {
@@ -161,8 +176,8 @@ fn named(alloc: Global, tokens: &mut Reader<'_>, depth: usize) -> Result<Expr, F
     Ok(Expr::Var(name))
 }
 
+/// The rest of a constructor behind its "(": term { "," term } ")" .
 #[cycle(term)]
-#[tactic(auto, unfolding(tsl_syntax::specs::TermRules::parts))]
 fn parts(alloc: Global, tokens: &mut Reader<'_>, depth: usize, name: Name) -> Result<Expr, Fault>
     ensures { GivesBy term_view (spec.parts (spec.term depth) name tokens.old) result tokens.new }
 {
@@ -172,8 +187,8 @@ fn parts(alloc: Global, tokens: &mut Reader<'_>, depth: usize, name: Name) -> Re
     Ok(Expr::Make { name, args, span })
 }
 
+/// made = Upper [ "(" term { "," term } ")" ] .
 #[cycle(term)]
-#[tactic(auto, unfolding(tsl_syntax::specs::TermRules::made))]
 fn made(alloc: Global, tokens: &mut Reader<'_>, depth: usize) -> Result<Expr, Fault>
     ensures { GivesBy term_view (spec.made (spec.term depth) tokens.old) result tokens.new }
 {
@@ -189,8 +204,8 @@ fn made(alloc: Global, tokens: &mut Reader<'_>, depth: usize) -> Result<Expr, Fa
     })
 }
 
+/// An operation: op "(" term "," term ")" .
 #[cycle(term)]
-#[tactic(auto, unfolding(tsl_syntax::specs::TermRules::operation))]
 fn operation(
     alloc: Global,
     tokens: &mut Reader<'_>,
@@ -205,11 +220,11 @@ fn operation(
     or_drop!(tokens.expect(Mark::Comma), x);
     let y = or_drop!(term(alloc, tokens, depth), x);
     let end = or_drop!(tokens.expect(Mark::RParen), x, y);
-    Ok(operation_of(alloc, op, start, x, y, end)?)
+    given(operation_of(alloc, op, start, x, y, end))
 }
 
+/// A cast: cast "(" term "," Number ")" .
 #[cycle(term)]
-#[tactic(auto, unfolding(tsl_syntax::specs::TermRules::cast))]
 fn cast(alloc: Global, tokens: &mut Reader<'_>, depth: usize, op: Keyword) -> Result<Expr, Fault>
     ensures { GivesBy term_view (spec.cast (spec.term depth) op tokens.old) result tokens.new }
 {
@@ -219,11 +234,11 @@ fn cast(alloc: Global, tokens: &mut Reader<'_>, depth: usize, op: Keyword) -> Re
     or_drop!(tokens.expect(Mark::Comma), x);
     let to = or_drop!(tokens.number(), x);
     let end = or_drop!(tokens.expect(Mark::RParen), x);
-    Ok(cast_of(alloc, op, start, x, to, end)?)
+    given(cast_of(alloc, op, start, x, to, end))
 }
 
+/// arm = pat "=>" term ";" .
 #[cycle(term)]
-#[tactic(auto, unfolding(tsl_syntax::specs::TermRules::arm))]
 fn arm(alloc: Global, tokens: &mut Reader<'_>, depth: usize) -> Result<Arm, Fault>
     ensures { GivesBy arm_view (spec.arm (patterns.pattern depth) (spec.term depth) tokens.old) result tokens.new }
 {
@@ -234,8 +249,9 @@ fn arm(alloc: Global, tokens: &mut Reader<'_>, depth: usize) -> Result<Arm, Faul
     Ok(arm_of(pat, body, end))
 }
 
+/// arms = arm { arm } .
+/// They end where a `}` comes, which is left.
 #[cycle(term)]
-#[tactic(auto, using(tsl_reader::proofs::Turns::turn, tsl_reader::proofs::Turns::over, tsl_reader::proofs::Turns::map_more), unfolding(tsl_syntax::specs::Lists::many, tsl_syntax::specs::Lists::until_from, tsl_syntax::specs::Parsing::sees))]
 fn arms(alloc: Global, tokens: &mut Reader<'_>, depth: usize) -> Result<Vec<Arm>, Fault>
     ensures { GivesBy (λ v. map arm_view v.items) (lists.many (spec.arm (patterns.pattern depth) (spec.term depth)) marks.RBrace tokens.old) result tokens.new }
 {
@@ -252,8 +268,8 @@ fn arms(alloc: Global, tokens: &mut Reader<'_>, depth: usize) -> Result<Vec<Arm>
     Err(Fault::Syntax)
 }
 
+/// match_on = "match" term "with" "{" arm { arm } "}" .
 #[cycle(term)]
-#[tactic(auto, unfolding(tsl_syntax::specs::TermRules::match_on))]
 fn match_on(alloc: Global, tokens: &mut Reader<'_>, depth: usize) -> Result<Expr, Fault>
     ensures { GivesBy term_view (spec.match_on (patterns.pattern depth) (spec.term depth) tokens.old) result tokens.new }
 {
@@ -263,9 +279,10 @@ fn match_on(alloc: Global, tokens: &mut Reader<'_>, depth: usize) -> Result<Expr
     or_drop!(tokens.expect(Mark::LBrace), x);
     let arms = or_drop!(arms(alloc, tokens, depth), x);
     let end = or_drop!(tokens.expect(Mark::RBrace), x, arms);
-    Ok(match_of(alloc, start, x, arms, end)?)
+    given(match_of(alloc, start, x, arms, end))
 }
 
+/// An atom that begins with this keyword: `flag` | `match_on` | `operation` | `cast` .
 #[cycle(term)]
 fn atom_by_word(
     alloc: Global,
@@ -285,6 +302,7 @@ fn atom_by_word(
     }
 }
 
+/// atom = `word` | `named` | `made` | `paren` | `flag` | `match_on` | `operation` | `cast` .
 #[cycle(term)]
 #[tactic(auto, unfolding(tsl_syntax::specs::TermRules::atom))]
 fn atom(alloc: Global, tokens: &mut Reader<'_>, depth: usize) -> Result<Expr, Fault>
@@ -300,9 +318,8 @@ fn atom(alloc: Global, tokens: &mut Reader<'_>, depth: usize) -> Result<Expr, Fa
     }
 }
 
-/// A key and what may be put there, after the mark `[`.
+/// The rest of a map read or change behind its "[": term [ ":=" term ] "]" .
 #[cycle(term)]
-#[tactic(auto, unfolding(tsl_syntax::specs::TermRules::index))]
 fn index(alloc: Global, tokens: &mut Reader<'_>, depth: usize, x: Expr) -> Result<Expr, Fault>
     ensures { GivesBy term_view (spec.index (spec.term depth) (term_view x) tokens.old) result tokens.new }
 {
@@ -310,14 +327,15 @@ fn index(alloc: Global, tokens: &mut Reader<'_>, depth: usize, x: Expr) -> Resul
     if tokens.eat(Mark::Assign) {
         let v = or_drop!(term(alloc, tokens, depth), x, key);
         let end = or_drop!(tokens.expect(Mark::RBracket), x, key, v);
-        return Ok(put_of(alloc, x, key, v, end)?);
+        return given(put_of(alloc, x, key, v, end));
     }
     let end = or_drop!(tokens.expect(Mark::RBracket), x, key);
-    Ok(get_of(alloc, x, key, end)?)
+    given(get_of(alloc, x, key, end))
 }
 
+/// post = atom { "[" term [ ":=" term ] "]" } .
+/// Each `[` is one level deeper.
 #[cycle(term)]
-#[tactic(auto, using(tsl_reader::proofs::Turns::turn, tsl_reader::proofs::Turns::over), unfolding(tsl_syntax::specs::TermRules::post, tsl_syntax::specs::TermRules::indexes_from, tsl_syntax::specs::Parsing::sees))]
 fn post(alloc: Global, tokens: &mut Reader<'_>, depth: usize) -> Result<Expr, Fault>
     ensures { GivesBy term_view (spec.post (patterns.pattern depth) (spec.term depth) tokens.old) result tokens.new }
 {
@@ -334,9 +352,9 @@ fn post(alloc: Global, tokens: &mut Reader<'_>, depth: usize) -> Result<Expr, Fa
     Err(Fault::TooDeep)
 }
 
-/// Prefix operators and their operand, in as many turns.
+/// unary = ( "!" | "~" | "-" ) unary | post .
+/// Each operator is one level deeper. It takes one of the turns, and so does the operand.
 #[cycle(term)]
-#[tactic(auto, using(crate::proofs::Unary::unary_turn, crate::proofs::Unary::unary_end))]
 fn unary(alloc: Global, tokens: &mut Reader<'_>, depth: usize, turns: usize) -> Result<Expr, Fault>
     ensures { GivesBy term_view (spec.unary_from (patterns.pattern depth) (spec.term depth) turns tokens.old) result tokens.new }
 {
@@ -351,24 +369,25 @@ fn unary(alloc: Global, tokens: &mut Reader<'_>, depth: usize, turns: usize) -> 
     tokens.rise()?;
     let start = tokens.skip();
     let x = unary(alloc, tokens, depth, turns - 1)?;
-    Ok(prefix_of(alloc, op, start, x)?)
+    given(prefix_of(alloc, op, start, x))
 }
 
-/// A term whose operators bind at least as tightly as `precedence`.
+/// By precedence from 8 to 0: or | and | eq | bor | xor | band | sum | prod | unary .
+/// So `or = and { "||" and } .` is 8, `eq = bor [ ( "==" | "!=" ) bor ] .` is 6, `prod = unary { "*" unary } .` is 1.
+/// Each operator is one level deeper.
 #[cycle(term)]
-#[tactic(auto, using(tsl_reader::proofs::Turns::turn, tsl_reader::proofs::Turns::over), unfolding(tsl_syntax::specs::TermRules::level, tsl_syntax::specs::TermRules::chain_from))]
-fn level(
+fn at_precedence(
     alloc: Global,
     tokens: &mut Reader<'_>,
     depth: usize,
     precedence: u8,
 ) -> Result<Expr, Fault>
-    ensures { GivesBy term_view (spec.level (patterns.pattern depth) (spec.term depth) precedence tokens.old) result tokens.new }
+    ensures { GivesBy term_view (spec.at_precedence (patterns.pattern depth) (spec.term depth) precedence tokens.old) result tokens.new }
 {
     if precedence == 0 {
         return unary(alloc, tokens, depth, MAX_TURNS);
     }
-    let mut left = level(alloc, tokens, depth, precedence - 1)?;
+    let mut left = at_precedence(alloc, tokens, depth, precedence - 1)?;
     for _turn in 0..MAX_TURNS {
         let next = tokens.next();
         if binds(next) != precedence {
@@ -377,7 +396,7 @@ fn level(
         let op = operator(next);
         or_drop!(tokens.rise(), left);
         tokens.skip();
-        let right = match level(alloc, tokens, depth, precedence - 1) {
+        let right = match at_precedence(alloc, tokens, depth, precedence - 1) {
             Ok(right) => right,
             Err(fault) => {
                 drop(left);
@@ -393,8 +412,8 @@ fn level(
     Err(Fault::TooDeep)
 }
 
+/// let_in = "let" Lower "=" term "in" term .
 #[cycle(term)]
-#[tactic(auto, unfolding(tsl_syntax::specs::TermRules::let_in))]
 fn let_in(alloc: Global, tokens: &mut Reader<'_>, depth: usize) -> Result<Expr, Fault>
     ensures { GivesBy term_view (spec.let_in (spec.term depth) tokens.old) result tokens.new }
 {
@@ -404,11 +423,11 @@ fn let_in(alloc: Global, tokens: &mut Reader<'_>, depth: usize) -> Result<Expr, 
     let x = or_drop!(term(alloc, tokens, depth), name);
     or_drop!(tokens.expect_word(Keyword::KwIn), name, x);
     let then = or_drop!(term(alloc, tokens, depth), name, x);
-    Ok(let_of(alloc, start, name, x, then)?)
+    given(let_of(alloc, start, name, x, then))
 }
 
+/// if_else = "if" term "then" term "else" term .
 #[cycle(term)]
-#[tactic(auto, unfolding(tsl_syntax::specs::TermRules::if_else))]
 fn if_else(alloc: Global, tokens: &mut Reader<'_>, depth: usize) -> Result<Expr, Fault>
     ensures { GivesBy term_view (spec.if_else (spec.term depth) tokens.old) result tokens.new }
 {
@@ -418,9 +437,10 @@ fn if_else(alloc: Global, tokens: &mut Reader<'_>, depth: usize) -> Result<Expr,
     let yes = or_drop!(term(alloc, tokens, depth), c);
     or_drop!(tokens.expect_word(Keyword::KwElse), c, yes);
     let no = or_drop!(term(alloc, tokens, depth), c, yes);
-    Ok(if_of(alloc, start, c, yes, no)?)
+    given(if_of(alloc, start, c, yes, no))
 }
 
+/// The choices of term: `let_in` | `if_else` | or .
 #[cycle(term)]
 #[tactic(auto, unfolding(tsl_syntax::specs::TermRules::body))]
 fn body(alloc: Global, tokens: &mut Reader<'_>, depth: usize) -> Result<Expr, Fault>
@@ -429,13 +449,13 @@ fn body(alloc: Global, tokens: &mut Reader<'_>, depth: usize) -> Result<Expr, Fa
     match tokens.next() {
         Some(Kind::Word(Keyword::KwLet)) => let_in(alloc, tokens, depth),
         Some(Kind::Word(Keyword::KwIf)) => if_else(alloc, tokens, depth),
-        _ => level(alloc, tokens, depth, LOOSEST),
+        _ => at_precedence(alloc, tokens, depth, LOOSEST),
     }
 }
 
-/// A term, with terms nested no deeper than `depth`.
+/// term = "let" Lower "=" term "in" term | "if" term "then" term "else" term | or .
+/// Terms nest no deeper than `depth`.
 #[cycle(term)]
-#[tactic(auto, unfolding(tsl_syntax::specs::TermRules::term))]
 pub fn term(alloc: Global, tokens: &mut Reader<'_>, depth: usize) -> Result<Expr, Fault>
     ensures { GivesBy term_view (spec.term depth tokens.old) result tokens.new }
 {

@@ -1,6 +1,8 @@
 -- Functions by their signatures, bodies and groups.
-use Rattle.std.proofs.Common.{◌≡◌, ℕ, suc, ◌+◌, ◌<◌, Bool, true, false, ◌&&◌, Some, List, [], ◌∷◌, ◌++◌, length, map, drop, slice_get, get_or, refl, ap, ◌∙◌, subst, arith}
+use Rattle.std.proofs.Common.{◌≡◌, ℕ, suc, ◌+◌, ◌<◌, true, Some, List, [], ◌∷◌, ◌++◌, length, map, drop, slice_get, get_or, refl, ap, ◌∙◌, subst, arith}
 use Rattle.std.specs.List.{list_all}
+use Rattle.std.proofs.lemmas.List.{drop_more as drop_from}
+use Rattle.std.proofs.lemmas.Bool.{and_from as both_true}
 use Rattle.tsl_parser.specs.Tree as e
 use Rattle.tsl_parser.specs.Tree.{Item, Function}
 use Rattle.tsl_parser.specs.declared.tree.FieldDecl.{FieldDecl}
@@ -17,7 +19,8 @@ use Rattle.spec_calls.specs.Groups.{IsGroupOf, AreGroups}
 use Rattle.tsl_types.specs.Functions.{functions, parameters, forms_of, forms, bodies, terms_in}
 use Rattle.tsl_types.specs.Check.{AreFuns, AreFunsFrom}
 use Rattle.tsl_types.specs.Steps.{made, made_of}
-use Rattle.tsl_types.proofs.Lists.{drop_from, parameters_end, parameters_end_types}
+use Rattle.tsl_types.proofs.Lists.{parameters_end, parameters_end_types}
+use Rattle.tsl_match.proofs.Truth.{and_left, and_right}
 
 -- as many signatures as functions
 pub signatures_count : (types : TypeTable) (items : List Item) → length (functions items) ≡ length (signatures_from types items)
@@ -26,18 +29,6 @@ signatures_count types (e.datatype d ∷ items) = signatures_count types items
 signatures_count types (e.map_type m ∷ items) = signatures_count types items
 signatures_count types (e.function f ∷ items) = ap suc (signatures_count types items)
 signatures_count types (e.decode d ∷ items) = signatures_count types items
-
-and_left : (a b : Bool) → (a && b) ≡ true → a ≡ true
-and_left true b h = refl
-and_left false b h = absurd cc
-
-and_right : (a b : Bool) → (a && b) ≡ true → b ≡ true
-and_right true b h = h
-and_right false b h = absurd cc
-
-both_true : (a b : Bool) → a ≡ true → b ≡ true → (a && b) ≡ true
-both_true true b h k = k
-both_true false b h k = absurd cc
 
 -- parameters of known types are a scope of known types
 parameters_scope : (env : Environment) (params : List FieldDecl) (types : List Ty) → list_all (is_type env) types ≡ true → is_scope env (parameters params types) ≡ true

@@ -4,6 +4,7 @@ use Rattle.std.specs.Prelude.{⊤, nat_lt, slice_get}
 use Rattle.std.specs.List.{list_all}
 use Rattle.std.proofs.lemmas.Bool.Decides.{nat_tests}
 use Rattle.std.proofs.lemmas.Option.{slice_get-map}
+use Rattle.std.proofs.lemmas.Bool.{lt-ltb as less_is, ltb-true as is_less, le-ltb as not_less_is}
 use Rattle.base_trait.specs.Lists.{Each}
 use Rattle.base_trait.proofs.Tests.{and_parts}
 use Rattle.tsl_match.specs.Shapes.{RanksBelow, fields_of}
@@ -37,15 +38,6 @@ module _ {A : Type 0} where
 -- ---- how many of the first numbers have a rank below a bound
 abbrev counts : Bool → ℕ
 counts b = cond b 1 0
-
-is_less : (m n : ℕ) → nat_lt m n ≡ true → m < n
-is_less m n h = grind (arith, nat_tests)
-
-less_is : (m n : ℕ) → m < n → nat_lt m n ≡ true
-less_is m n h = grind (arith, nat_tests)
-
-not_less_is : (m n : ℕ) → n ≤ m → nat_lt m n ≡ false
-not_less_is m n h = grind (arith, nat_tests)
 
 counts_more : (a b : Bool) → (a ≡ true → b ≡ true) → counts a ≤ counts b
 counts_more true true f = omega arith

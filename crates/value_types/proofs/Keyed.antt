@@ -1,8 +1,8 @@
 -- The keys that maps of values list.
-use Rattle.std.proofs.Common.{◌≡◌, ℕ, zero, suc, ◌<◌, ◌^◌, Bool, true, false, Option, Some, None, List, [], ◌∷◌, map as map_of, length, take, refl, sym, ap, subst, ◌∙◌, cond, ◌⊎◌, inl, inr, arith}
+use Rattle.std.proofs.Common.{◌≡◌, ℕ, zero, suc, ◌<◌, ◌^◌, Bool, true, false, Option, Some, None, List, [], ◌∷◌, map as map_of, length, take, refl, sym, ap, subst, ◌∙◌, cond, ◌⊎◌, inl, inr}
 use Rattle.std.specs.Prelude.{IsTrue, ◌&&◌, ◌==◌, nat_lt, slice_get}
 use Rattle.std.specs.List.{list_all}
-use Rattle.std.proofs.lemmas.Bool.Decides.{nat_tests}
+use Rattle.std.proofs.lemmas.Bool.{ltb-true as is_less}
 use Rattle.base_trait.specs.Algebra.{Algebra}
 use Rattle.base_trait.specs.Lists.{Each, IsAmong}
 use Rattle.base_trait.proofs.Lists.{each_at, each_from, number_told}
@@ -29,9 +29,6 @@ use Rattle.value_types.specs.Keys.{CaseKeysFit, KeysFit, PartKeysFit}
 use Rattle.value_types.specs.Laws.{JoinKeysFit, ValueKeysFit, WidenKeysFit}
 use Rattle.value_types.specs.OfValues.{absent_onto, case_count, cell_of, cells_of, map_at, of_value, of_values, one_case}
 use Rattle.value_types.specs.TypeShapes.{width_of}
-
-is_less : (m n : ℕ) → nat_lt m n ≡ true → m < n
-is_less m n h = grind (arith, nat_tests)
 
 -- ---- maps
 module _ {A : Type 0} (P : ℕ → Type 0) where

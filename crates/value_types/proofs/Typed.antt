@@ -2,7 +2,7 @@
 use Rattle.std.proofs.Common.{◌≡◌, ℕ, suc, ◌+◌, ◌<◌, ◌≤◌, ◌^◌, true, Option, Some, None, List, [], ◌∷◌, map as map_of, length, refl, sym, subst, arith}
 use Rattle.std.specs.Prelude.{◌&&◌, ◌==◌, nat_le, nat_lt, slice_get}
 use Rattle.std.specs.List.{list_all}
-use Rattle.std.proofs.lemmas.Bool.Decides.{nat_tests}
+use Rattle.std.proofs.lemmas.Bool.{ltb-true as is_less, leb-true as is_at_most}
 use Rattle.word_ops.specs.Width.{IsWidth}
 use Rattle.base_trait.specs.Lists.{Each, IsAscendingFrom}
 use Rattle.base_trait.proofs.Lists.{number_told}
@@ -13,6 +13,7 @@ use Rattle.spec_types.specs.declared.declared.MapTy.{MapTy}
 use Rattle.spec_types.specs.Environment.{Case, Data, Environment, field_types}
 use Rattle.spec_types.specs.Texts.{case_at, cases_of}
 use Rattle.spec_types.specs.WellFormed.{IsWellFormed, is_type, is_width}
+use Rattle.spec_types.proofs.Checks.{width_is}
 use Rattle.tsl_values.specs.declared.value.Cell.{Cell}
 use Rattle.tsl_values.specs.Types.{cell_fits, has_type, have_types, key_count, keys_ascend, listed_fits, map_fits, of_case}
 use Rattle.tsl_values.specs.Values.{Val, Vals, flag, word, made, map, no_val, val_then}
@@ -20,15 +21,6 @@ use Rattle.value_types.specs.Laws.{TypedFits, are_keyed}
 use Rattle.value_types.specs.OfValues.{MapFits, ValueFits, ValuesFit, case_count}
 use Rattle.value_types.specs.TypeShapes.{width_of}
 use Rattle.value_types.proofs.Depths.{all_at, fields_typed, within}
-
-is_less : (m n : ℕ) → nat_lt m n ≡ true → m < n
-is_less m n h = grind (arith, nat_tests)
-
-is_at_most : (m n : ℕ) → nat_le m n ≡ true → m ≤ n
-is_at_most m n h = grind (arith, nat_tests)
-
-width_is : (w : ℕ) → is_width w ≡ true → IsWidth w
-width_is w h = let p = and_parts (nat_le 1 w) (nat_le w 64) h in (is_at_most 1 w p.0, is_at_most w 64 p.1)
 
 -- ---- cells
 ascending : (low : ℕ) (cells : List (ℕ × Cell)) → keys_ascend low cells ≡ true → IsAscendingFrom low (map_of (λ e. e.0) cells)

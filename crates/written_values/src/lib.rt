@@ -13,11 +13,8 @@
 #![tactic(auto)]
 
 mod maps;
-mod read;
 mod text;
 mod values;
-mod words;
 
-pub use read::{Read, Unread, both};
 pub use text::push_value;
 pub use values::{pushed, value};

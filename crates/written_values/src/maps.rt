@@ -4,10 +4,9 @@ ghost use Rattle.std.specs.Prelude.{IfOk, IfSome};
 ghost use Rattle.word_ops.specs.Width.{IsWidth};
 ghost use Rattle.map_laws.specs.Maps.{Fits};
 
-use crate::read::{Read, Unread, both};
-use crate::words::{note, word};
 use abs_map::{AMap, KeySet};
 use base_trait::Base;
+use case_lines::{Read, Unread, both, note, word};
 use std::alloc::Global;
 
 /// The word and the note of a cell: `{5}`, of the entry, or `{5} from 1000`.

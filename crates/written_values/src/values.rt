@@ -5,11 +5,10 @@ ghost use Rattle.value_laws.specs.Fits.{Fits};
 ghost use Rattle.abs_value.specs.View.{abs};
 
 use crate::maps::map;
-use crate::read::{Read, Unread, both};
-use crate::words::word;
 use abs_steps::made_of;
 use abs_value::AV;
 use base_trait::{Base, Tri};
+use case_lines::{Read, Unread, both, word};
 use spec_types::{Case, Spec, Ty};
 use std::alloc::{AllocError as NoMemory, Global};
 use tsl_lexer::Text;

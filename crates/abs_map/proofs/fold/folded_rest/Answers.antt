@@ -1,8 +1,9 @@
 use Rattle.std.proofs.Common.{◌≤◌, length, refl, sym, ap, subst, ◌∙◌, arith}
+use Rattle.std.proofs.lemmas.List.{drop_all}
 use Rattle.base_trait.specs.Lists.{Each}
 use Rattle.map_laws.specs.Calls.{rest_with}
 use Rattle.map_laws.specs.Cells.{CellFits}
-use Rattle.map_laws.proofs.Joining.{drop_all, take_all}
+use Rattle.map_laws.proofs.Joining.{take_all}
 use Rattle.abs_map.proofs.Folding.{each_push, fold_cells, fold_rest}
 use Rattle.abs_map.proofs.fold.folded_rest.Goals as goal
 

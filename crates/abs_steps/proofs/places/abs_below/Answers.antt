@@ -1,8 +1,9 @@
 use Rattle.std.proofs.Common.{ap, sym, ◌∙◌}
 use Rattle.std.specs.Prelude.{option_map}
 use Rattle.abs_value.specs.View.{abs}
-use Rattle.abs_steps.proofs.Steps.{at_nothing, at_step, item_itself}
+use Rattle.abs_steps.proofs.Steps.{at_nothing, at_step}
 use Rattle.abs_steps.proofs.places.abs_below.Goals as goal
+use Rattle.spec_types.proofs.Lists.{item_itself}
 
 pub loop-step-preserved : goal.loop-step-preserved
 loop-step-preserved g c =

@@ -1,11 +1,12 @@
 use Rattle.std.proofs.Common.{◌≡◌, ◌+◌, ◌∷◌, ◌++◌, [], Some, None, drop, map, ap, sym, subst, ◌∙◌, rules}
 use Rattle.std.specs.Prelude.{All, option_map}
 use Rattle.std.proofs.lemmas.List.Elements.{All-push}
+use Rattle.std.proofs.lemmas.List.{map_push as seen_push}
 use Rattle.tsl_match.specs.Views.{bound}
 use Rattle.value_laws.specs.Fits.{Fits}
 use Rattle.abs_value.specs.View.{abs}
 use Rattle.reinterpretation.specs.Choices as choices
-use Rattle.abs_steps.proofs.Steps.{found_fits, named_next, named_nothing, seen_push}
+use Rattle.abs_steps.proofs.Steps.{found_fits, named_next, named_nothing}
 use Rattle.abs_steps.proofs.places.abs_named.Goals as goal
 
 pub returns-in-None-clause-value : goal.returns-in-None-clause-value

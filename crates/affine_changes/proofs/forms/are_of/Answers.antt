@@ -1,9 +1,10 @@
 use Rattle.std.proofs.Common.{◌<◌, IsTrue, length, rules}
 use Rattle.domain_laws.specs.declared.field.Field.TheVariants.{Word}
 use Rattle.abs_value.specs.View.{abs}
-use Rattle.abs_value.proofs.Merging.{drop_here}
-use Rattle.affine_changes.proofs.Fields.{are_step, item_itself}
+use Rattle.affine_changes.proofs.Fields.{are_step}
 use Rattle.affine_changes.proofs.forms.are_of.Goals as goal
+use Rattle.tsl_match.proofs.Loops.{drop_here}
+use Rattle.spec_types.proofs.Lists.{item_itself}
 
 pub loop-i-preserved : goal.loop-i-preserved
 loop-i-preserved c h =

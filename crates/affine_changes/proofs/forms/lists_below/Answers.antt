@@ -1,7 +1,8 @@
 use Rattle.std.proofs.Common.{◌<◌, arith}
 use Rattle.map_laws.specs.Maps.{keys}
-use Rattle.affine_changes.proofs.Fields.{drop_at, each_step}
+use Rattle.affine_changes.proofs.Fields.{each_step}
 use Rattle.affine_changes.proofs.forms.lists_below.Goals as goal
+use Rattle.spec_types.proofs.Lists.{drop_got as drop_at}
 
 pub loop-place-preserved : goal.loop-place-preserved
 loop-place-preserved c h =

@@ -1,6 +1,7 @@
 use Rattle.std.proofs.Common.{arith, rules}
-use Rattle.cell_text.proofs.Bounds.{wide, narrow}
+use Rattle.cell_text.proofs.Bounds.{narrow}
 use Rattle.cell_text.proofs.digits.fits.Goals as goal
+use Rattle.spec_types.proofs.Checks.{fits_past as wide}
 
 pub returns-then-width-ge64 : goal.returns-then-width-ge64
 returns-then-width-ge64 c = let w = wide c.args.value c.args.width (omega arith) (omega arith) in search (rules, w)

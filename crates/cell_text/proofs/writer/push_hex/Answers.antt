@@ -1,8 +1,8 @@
 use Rattle.std.proofs.Common.{◌≡◌, ◌+◌, ◌-◌, ◌*◌, ◌/◌, ◌%◌, ◌^◌, suc, false, [], ◌∷◌, ◌++◌, arith, rules, append_assoc}
 use Rattle.std.specs.Fmt.{digit_glyph}
 use Rattle.std.specs.String.{string_bytes}
-use Rattle.cell_text.proofs.Bounds.{turn}
 use Rattle.cell_text.proofs.writer.push_hex.Goals as goal
+use Rattle.tsl_reader.proofs.Turns.{turn}
 
 pub loop-i-preserved : goal.loop-i-preserved
 loop-i-preserved c =

@@ -15,3 +15,6 @@ pub returns-in_default : goal.returns-in_default
 returns-in_default c =
     let line = c.in_ok-command.ensures in
     refused _ (texts c.args.words.now) c.in-Err.error line (c.in-Err.ensures.kinds (line_is_simple _ line)) (λ memory. c.in_default.not-OutOfMemory (c.kind-kind.ensures ∙ memory))
+
+pub returns-in-OutOfMemory : goal.returns-in-OutOfMemory
+returns-in-OutOfMemory c = tt

@@ -4,14 +4,12 @@ use Rattle.command_words.specs.declared.bases.BaseName.TheVariants.{KSetInterval
 use Rattle.command_words.specs.Bases.{base_named}
 use Rattle.command_words.specs.OptionValues.{base_of, value_or}
 use Rattle.command_words.specs.Views.{borrowed_text}
-use Rattle.command_words.proofs.Givings.{ok_or_gives}
 use Rattle.command_words.proofs.option_values.base.Goals as goal
 
 pub returns-in-Some : goal.returns-in-Some
 unfolding base_of
-returns-in-Some c =
-    ok_or_gives c.named.result _ c.ok_or.result (ap (λ (text : Option (Bor (List ℕ))). value_or KSetInterval base_named (borrowed_text text)) c.in-Some.is ∙ sym c.named.ensures) c.ok_or.ensures.value
+returns-in-Some c = c.named.ensures ∙ ap (λ (text : Option (Bor (List ℕ))). value_or KSetInterval base_named (borrowed_text text)) (sym c.in-Some.is)
 
 pub returns-in-None : goal.returns-in-None
 unfolding base_of
-returns-in-None c = ap (λ (text : Option (Bor (List ℕ))). value_or KSetInterval base_named (borrowed_text text)) c.in-None.is
+returns-in-None c = ap (λ (text : Option (Bor (List ℕ))). value_or KSetInterval base_named (borrowed_text text)) (sym c.in-None.is)

@@ -1,5 +1,5 @@
 use Rattle.std.proofs.Common.{◌≡◌, drop}
-use Rattle.defuse_base.specs.Laws.{same_notes}
+use Rattle.defuse_base.specs.Instance.{same_notes}
 use Rattle.defuse_base.proofs.stamps.are_same.Given as goal
 
 abbrev pub invariant-loop-i : goal.invariant-loop-i

@@ -2,8 +2,8 @@ use Rattle.std.proofs.Common.{◌≡◌, ◌+◌, ◌<◌, ◌∷◌, length, ma
 use Rattle.recursion_fix.specs.Answer.{gives}
 use Rattle.abs_value.specs.View.{abs}
 use Rattle.eval_memo.specs.Memos.{AreTrue, Holds, IsNew, remembered}
-use Rattle.eval_memo.proofs.Items.{drop_here}
 use Rattle.eval_memo.proofs.memo.find.Goals as goal
+use Rattle.tsl_match.proofs.Loops.{drop_here}
 
 pub returns-then-is_of-clause-there : goal.returns-then-is_of-clause-there
 returns-then-is_of-clause-there g c calls h =

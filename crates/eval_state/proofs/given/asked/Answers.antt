@@ -11,8 +11,8 @@ use Rattle.eval_memo.specs.Ready.{AreGroupArgs, ArgsOf}
 use Rattle.eval_memo.specs.Settings.{spec_of}
 use Rattle.eval_state.specs.Views.{all_abs, group_args}
 use Rattle.eval_memo.proofs.Arguments.{parts_fit}
-use Rattle.eval_memo.proofs.Items.{pushed}
 use Rattle.eval_state.proofs.given.asked.Goals as goal
+use Rattle.tsl_match.proofs.Loops.{pushed}
 
 pub loop-i-preserved : goal.loop-i-preserved
 loop-i-preserved g c =

@@ -1,9 +1,10 @@
 use Rattle.std.proofs.Common.{sym, arith}
 use Rattle.spec_types.specs.declared.ty.Ty.TheVariants.{Bool}
 use Rattle.spec_types.specs.Views.{specification}
+use Rattle.spec_types.proofs.Lists.{item_itself}
 use Rattle.tsl_values.specs.Types.{environment_of}
 use Rattle.abs_value.proofs.Both.{off, on, uneven}
-use Rattle.group_turns.proofs.Items.{item_itself, types_both}
+use Rattle.group_turns.proofs.Items.{types_both}
 use Rattle.group_turns.proofs.lists.have_types.Goals as goal
 
 pub returns-then-args-types : goal.returns-then-args-types

@@ -1,7 +1,7 @@
 use Rattle.std.proofs.Common.{◌+◌, ◌/◌, ◌^◌, drop, get_or, shr-shr, ap, sym, ◌∙◌}
+use Rattle.std.proofs.lemmas.List.{drop_more as drop_from}
 use Rattle.spec_types.specs.declared.row.Part.TheVariants.{Fixed}
 use Rattle.meaning.specs.Decode.{part_width, width_sum}
-use Rattle.insn_decode.proofs.Steps.{drop_from}
 use Rattle.insn_decode.proofs.bits.above.Goals as goal
 
 pub loop-part-preserved : goal.loop-part-preserved

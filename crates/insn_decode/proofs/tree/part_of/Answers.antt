@@ -1,9 +1,9 @@
 use Rattle.std.proofs.Common.{[], ◌∷◌, ◌+◌, ◌++◌, ap, sym, ◌∙◌, map, drop, get_or, append_assoc}
+use Rattle.std.proofs.lemmas.List.{drop_more as drop_from}
 use Rattle.spec_types.specs.Views.{row_of}
 use Rattle.meaning.specs.Decode.{row_met}
 use Rattle.insn_decode.specs.Tree.{picked}
 use Rattle.insn_decode.proofs.Groups.{picked_without}
-use Rattle.insn_decode.proofs.Steps.{drop_from}
 use Rattle.insn_decode.proofs.tree.part_of.Goals as goal
 use Rattle.insn_decode.proofs.tree.part_of.Goals.{then-may_have+in_ok-push, else-may_have}
 

@@ -3,13 +3,13 @@ use Rattle.value_laws.specs.Abs as v
 use Rattle.value_laws.specs.Abs.{cases, cases_onto, made, parts, parts_onto}
 use Rattle.value_laws.specs.Fits.{CaseFits, CasesFit, Fits, PartsFit}
 use Rattle.abs_value.specs.View.{abs, case_of}
-use Rattle.abs_value.proofs.Merging.{drop_here}
 use Rattle.abs_value.proofs.Views.{abs_Data, abs_Flag, abs_Map, abs_Word}
 use Rattle.pair_calls.specs.Calls.{mapped_cases, mapped_map, mapped_parts, mapped_value}
 use Rattle.pair_values.specs.Cases.{mapped_case}
 use Rattle.pair_values.proofs.Values.{case_is, mapped_as, mapped_cases_done, mapped_cases_fit_on, mapped_cases_more, mapped_data_is, mapped_parts_done, mapped_parts_fit_on, mapped_parts_more, pushed_view}
 use Rattle.pair_values.proofs.Weights.{case_weighs, case_weight, cases_weight, part_weighs, parts_weight, weight}
 use Rattle.pair_values.proofs.mapped_values.+mapped.Goals as goal
+use Rattle.tsl_match.proofs.Loops.{drop_here}
 
 pub mapped_parts-loop-x-preserved : goal.mapped_parts-loop-x-preserved
 mapped_parts-loop-x-preserved g t c =

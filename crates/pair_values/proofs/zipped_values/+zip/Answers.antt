@@ -3,7 +3,6 @@ use Rattle.value_laws.specs.Abs as v
 use Rattle.value_laws.specs.Abs.{cases, cases_onto, made, parts, parts_onto}
 use Rattle.value_laws.specs.Fits.{CaseFits, CasesFit, Fits, PartsFit}
 use Rattle.abs_value.specs.View.{abs, case_of}
-use Rattle.abs_value.proofs.Merging.{drop_here}
 use Rattle.abs_value.proofs.Views.{abs_Data, abs_Flag, abs_Map, abs_Word}
 use Rattle.pair_calls.specs.Calls.{zip_cases, zip_parts, zip_value}
 use Rattle.pair_calls.proofs.Values.{CasesMeet, Meet, PartsMeet}
@@ -11,6 +10,7 @@ use Rattle.pair_values.specs.Cases.{CaseMeets, zip_case}
 use Rattle.pair_values.proofs.Values.{case_is, cases_fit_on, cases_meet_on, parts_fit_on, parts_meet_on, pushed_view, zip_cases_done, zip_cases_more, zip_parts_done, zip_parts_more, zipped_as, zipped_data}
 use Rattle.pair_values.proofs.Weights.{case_weight, case_weighs, cases_weight, part_weighs, parts_weight, weight}
 use Rattle.pair_values.proofs.zipped_values.+zip.Goals as goal
+use Rattle.tsl_match.proofs.Loops.{drop_here}
 
 pub zip_parts-loop-i-preserved : goal.zip_parts-loop-i-preserved
 zip_parts-loop-i-preserved g t c =

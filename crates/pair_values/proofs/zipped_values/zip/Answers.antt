@@ -1,5 +1,5 @@
 use Rattle.std.proofs.Common.{◌≡◌, ◌≤◌, max, sym, subst, arith}
-use Rattle.paired_base.specs.Laws.{paired_capacity}
+use Rattle.paired_base.specs.Instance.{paired_capacity}
 use Rattle.paired_base.specs.Meaning.{paired}
 use Rattle.map_laws.proofs.Fitting.{room}
 use Rattle.value_laws.specs.Fits.{Fits}

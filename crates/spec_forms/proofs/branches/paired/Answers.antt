@@ -1,6 +1,7 @@
 use Rattle.std.proofs.Common.{◌≡◌, ◌∙◌, [], arith, sym}
 use Rattle.std.specs.Vec.Iter.{into_iter_items}
-use Rattle.spec_forms.proofs.Pairs.{nil_of, zip_none}
+use Rattle.std.proofs.lemmas.List.{nil_from_length as nil_of}
+use Rattle.spec_forms.proofs.Pairs.{zip_none}
 use Rattle.spec_forms.proofs.branches.paired.Goals as goal
 
 -- no body is left

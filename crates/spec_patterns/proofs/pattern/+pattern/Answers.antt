@@ -1,12 +1,13 @@
 use Rattle.std.proofs.Common.{◌≡◌, ◌∙◌, ◌+◌, List, get_or, [], ◌∷◌, ◌++◌, map, drop, arith, rules, refl, sym, ap, None, append_assoc}
-use Rattle.std.proofs.lemmas.List.{map-append, drop_all}
+use Rattle.std.proofs.lemmas.List.{map-append, drop_all, drop_more as drop_from}
 use Rattle.tsl_parser.specs.Tree.{patterns}
 use Rattle.tsl_parser.specs.View.{pattern}
 use Rattle.tsl_match.specs.Views.{pat}
+use Rattle.tsl_match.proofs.Loops.{drop_here}
 use Rattle.spec_types.specs.declared.ty.Ty.TheVariants.{Bool as Flag}
 use Rattle.spec_types.specs.Answers.{◌then◌}
 use Rattle.spec_patterns.specs.Patterns.{pattern_fault, part_faults, part_variables, parts_of, pattern_of, variables}
-use Rattle.spec_patterns.proofs.Lists.{drop_here, drop_from, pats_onto, pats_onto_more, pats_onto_none}
+use Rattle.spec_patterns.proofs.Lists.{pats_onto, pats_onto_more, pats_onto_none}
 use Rattle.spec_patterns.proofs.pattern.+pattern.Goals as goal
 
 pub checked_parts-loop-i-preserved : goal.checked_parts-loop-i-preserved

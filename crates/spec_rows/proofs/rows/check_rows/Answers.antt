@@ -6,8 +6,8 @@ use Rattle.spec_types.specs.Views.{row_of}
 use Rattle.spec_rows.specs.Decoded.{decoded}
 use Rattle.spec_rows.specs.Rows.{earlier_of, row_fault, rows_fault}
 use Rattle.spec_rows.specs.Views.{earlier}
-use Rattle.spec_rows.proofs.Steps.{drop_here}
 use Rattle.spec_rows.proofs.rows.check_rows.Goals as goal
+use Rattle.tsl_match.proofs.Loops.{drop_here}
 
 pub loop-r-preserved : goal.loop-r-preserved
 loop-r-preserved c =

@@ -1,8 +1,9 @@
 use Rattle.std.proofs.Common.{◌≡◌, ◌∙◌, ◌+◌, get_or, [], ◌∷◌, ◌++◌, length, map, drop, append_assoc, arith, rules, sym, ap, None, Some, true}
-use Rattle.std.proofs.lemmas.List.{map-append, length-append, length-map}
+use Rattle.std.proofs.lemmas.List.{map-append, length-append, length-map, drop_more as drop_from}
 use Rattle.tsl_parser.specs.Tree.{arms as arm_trees, terms as exprs}
 use Rattle.tsl_parser.specs.View.{arm as arm_tree, term as expr}
 use Rattle.tsl_match.specs.Views.{pat}
+use Rattle.tsl_match.proofs.Loops.{drop_here}
 use Rattle.spec_types.specs.declared.ty.Ty.TheVariants.{Bool as Flag}
 use Rattle.spec_types.specs.Answers.{◌then◌}
 use Rattle.spec_types.specs.Environment.{or_else, shape_of, shapes_of}
@@ -12,7 +13,7 @@ use Rattle.spec_patterns.specs.Patterns.{pattern_of, variables}
 use Rattle.spec_typing.specs.Cores.{core_in}
 use Rattle.spec_typing.specs.Parts.{wanted}
 use Rattle.spec_typing.specs.Terms.{argument_faults, arm_fault, arms_fault, arms_type, rows_of, term_of, type_of, part}
-use Rattle.spec_terms.proofs.Lists.{arms_onto_more, cores_onto_more, drop_here, drop_from, or_else_some, terms_onto_more, zip_more}
+use Rattle.spec_terms.proofs.Lists.{arms_onto_more, cores_onto_more, or_else_some, terms_onto_more, zip_more}
 use Rattle.spec_typing.proofs.Rows.{AllSuit, rows_suit, suit_all}
 use Rattle.spec_typing.proofs.Types.{no_arms, type_fits}
 use Rattle.spec_terms.proofs.terms.+checked.Goals as goal

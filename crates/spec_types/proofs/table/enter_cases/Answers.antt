@@ -3,8 +3,9 @@ use Rattle.std.specs.Prelude.{bytes_eq}
 use Rattle.spec_types.specs.Environment.{case_from, field_types}
 use Rattle.spec_types.specs.Found.{found}
 use Rattle.spec_types.specs.Views.{case_of}
-use Rattle.spec_types.proofs.Entered.{drop_here, or_if}
+use Rattle.spec_types.proofs.Entered.{or_if}
 use Rattle.spec_types.proofs.table.enter_cases.Goals as goal
+use Rattle.tsl_match.proofs.Loops.{drop_here}
 
 pub loop-case-preserved : goal.loop-case-preserved
 loop-case-preserved c = λ name.

@@ -1,5 +1,5 @@
 use Rattle.std.proofs.Common.{◌≡◌, ◌-◌, ap, drop, get_or, length, sym, subst, ◌∙◌, arith}
-use Rattle.map_laws.proofs.Joining.{drop_all}
+use Rattle.std.proofs.lemmas.List.{drop_all}
 use Rattle.base_trait.specs.Lists.{Each}
 use Rattle.tsl_values.specs.declared.entry.Given.TheVariants.{One}
 use Rattle.tsl_values.specs.declared.entry.KeyAt.TheVariants.{Whole}

@@ -3,9 +3,10 @@ use Rattle.value_laws.specs.Abs.{parts}
 use Rattle.cell_laws.specs.Calls.{values_rank}
 use Rattle.value_types.specs.Ranks.{leaf_rank}
 use Rattle.abs_value.specs.View.{abs}
-use Rattle.abs_value.proofs.Merging.{drop_here, parts_fit_here}
+use Rattle.abs_value.proofs.Merging.{parts_fit_here}
 use Rattle.state_domain.proofs.Lists.{rank_end, rank_more}
 use Rattle.state_domain.proofs.values.ranked.Goals as goal
+use Rattle.tsl_match.proofs.Loops.{drop_here}
 
 pub rank-requires : goal.rank-requires
 rank-requires g c = record { fits = (parts_fit_here g.B.Base.algebra c.args.ctx.now g.B.Base.CAP c.args.values.now c.loop-value.value-index c.value-item.result c.value-item.is c.loop-value-test.true c.loop-value.invariant.fits).0 }

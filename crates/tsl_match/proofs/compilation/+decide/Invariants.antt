@@ -1,6 +1,6 @@
 use Rattle.std.proofs.Common.{◌+◌, ◌*◌, ◌≤◌, map, take}
 use Rattle.tsl_match.specs.declared.match_error.MatchError.{MatchError}
-use Rattle.tsl_match.specs.Decisions.{Tree, trees}
+use Rattle.tsl_match.specs.Decisions.{Decision, trees}
 use Rattle.tsl_match.specs.Rule.{IsTree, AreTrees}
 use Rattle.tsl_match.specs.Steps.{asked_first}
 use Rattle.tsl_match.specs.Refusals.{FailsWith}
@@ -33,7 +33,7 @@ decreases-decide-loop-questions l = total (map candidate l.rows.items) (knowledg
 abbrev pub invariant-decide-loop-questions : goal.invariant-decide-loop-questions
 invariant-decide-loop-questions l =
     record {
-      trees : (t : Tree) → IsTree (types l.sig) (map candidate l.rows.items) (knowledge l.now) t
+      trees : (t : Decision) → IsTree (types l.sig) (map candidate l.rows.items) (knowledge l.now) t
           → IsTree (types l.sig) (map candidate l.initial.rows.items) (knowledge l.initial.now) (asked_first (map question l.questions.items) t);
       fails : (e : MatchError) → FailsWith (types l.sig) (map candidate l.rows.items) (knowledge l.now) e
           → FailsWith (types l.sig) (map candidate l.initial.rows.items) (knowledge l.initial.now) e;

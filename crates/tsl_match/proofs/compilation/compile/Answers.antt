@@ -1,7 +1,7 @@
 use Rattle.std.proofs.Common.{◌≡◌, map, rules}
 use Rattle.std.proofs.lemmas.Result.{err_from_is_err_and}
 use Rattle.std.proofs.lemmas.List.{length-map}
-use Rattle.tsl_match.specs.declared.knowledge.Known.{Unknown}
+use Rattle.tsl_match.specs.declared.knowledge.Knowledge.{Unknown}
 use Rattle.tsl_match.specs.Picks.{numbered}
 use Rattle.tsl_match.specs.Rule.{IsTree}
 use Rattle.tsl_match.specs.Refusals.{FailsWith}

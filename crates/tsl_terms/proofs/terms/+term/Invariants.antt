@@ -3,7 +3,7 @@ use Rattle.tsl_lexer.specs.declared.token.Mark.TheVariants as m
 use Rattle.tsl_syntax.specs.View.{term as term_view, arm as arm_view}
 use Rattle.tsl_syntax.specs.Lists.{separated, separated_from, many, until_from}
 use Rattle.tsl_syntax.specs.PatternRules.{pattern}
-use Rattle.tsl_syntax.specs.TermRules.{level, chain_from, term, arm, post, indexes_from, max_turns}
+use Rattle.tsl_syntax.specs.TermRules.{at_precedence, chain_from, term, arm, post, indexes_from, max_turns}
 use Rattle.tsl_terms.proofs.terms.+term.Given as goal
 
 abbrev pub decreases-term : goal.decreases-term
@@ -66,15 +66,15 @@ decreases-if_else l = 1000 * l.depth + 1
 abbrev pub decreases-unary : goal.decreases-unary
 decreases-unary l = 1000 * l.depth + 8 + l.turns
 
-abbrev pub decreases-level : goal.decreases-level
-decreases-level l = 1000 * l.depth + 300 + l.precedence
+abbrev pub decreases-at_precedence : goal.decreases-at_precedence
+decreases-at_precedence l = 1000 * l.depth + 300 + l.precedence
 
 abbrev pub decreases-body : goal.decreases-body
 decreases-body l = 1000 * l.depth + 999
 
-abbrev pub invariant-level-loop-turn : goal.invariant-level-loop-turn
-invariant-level-loop-turn l = level (pattern l.depth) (term l.depth) l.precedence l.fn.tokens
-    ≡ chain_from (level (pattern l.depth) (term l.depth) (l.precedence - 1)) l.precedence (max_turns - l._turn) (term_view l.left) l.tokens
+abbrev pub invariant-at_precedence-loop-turn : goal.invariant-at_precedence-loop-turn
+invariant-at_precedence-loop-turn l = at_precedence (pattern l.depth) (term l.depth) l.precedence l.fn.tokens
+    ≡ chain_from (at_precedence (pattern l.depth) (term l.depth) (l.precedence - 1)) l.precedence (max_turns - l._turn) (term_view l.left) l.tokens
 
 abbrev pub invariant-post-loop-turn : goal.invariant-post-loop-turn
 invariant-post-loop-turn l = post (pattern l.depth) (term l.depth) l.fn.tokens ≡ indexes_from (term l.depth) (max_turns - l._turn) (term_view l.x) l.tokens

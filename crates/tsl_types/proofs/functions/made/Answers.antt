@@ -1,11 +1,11 @@
 use Rattle.std.proofs.Common.{◌≡◌, ◌∙◌, ◌++◌, ◌∷◌, [], ◌+◌, length, map, drop, refl, sym, ap, arith, rules, append_assoc, append-nil}
-use Rattle.std.proofs.lemmas.List.{map-append, drop_all}
+use Rattle.std.proofs.lemmas.List.{map-append, drop_all, nil_from_length as nothing_left}
 use Rattle.std.specs.Vec.Iter.{into_iter_items}
 use Rattle.spec_types.specs.Views.{fun_of, signature_of}
 use Rattle.tsl_types.specs.Views.{form}
-use Rattle.tsl_types.proofs.Lists.{drop_here, nothing_left}
 use Rattle.tsl_types.proofs.Making.{made_none, made_step}
 use Rattle.tsl_types.proofs.functions.made.Goals as goal
+use Rattle.tsl_match.proofs.Loops.{drop_here}
 
 pub returns-in-None : goal.returns-in-None
 returns-in-None c =

@@ -1,12 +1,12 @@
 use Rattle.std.proofs.Common.{map, ap, sym, subst, cond, ◌∙◌}
 use Rattle.std.specs.Prelude.{not}
 use Rattle.std.specs.List.{filter}
+use Rattle.std.proofs.lemmas.List.{drop_all}
 use Rattle.word_ops.specs.Width.{IsWidth}
 use Rattle.base_trait.specs.Lists.{IsAscending}
 use Rattle.map_laws.specs.Cells.{CellFits, join_cells, joined}
 use Rattle.map_laws.specs.Keys.{has_key}
 use Rattle.map_laws.specs.Maps.{keys}
-use Rattle.map_laws.proofs.Joining.{drop_all}
 use Rattle.abs_map.proofs.ByKey.{fits_item, news_stand}
 use Rattle.abs_map.proofs.Whole.{joined_tested}
 use Rattle.abs_map.proofs.amap.AMap.new_rest.Goals as goal

@@ -1,6 +1,6 @@
 use Rattle.std.proofs.Common.{◌≡◌, length, sym, subst}
 use Rattle.std.proofs.lemmas.Result.{IfOk-weaker}
-use Rattle.affine_base.specs.Laws.{word_laws}
+use Rattle.affine_base.specs.Instance.{word_laws}
 use Rattle.affine_base.specs.Operations.{op1_word}
 use Rattle.affine_base.specs.Words.{Fits}
 use Rattle.affine_base.proofs.base.AffineBase.op1.Goals as goal

@@ -1,5 +1,5 @@
 use Rattle.std.proofs.Common.{length, sym, subst}
-use Rattle.affine_base.specs.Laws.{word_laws}
+use Rattle.affine_base.specs.Instance.{word_laws}
 use Rattle.affine_base.specs.Words.{Fits}
 use Rattle.affine_base.proofs.base.AffineBase.sext.Goals as goal
 

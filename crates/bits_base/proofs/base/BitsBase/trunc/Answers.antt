@@ -1,6 +1,6 @@
 use Rattle.std.proofs.Common.{sym, subst}
 use Rattle.bits_base.specs.Known.{Fits}
-use Rattle.bits_base.specs.Laws.{word_laws}
+use Rattle.bits_base.specs.Instance.{word_laws}
 use Rattle.bits_base.proofs.base.BitsBase.trunc.Goals as goal
 
 pub returns-clause-fits : goal.returns-clause-fits

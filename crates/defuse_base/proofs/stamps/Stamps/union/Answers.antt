@@ -1,6 +1,6 @@
 use Rattle.std.proofs.Common.{sym, subst}
 use Rattle.base_trait.specs.Stamps.{AreAscending}
-use Rattle.defuse_base.specs.Laws.{union_ascends}
+use Rattle.defuse_base.specs.Instance.{union_ascends}
 use Rattle.defuse_base.proofs.stamps.Stamps.union.Goals as goal
 
 pub invariant_of-result : goal.invariant_of-result

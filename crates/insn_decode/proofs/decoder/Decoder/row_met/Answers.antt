@@ -1,10 +1,10 @@
 use Rattle.std.proofs.Common.{◌≡◌, [], ◌+◌, map, drop, get_or, ap, sym, ◌∙◌, true, false}
 use Rattle.std.specs.Prelude.{slice_get, is_some}
+use Rattle.std.proofs.lemmas.List.{drop_more as drop_from}
 use Rattle.spec_types.specs.Views.{row_of}
 use Rattle.meaning.specs.Decode.{row_met}
 use Rattle.insn_decode.specs.Tree.{picked, with_row}
 use Rattle.insn_decode.proofs.Groups.{first_of_two, first_some, first_none, row_met-first}
-use Rattle.insn_decode.proofs.Steps.{drop_from}
 use Rattle.insn_decode.proofs.decoder.Decoder.row_met.Goals as goal
 
 pub returns-then-is_some : goal.returns-then-is_some

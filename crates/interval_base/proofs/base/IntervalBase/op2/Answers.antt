@@ -1,5 +1,5 @@
 use Rattle.std.proofs.Common.{sym, subst}
-use Rattle.interval_base.specs.Laws.{word_laws}
+use Rattle.interval_base.specs.Instance.{word_laws}
 use Rattle.interval_base.specs.Range.{Fits}
 use Rattle.interval_base.proofs.base.IntervalBase.op2.Goals as goal
 

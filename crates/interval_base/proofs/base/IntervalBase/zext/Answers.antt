@@ -1,4 +1,4 @@
-use Rattle.interval_base.specs.Laws.{word_laws}
+use Rattle.interval_base.specs.Instance.{word_laws}
 use Rattle.interval_base.proofs.base.IntervalBase.zext.Goals as goal
 
 pub returns-clause-fits : goal.returns-clause-fits

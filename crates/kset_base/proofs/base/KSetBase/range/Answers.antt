@@ -1,5 +1,5 @@
 use Rattle.std.proofs.Common.{sym, subst}
-use Rattle.kset_base.specs.Laws.{word_laws}
+use Rattle.kset_base.specs.Instance.{word_laws}
 use Rattle.kset_base.specs.Meaning.{Fits}
 use Rattle.kset_base.proofs.base.KSetBase.range.Goals as goal
 

@@ -1,7 +1,7 @@
 use Rattle.std.proofs.Common.{◌≡◌, List, ℕ, Bool, true, false, Option, Some, None, cond, length, sym, subst, ◌∙◌, arith}
 use Rattle.std.specs.Prelude.{IfSome, option_map, nat_le}
 use Rattle.base_trait.specs.Lists.{IsAscending}
-use Rattle.kset_base.specs.Laws.{placed_ascends}
+use Rattle.kset_base.specs.Instance.{placed_ascends}
 use Rattle.kset_base.specs.Sets.{bounded, items_or_none, placed}
 use Rattle.kset_base.proofs.set.Set.add.Goals as goal
 use Rattle.kset_base.proofs.set.Set.add.Goals.{in-Some, in-None}

@@ -1,7 +1,7 @@
 use Rattle.transfer_laws.proofs.Evaluated.{instruction_fits}
 use Rattle.tsl_values.specs.Views.{val}
 use Rattle.transfer.specs.Analysis.{calls_of, problem}
-use Rattle.transfer.specs.Laws.{is_analysed}
+use Rattle.transfer.specs.Instance.{is_analysed}
 use Rattle.transfer.proofs.analysis.ImageAnalysis.arguments.Goals as goal
 
 pub of_value-requires : goal.of_value-requires

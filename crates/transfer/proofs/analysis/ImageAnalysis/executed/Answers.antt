@@ -6,7 +6,7 @@ use Rattle.reinterpretation.specs.Calls.{AreArguments}
 use Rattle.transfer_laws.specs.Transfer.{outcome_of}
 use Rattle.transfer_laws.proofs.Evaluated.{are_arguments}
 use Rattle.transfer.specs.Analysis.{calls_of, problem}
-use Rattle.transfer.specs.Laws.{is_analysed}
+use Rattle.transfer.specs.Instance.{is_analysed}
 use Rattle.transfer.proofs.Evaluated.{counted_state, gave_deep, gave_none, gave_value, not_deep}
 use Rattle.transfer.proofs.Outcomes.{instead}
 use Rattle.transfer.proofs.analysis.ImageAnalysis.executed.Goals as goal
