@@ -270,10 +270,36 @@ fn after_term(e: &Expr, words: &[&str], at: usize) -> usize {
     }
 }
 
-/// Whether the only declaration is a function with this body.
-fn has_body(items: &[Item], words: &[&str]) -> bool {
+fn is_span(span: Span, from: usize, to: usize) -> bool {
+    span.from as usize == from && span.to as usize == to
+}
+
+fn span_of(e: &Expr) -> Span {
+    match e {
+        Expr::Var(name) => name.span,
+        Expr::Binary { span, .. }
+        | Expr::Prefix { span, .. }
+        | Expr::Get { span, .. }
+        | Expr::Put { span, .. }
+        | Expr::Let { span, .. }
+        | Expr::If { span, .. }
+        | Expr::Op { span, .. }
+        | Expr::Cast { span, .. }
+        | Expr::Paren { span, .. }
+        | Expr::Call { span, .. }
+        | Expr::Make { span, .. }
+        | Expr::Word { span, .. }
+        | Expr::Flag { span, .. }
+        | Expr::Match { span, .. } => *span,
+    }
+}
+
+/// Whether the only declaration is a function whose body has these words, and goes from byte 15 to just before the `;`.
+fn has_body(items: &[Item], words: &[&str], end: usize) -> bool {
     match items {
-        [Item::Fun(f)] => after_term(&f.body, words, 0) == words.len(),
+        [Item::Fun(f)] => {
+            is_span(span_of(&f.body), 15, end) && after_term(&f.body, words, 0) == words.len()
+        }
         _ => false,
     }
 }
@@ -283,7 +309,7 @@ fn has_words(alloc: Global, term: &str, words: &[&str]) -> Result<bool, AllocErr
     let source = format!(in alloc; "fun f() -> A = {term};")?;
     let tokens = tokens_of(alloc, source.as_str());
     match parse(alloc, tokens.as_slice(), 0) {
-        Ok(tree) => Ok(has_body(tree.items.as_slice(), words)),
+        Ok(tree) => Ok(has_body(tree.items.as_slice(), words, source.len().saturating_sub(1))),
         Err(_error) => Ok(false),
     }
 }
@@ -318,6 +344,14 @@ const TERMS: &[(&str, &[&str])] = &[
         "match a with { _ => b; A(x, 1:2, true) => c; }",
         &["match", "2"],
     ),
+    ("(a)", &["()", "a"]),
+    ("a[b]", &["get", "a", "b"]),
+    ("trunc(b, 8)", &["trunc", "b", "8"]),
+    ("g()", &["g", "0"]),
+    ("H(a, 1:2)", &["H", "2"]),
+    ("1:2", &["word"]),
+    ("true", &["true"]),
+    ("a", &["a"]),
 ];
 
 #[test]
@@ -326,10 +360,6 @@ fn terms(rt: HostRuntime) -> Result<(), Fail> {
         assert!(rt; has_words(rt.alloc(), term, words)?, "{term}");
     }
     Ok(())
-}
-
-fn is_span(span: Span, from: u32, to: u32) -> bool {
-    span.from == from && span.to == to
 }
 
 fn are_spans_of_data(data: &DataDecl) -> bool {
@@ -385,6 +415,39 @@ fn has_spans(alloc: Global, source: &str) -> bool {
     match parse(alloc, tokens.as_slice(), 79) {
         Ok(tree) => tree.end == 79 && are_spans(tree.items.as_slice()),
         Err(_error) => false,
+    }
+}
+
+/// Whether the only declaration goes from the first byte to the last one.
+fn is_whole(items: &[Item], end: usize) -> bool {
+    match items {
+        [Item::Data(data)] => is_span(data.span, 0, end),
+        [Item::Map(map)] => is_span(map.span, 0, end),
+        [Item::Fun(f)] => is_span(f.span, 0, end),
+        [Item::Decode(decode)] => is_span(decode.span, 0, end),
+        _ => false,
+    }
+}
+
+fn is_one_declaration(alloc: Global, source: &str) -> bool {
+    let tokens = tokens_of(alloc, source);
+    match parse(alloc, tokens.as_slice(), 0) {
+        Ok(tree) => is_whole(tree.items.as_slice(), source.len()),
+        Err(_error) => false,
+    }
+}
+
+const DECLARATIONS: &[&str] = &[
+    "type T = A | B(x: C);",
+    "map M [K -> V] default 0;",
+    "fun f(x: A) -> B = x;",
+    "decode { [1:8 d:2] when d < 2, d != 0 => A(d, 1:2); }",
+];
+
+#[test]
+fn declarations(rt: HostRuntime) {
+    for source in DECLARATIONS {
+        assert!(rt; is_one_declaration(rt.alloc(), source), "{source}");
     }
 }
 
