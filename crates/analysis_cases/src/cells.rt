@@ -2,8 +2,8 @@
 
 use abs_map::AMap;
 use abs_value::AV;
+use base_text::{BaseText, push_noted};
 use cell_text::{push_cell, state_fields};
-use shown_bases::{Shown, push_noted};
 use spec_types::{Spec, Ty};
 use std::alloc::AllocError as NoMemory;
 use tsl_lexer::Text;
@@ -22,7 +22,7 @@ fn push_start(
 }
 
 /// Appends a cell of a map, as a line.
-fn push_line<B: Shown>(
+fn push_line<B: BaseText>(
     out: &mut String,
     spec: &Spec,
     field: &(Text, Ty),
@@ -36,7 +36,7 @@ fn push_line<B: Shown>(
 }
 
 /// Appends the cells of a map, each as a line.
-fn push_map<B: Shown>(
+fn push_map<B: BaseText>(
     out: &mut String,
     spec: &Spec,
     field: &(Text, Ty),
@@ -52,7 +52,7 @@ fn push_map<B: Shown>(
 }
 
 /// Appends the cells of a field, each as a line.
-fn push_field<B: Shown>(
+fn push_field<B: BaseText>(
     out: &mut String,
     spec: &Spec,
     field: &(Text, Ty),
@@ -70,7 +70,7 @@ fn push_field<B: Shown>(
 }
 
 /// Appends the cells of an element, each as a line.
-pub fn push_cells<B: Shown>(
+pub fn push_cells<B: BaseText>(
     out: &mut String,
     spec: &Spec,
     values: &[AV<B>],

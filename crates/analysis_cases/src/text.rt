@@ -1,11 +1,11 @@
 //! Traces, tables and verdicts as text.
 
 use crate::reporter::Notation;
+use base_text::push_stamps;
 use base_trait::{Base, Use};
 use cell_text::{push_cell, state_fields};
 use domain_trait::Domain;
 use fixed_point::{Block, Table, Verdict};
-use shown_bases::push_stamps;
 use spec_types::{Spec, Ty};
 use std::alloc::{AllocError as NoMemory, Global};
 use tsl_values::KeyAt;

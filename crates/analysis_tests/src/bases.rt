@@ -6,16 +6,16 @@ ghost use Rattle.analysis_cases.specs.Subjects.{IsSubject};
 use crate::verdicts::Cells;
 use accepted_states::laws::accepted_have_states;
 use analysis_cases::{Case, Program, Subject, analysed, no};
+use base_text::BaseText;
 use defuse_base::DefUse;
 use interval_base::Interval;
 use kset_base::KSet;
 use paired_base::Paired;
-use shown_bases::Shown;
 use state_domain::StateDomain;
 use std::alloc::{AllocError as NoMemory, Global};
 
 /// What an analysis over a base gives.
-fn over<B: Shown>(
+fn over<B: BaseText>(
     alloc: Global,
     ctx: B::Ctx,
     subject: &Subject,
@@ -31,7 +31,7 @@ fn over<B: Shown>(
 }
 
 /// What an analysis over two bases side by side gives.
-fn over_both<A: Shown, B: Shown>(
+fn over_both<A: BaseText, B: BaseText>(
     alloc: Global,
     ctx: (A::Ctx, B::Ctx),
     subject: &Subject,

@@ -8,9 +8,9 @@ ghost use Rattle.analysis_cases.specs.Cuts.{IsCut};
 use crate::changes::{Change, changed};
 use abs_value::AV;
 use analysis_cases::{Cut, Notation, Reporter, push_cells, push_checked, push_cut, with_block};
+use base_text::BaseText;
 use domain_trait::Domain;
 use fixed_point::{Analyser, Table};
-use shown_bases::Shown;
 use spec_types::Spec;
 use state_domain::StateDomain;
 use std::alloc::{AllocError as NoMemory, Global};
@@ -65,7 +65,7 @@ fn push_changes<'a, D: Domain, N: Notation<D>, L: Ledger>(
 /// Says of a table of cells what `push_changes` does.
 pub(crate) struct Cells;
 
-impl<B: Shown> Notation<StateDomain<B>> for Cells {
+impl<B: BaseText> Notation<StateDomain<B>> for Cells {
     fn push_word(out: &mut String, w: u32, x: &B::Word) -> Result<(), NoMemory> {
         B::push_word(out, w, x)
     }
@@ -80,7 +80,7 @@ impl<B: Shown> Notation<StateDomain<B>> for Cells {
     }
 }
 
-impl<B: Shown> Reporter<StateDomain<B>> for Cells {
+impl<B: BaseText> Reporter<StateDomain<B>> for Cells {
     fn push_results<'a, L: Ledger>(
         &self,
         alloc: Global,

@@ -9,17 +9,17 @@ ghost use Rattle.generic_eval.specs.Calls.{IsRight, MayEvaluate};
 
 use crate::text::push_given;
 use abs_value::AV;
+use base_text::BaseText;
 use base_trait::Log;
 use eval_memo::{Memo, Setting, copy_all, memo_len, memo_new};
 use generic_eval::eval;
-use shown_bases::Shown;
 use std::alloc::{AllocError as NoMemory, Global};
 use std::marker::Brand;
 use std::sync::ledger::{Blank, Ledger};
 use step_counter::Steps;
 
 /// Appends what a call gives. As many steps are ticked as entries are added to the memo.
-fn push_call<B: Shown, L: Ledger>(
+fn push_call<B: BaseText, L: Ledger>(
     alloc: Global,
     out: &mut String,
     what: &str,
@@ -47,7 +47,7 @@ fn push_call<B: Shown, L: Ledger>(
 }
 
 /// Appends what a call gives twice.
-fn push_calls<B: Shown, L: Ledger>(
+fn push_calls<B: BaseText, L: Ledger>(
     alloc: Global,
     out: &mut String,
     setting: &Setting<B>,
@@ -65,7 +65,7 @@ fn push_calls<B: Shown, L: Ledger>(
 }
 
 /// What a call gives twice, where the counter is of this blank.
-fn counted<B: Shown, L: Ledger>(
+fn counted<B: BaseText, L: Ledger>(
     alloc: Global,
     setting: &Setting<B>,
     function: u32,
@@ -88,7 +88,7 @@ fn counted<B: Shown, L: Ledger>(
 }
 
 /// What a call gives twice, with a memo and a counter of its own.
-pub(crate) fn called<B: Shown>(
+pub(crate) fn called<B: BaseText>(
     alloc: Global,
     setting: &Setting<B>,
     function: u32,

@@ -10,6 +10,7 @@ ghost use Rattle.generic_eval.specs.Calls.{MayEvaluate};
 
 use crate::arguments::{arguments, function};
 use crate::called::called;
+use base_text::BaseText;
 use case_lines::Unread;
 use cir_lower::lower;
 use concrete_base::Concrete;
@@ -20,7 +21,6 @@ use kset_base::KSet;
 use paired_base::Paired;
 use recursion_fix::Policy;
 use run_steps::specified;
-use shown_bases::Shown;
 use spec_types::{Spec, Use};
 use std::alloc::{AllocError as NoMemory, Global};
 
@@ -58,7 +58,11 @@ fn no_case(alloc: Global) -> Result<String, NoMemory> {
 }
 
 /// What a call gives in a setting.
-fn answered<B: Shown>(alloc: Global, setting: &Setting<B>, call: &str) -> Result<String, NoMemory>
+fn answered<B: BaseText>(
+    alloc: Global,
+    setting: &Setting<B>,
+    call: &str,
+) -> Result<String, NoMemory>
     requires { MayEvaluate B.algebra B.CAP setting.now }
 {
     let Some((name, texts)) = call.split_once(" | ") else {
@@ -75,7 +79,7 @@ fn answered<B: Shown>(alloc: Global, setting: &Setting<B>, call: &str) -> Result
 }
 
 /// What a call gives over a base.
-fn over<B: Shown>(
+fn over<B: BaseText>(
     alloc: Global,
     ctx: &B::Ctx,
     spec: &Spec,
@@ -98,7 +102,7 @@ fn over<B: Shown>(
 }
 
 /// The same over a base that joins.
-fn over_joining<B: Shown>(
+fn over_joining<B: BaseText>(
     alloc: Global,
     ctx: &B::Ctx,
     spec: &Spec,
@@ -113,7 +117,7 @@ fn over_joining<B: Shown>(
 }
 
 /// The same over two bases side by side.
-fn over_both<A: Shown, B: Shown>(
+fn over_both<A: BaseText, B: BaseText>(
     alloc: Global,
     ctx: &(A::Ctx, B::Ctx),
     spec: &Spec,

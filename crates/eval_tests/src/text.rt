@@ -1,15 +1,15 @@
 //! What calls give as text.
 
 use abs_value::AV;
+use base_text::{BaseText, push_stamps};
 use base_trait::{Log, Use};
 use eval_memo::EvalError;
-use shown_bases::{Shown, push_stamps};
 use spec_types::Spec;
 use std::alloc::AllocError as NoMemory;
 use written_values::push_value;
 
 /// Appends a value, or that there is none, and a line end.
-fn push_found<B: Shown>(
+fn push_found<B: BaseText>(
     out: &mut String,
     spec: &Spec,
     found: &Option<AV<B>>,
@@ -49,7 +49,7 @@ fn push_read(out: &mut String, spec: &Spec, of: &Use) -> Result<(), NoMemory> {
 }
 
 /// Appends what a call gave: a value or none, with its reads, each as a line; or that an activation was deep.
-pub(crate) fn push_given<B: Shown>(
+pub(crate) fn push_given<B: BaseText>(
     out: &mut String,
     spec: &Spec,
     given: &Result<Option<AV<B>>, EvalError>,

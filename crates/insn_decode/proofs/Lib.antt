@@ -1,9 +1,9 @@
 mod Steps
-mod Placing
-mod Making
+pub mod Placing
+pub mod Making
 mod Sizes
 mod WordBits
 mod Groups
 mod Fields
 mod Words
-mod Addresses
+pub mod Addresses

@@ -6,12 +6,13 @@ ghost use Rattle.domain_laws.specs.States.{has_states, state_type};
 
 use crate::least::least;
 use crate::rows::push_rows;
-use crate::words::{Named, push_affine};
+use crate::words::Named;
 use abs_value::AV;
-use affine_base::Word;
+use affine_base::{Affine, Word};
 use affine_domain::AffineDomain;
 use affine_rows::Rows;
 use analysis_cases::{Unread, push_cells};
+use base_text::BaseText;
 use base_trait::Base;
 use domain_trait::Domain;
 use pair_domain::PairDomain;
@@ -93,7 +94,7 @@ impl ShownDomain for AffineDomain {
     }
 
     fn push_word(out: &mut String, w: u32, x: &Word) -> Result<(), NoMemory> {
-        push_affine(out, w, x)
+        Affine::push_word(out, w, x)
     }
 
     fn push_element(

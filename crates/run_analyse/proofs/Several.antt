@@ -1,13 +1,13 @@
 -- The chain over inputs that are read one after another.
-use Rattle.std.proofs.Common.{◌≡◌, List, ℕ, ◌∙◌}
-use Rattle.std.specs.Prelude.{Result, Ok, Err}
+use Rattle.std.proofs.Common.{◌≡◌, ◌∙◌}
+use Rattle.std.specs.Prelude.{Result, Ok}
 use Rattle.command_words.specs.Requests.{AnalyseRequest}
 use Rattle.insn_decode.specs.Image.{Image}
 use Rattle.spec_types.specs.Specification.{Spec}
 use Rattle.state_text.specs.Reading.{Entry}
 use Rattle.tsl_io.specs.InputState.{InputState, InputsKept}
 use Rattle.run_steps.specs.declared.outcome.Halt.{Halt}
-use Rattle.run_steps.specs.Outcome.{Refusal, not_built}
+use Rattle.run_steps.specs.Outcome.{Answer, Refusal}
 use Rattle.run_steps.specs.Outcomes.{Stops}
 use Rattle.run_steps.specs.Reading.{Gave}
 use Rattle.run_steps.proofs.Readings.{gave_later, gave_still, kept_both}
@@ -17,8 +17,8 @@ use Rattle.run_emulate.specs.Machines.{MachineOf}
 use Rattle.run_emulate.proofs.Chains.{machine_still}
 use Rattle.run_emulate.proofs.Several.{code_given, code_stop, machine_given}
 use Rattle.run_analyse.specs.Entry.{EntryOf}
-use Rattle.run_analyse.specs.Steps.{AnalyseSteps}
-use Rattle.run_analyse.proofs.Chain.{entry_wider, no_entry, no_image, none_built}
+use Rattle.run_analyse.specs.Steps.{AnalyseSteps, AnalysisOf}
+use Rattle.run_analyse.proofs.Chain.{all_read, entry_wider, no_entry, no_image}
 
 -- ---- two inputs
 
@@ -45,5 +45,5 @@ module _ (old one mid new : InputState) (kept : InputsKept old one) (calm : one.
   analyse_no_entry halt stops =
       no_entry (Gave old new) request spec machine image code halt (stops_too (EntryOf (Gave mid new) spec request.entry) (EntryOf (Gave old new) spec request.entry) entry_given halt stops)
 
-  pub analyse_none_built : (entry : Entry) → EntryOf (Gave mid new) spec request.entry (Ok entry) → AnalyseSteps (Gave old new) request (Err not_built)
-  analyse_none_built entry entered = none_built (Gave old new) request spec machine image code entry (entry_given (Ok entry) entered)
+  pub analyse_all_read : (entry : Entry) → EntryOf (Gave mid new) spec request.entry (Ok entry) → (outcome : Result Answer Refusal) → AnalysisOf request.base request.limit spec image entry outcome → AnalyseSteps (Gave old new) request outcome
+  analyse_all_read entry entered outcome is = all_read (Gave old new) request spec machine image code entry (entry_given (Ok entry) entered) outcome is

@@ -1,3 +1,5 @@
 pub mod Entry
 pub mod Laws
+pub mod Own
+pub mod Read
 pub mod Steps

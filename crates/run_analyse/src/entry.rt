@@ -1,6 +1,6 @@
 //! The entry of an analysis.
 
-ghost use Rattle.std.specs.Prelude.{◌≡◌, ◌∷◌, [], ◌≤◌, IsTrue, length};
+ghost use Rattle.std.specs.Prelude.{◌≡◌, ◌∷◌, [], ◌≤◌, IfOk, IsTrue, length};
 ghost use Rattle.spec_types.specs.Views.{specification};
 ghost use Rattle.tsl_io.specs.InputState.{InputsKept};
 ghost use Rattle.state_text.specs.Reading.{entry_of as entry};
@@ -9,6 +9,7 @@ ghost use Rattle.run_steps.specs.Outcomes.{Gives};
 ghost use Rattle.run_steps.specs.Reading.{Gave, IsTakenFrom};
 ghost use Rattle.run_emulate.specs.Entry.{entry_cap};
 ghost use Rattle.run_analyse.specs.Entry.{Enters, EntryOf};
+ghost use Rattle.run_analyse.specs.Read.{IsEntry};
 
 use run_emulate::ENTRY_CAP;
 use run_steps::{Halt, read_input};
@@ -31,6 +32,7 @@ pub fn entry_of<'a, I: Inputs>(
     ensures no_other_fault { NoOtherFault (I.state inputs.old) (I.state inputs.new) result }
     ensures taken { IsTrue (I.state inputs.old).tells → IsTrue (I.state inputs.new).is_open
         → IsTakenFrom ((name.entry.now, entry_cap) ∷ []) (I.state inputs.old) (I.state inputs.new) }
+    ensures entry { IfOk result (λ e. IsEntry (specification spec.now) (entry e)) }
 {
     let text = read_input(alloc, inputs, name, ENTRY_CAP)?;
     entered(alloc, spec, &text)

@@ -2,7 +2,7 @@
 
 ghost use Rattle.run_analyse.specs.Laws.{AnalyseHasOne, AnalyseHasSome};
 
-/// Over the bytes that names hold, `analyse` has one outcome at most.
+/// Over the bytes that names hold, `analyse` has one outcome at most, but that over affine relations two may be texts of its table.
 pub fn analyse_has_one()
     ensures { AnalyseHasOne }
 {}

@@ -7,7 +7,7 @@ use Rattle.state_text.specs.FaultLines as entry
 use Rattle.run_steps.specs.declared.spec_fault.SpecFault.{SpecFault}
 use Rattle.run_steps.specs.declared.status.Status.{Status}
 use Rattle.run_steps.specs.declared.status.Status.TheVariants as s
-use Rattle.run_steps.specs.Lines.{bad_words_line, calls_spent_line, cannot_read_line, not_built_line, too_long_line}
+use Rattle.run_steps.specs.Lines.{bad_words_line, calls_spent_line, cannot_read_line, not_built_line, targets_line, too_long_line, undecodable_line}
 use Rattle.run_steps.specs.SpecFaults.{spec_line}
 
 -- the text that the words ask for; where it tells of a machine that stopped for want of a decoding or of calls, the status says so
@@ -34,6 +34,10 @@ pub data Refusal : Type 0 where
   entry_refused : EntryError → Refusal
   -- a function had no turn left
   calls_spent : Refusal
+  -- the code word at an address is no instruction
+  undecodable_at : (at word : ℕ) → Refusal
+  -- the instruction at an address may lead to too many addresses: the counter behind it, as text
+  too_many_targets : (at : ℕ) → (shown : List ℕ) → Refusal
 
 -- an answer, or a refusal
 abbrev pub Outcome : Type 0
@@ -51,6 +55,8 @@ status_of (Err (spec_refused fault)) = s.SpecRefused
 status_of (Err (code_refused fault)) = s.CodeRefused
 status_of (Err (entry_refused fault)) = s.EntryRefused
 status_of (Err calls_spent) = s.CallsSpent
+status_of (Err (undecodable_at at word)) = s.Undecodable
+status_of (Err (too_many_targets at shown)) = s.TooManyTargets
 
 -- what is written
 abbrev pub line_of : Outcome → List ℕ
@@ -65,3 +71,5 @@ line_of (Err (spec_refused fault)) = spec_line fault
 line_of (Err (code_refused fault)) = image.fault_line fault
 line_of (Err (entry_refused fault)) = entry.fault_line fault
 line_of (Err calls_spent) = calls_spent_line
+line_of (Err (undecodable_at at word)) = undecodable_line at word
+line_of (Err (too_many_targets at shown)) = targets_line at shown

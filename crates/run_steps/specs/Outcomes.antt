@@ -1,5 +1,6 @@
 -- How the code's values say what a run comes to.
 use Rattle.std.specs.Prelude.{Result, Ok, Err}
+use Rattle.std.specs.String.{string_bytes}
 use Rattle.command_words.specs.declared.words_error.WordsError.{WordsError}
 use Rattle.command_words.specs.declared.words_error.WordsError.TheVariants as words
 use Rattle.tsl_lexer.specs.declared.lex_error.LexError.{LexError}
@@ -18,10 +19,10 @@ use Rattle.run_steps.specs.declared.outcome.Halt.{Halt}
 use Rattle.run_steps.specs.declared.outcome.Halt.TheVariants.{Refused, NoMemory}
 use Rattle.run_steps.specs.declared.outcome.Outcome as code-outcome
 use Rattle.run_steps.specs.declared.outcome.Refusal as code-refusal
-use Rattle.run_steps.specs.declared.outcome.Refusal.TheVariants.{BadWords, NotBuilt, CannotRead, TooLong, SpecRefused, CodeRefused, EntryRefused, CallsSpent}
+use Rattle.run_steps.specs.declared.outcome.Refusal.TheVariants.{BadWords, NotBuilt, CannotRead, TooLong, SpecRefused, CodeRefused, EntryRefused, CallsSpent, UndecodableAt, TooManyTargets}
 use Rattle.run_steps.specs.declared.outcome.Outcome.TheVariants as o
 use Rattle.run_steps.specs.declared.spec_fault.SpecFault.TheVariants.{Lexing, Parsing, Checking}
-use Rattle.run_steps.specs.Outcome.{Answer, Outcome, Refusal, text, undecodable, calls_ended, bad_words, not_built, cannot_read, too_long, spec_refused, code_refused, entry_refused, calls_spent}
+use Rattle.run_steps.specs.Outcome.{Answer, Outcome, Refusal, text, undecodable, calls_ended, bad_words, not_built, cannot_read, too_long, spec_refused, code_refused, entry_refused, calls_spent, undecodable_at, too_many_targets}
 
 abbrev pub answer_of : code-answer.Answer → Answer
 answer_of (a.Text bytes) = text bytes.items
@@ -37,6 +38,8 @@ refusal_of (SpecRefused fault) = spec_refused fault
 refusal_of (CodeRefused fault) = code_refused fault
 refusal_of (EntryRefused fault) = entry_refused fault
 refusal_of CallsSpent = calls_spent
+refusal_of (UndecodableAt at word) = undecodable_at at word
+refusal_of (TooManyTargets at shown) = too_many_targets at (string_bytes shown)
 
 abbrev pub outcome_of : code-outcome.Outcome → Outcome
 outcome_of (o.Answered answer) = Ok (answer_of answer)

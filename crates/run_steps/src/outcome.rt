@@ -2,12 +2,14 @@
 
 ghost use Rattle.std.specs.Prelude.{◌≡◌, Err, IfOk};
 ghost use Rattle.std.specs.String.{string_bytes};
+ghost use Rattle.run_steps.specs.Lines.{targets_line, undecodable_line};
 ghost use Rattle.run_steps.specs.Outcome.{line_of, status_of};
 ghost use Rattle.run_steps.specs.Outcomes.{halt_of_entry, halt_of_imaging, halt_of_words, outcome_of, refusal_of};
 ghost use Rattle.run_steps.specs.declared.outcome.Halt.TheVariants.{NoMemory, Refused};
 
 use crate::spec_fault::SpecFault;
 use crate::status::Status;
+use cell_text::push_hex;
 use command_words::WordsError;
 use insn_decode::ImageError;
 use state_text::EntryError;
@@ -43,6 +45,10 @@ pub enum Refusal<'a> {
     EntryRefused(EntryError),
     /// A function had no turn left.
     CallsSpent,
+    /// The code word at an address is no instruction.
+    UndecodableAt { at: u32, word: u32 },
+    /// The instruction at an address may lead to too many addresses: the counter behind it, as text.
+    TooManyTargets { at: u32, shown: String },
 }
 
 /// What a run comes to.
@@ -71,6 +77,8 @@ impl Outcome<'_> {
             Outcome::Refused(Refusal::CodeRefused(_)) => Status::CodeRefused,
             Outcome::Refused(Refusal::EntryRefused(_)) => Status::EntryRefused,
             Outcome::Refused(Refusal::CallsSpent) => Status::CallsSpent,
+            Outcome::Refused(Refusal::UndecodableAt { .. }) => Status::Undecodable,
+            Outcome::Refused(Refusal::TooManyTargets { .. }) => Status::TooManyTargets,
         }
     }
 
@@ -101,8 +109,34 @@ impl Refusal<'_> {
             Refusal::CodeRefused(fault) => fault.fault_line(alloc),
             Refusal::EntryRefused(fault) => fault.fault_line(alloc),
             Refusal::CallsSpent => String::from_str(alloc, "calls spent\n"),
+            Refusal::UndecodableAt { at, word } => undecodable_line(alloc, *at, *word),
+            Refusal::TooManyTargets { at, shown } => targets_line(alloc, *at, shown),
         }
     }
+}
+
+/// `undecodable ADDRESS WORD`.
+fn undecodable_line(alloc: Global, at: u32, word: u32) -> Result<String, AllocError>
+    ensures { IfOk result (λ text. string_bytes text ≡ undecodable_line at word) }
+{
+    let mut out = String::from_str(alloc, "undecodable ")?;
+    push_hex(&mut out, 8, u64::from(at))?;
+    out.push_str(" ")?;
+    push_hex(&mut out, 8, u64::from(word))?;
+    out.push_str("\n")?;
+    Ok(out)
+}
+
+/// `targets ADDRESS SHOWN`.
+fn targets_line(alloc: Global, at: u32, shown: &str) -> Result<String, AllocError>
+    ensures { IfOk result (λ text. string_bytes text ≡ targets_line at shown.now) }
+{
+    let mut out = String::from_str(alloc, "targets ")?;
+    push_hex(&mut out, 8, u64::from(at))?;
+    out.push_str(" ")?;
+    out.push_str(shown)?;
+    out.push_str("\n")?;
+    Ok(out)
 }
 
 /// Why a step of a run gives nothing to the next one.

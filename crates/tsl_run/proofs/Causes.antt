@@ -1,5 +1,5 @@
 -- The cause of each outcome, whatever the inputs hold.
-use Rattle.std.proofs.Common.{◌≡◌, ℕ, All, List, [], ◌∷◌, ◌++◌, Option, Some, None, IsTrue, map, refl, sym, subst, arith}
+use Rattle.std.proofs.Common.{◌≡◌, ℕ, All, List, [], ◌∷◌, ◌++◌, Option, Some, None, IsTrue, refl, sym, subst, arith}
 use Rattle.std.specs.Prelude.{Contains, Result, Ok, Err}
 use Rattle.std.proofs.lemmas.List.Elements.{All-cons, All-contains, All-nil, Contains-append_left, Contains-append_right}
 use Rattle.tsl_io.specs.InputState.{InputState}
@@ -12,33 +12,34 @@ use Rattle.function_calls.proofs.Written.{values_are_written}
 use Rattle.insn_decode.specs.declared.image_error.ImageError.{ImageError}
 use Rattle.insn_decode.specs.Faults.{image_fault}
 use Rattle.insn_decode.specs.Image.{Image, Segment}
-use Rattle.insn_decode.specs.Listing.{listing}
 use Rattle.spec_types.specs.declared.spec.Use.{Use}
 use Rattle.spec_types.specs.declared.spec.Use.TheVariants.{Library, Machine}
 use Rattle.spec_types.specs.Specification.{Spec}
 use Rattle.state_text.specs.declared.entry_error.EntryError.{EntryError}
 use Rattle.state_text.specs.Reading.{Entry, read}
 use Rattle.tsl_values.specs.States.{State}
-use Rattle.run_steps.specs.Outcome.{Answer, Outcome, Refusal, bad_words, not_built, cannot_read, too_long, spec_refused, code_refused, entry_refused, calls_spent, text}
+use Rattle.run_steps.specs.Outcome.{Outcome, Refusal, bad_words, not_built, cannot_read, too_long, spec_refused, code_refused, entry_refused, calls_spent, undecodable_at, too_many_targets}
 use Rattle.run_steps.specs.Reading as reading
 use Rattle.run_steps.specs.Reading.{Capped, CouldNotRead, Gave}
 use Rattle.run_steps.specs.Sources.{IsSpecification, SourceOf, Specifies, source_cap, source_inputs}
 use Rattle.run_steps.specs.Steps.{Then, refused, goes_on}
 use Rattle.run_analyse.specs.Entry.{Enters, EntryOf}
-use Rattle.run_analyse.specs.Steps.{AnalyseSteps}
+use Rattle.posed_problems.specs.Problems.{problem_of}
+use Rattle.run_analyse.specs.Steps.{AnalyseSteps, AnalysisOf}
 use Rattle.run_analyse.proofs.Chain as analysis
 use Rattle.run_emulate.specs.Code.{CodeOf, Images, Joins, SegmentsOf, code_cap, imaged, order_of, part_inputs}
 use Rattle.run_emulate.specs.Entry.{StartOf, StartsFrom, entered, entry_cap, state_in}
 use Rattle.run_emulate.specs.Machines.{MachineOf}
 use Rattle.run_emulate.specs.Running.{Runs}
-use Rattle.run_emulate.specs.Steps.{EmulateSteps, ListSteps, emulate_inputs, list_inputs}
+use Rattle.run_emulate.specs.Steps.{EmulateSteps, ListSteps}
 use Rattle.run_emulate.proofs.Chains.{AfterCode, AfterMachine, AfterStart, Lists, ListsOf, Rest}
-use Rattle.tsl_run.specs.Possible.{Answers, IsListing, IsRun, IsValue}
+use Rattle.tsl_run.specs.Possible.{Analyses, Answers, IsAnalysed}
 use Rattle.tsl_run.specs.Steps.{CallSteps, Steps, answered}
 use Rattle.tsl_run.specs.Words.{capped_in, has_code, has_entry, names_in, names_of}
 use Rattle.tsl_run.proofs.Chain.{Called, Ended}
 use Rattle.tsl_run.proofs.Giving.{is_accepted}
 use Rattle.tsl_run.proofs.Others.{only}
+use Rattle.tsl_run.proofs.Stops.{MayStop, stops}
 
 -- ---- names
 
@@ -78,6 +79,8 @@ module _ (old new : InputState) (what : Option Request) where
   Cause (code_refused fault) = IsTrue (has_code what)
   Cause (entry_refused fault) = IsTrue (has_entry what)
   Cause calls_spent = Unit {0}
+  Cause (undecodable_at at word) = Analyses what (Err (undecodable_at at word))
+  Cause (too_many_targets at shown) = Analyses what (Err (too_many_targets at shown))
 
   abbrev KnowsCause : {A : Type 0} → Result A Refusal → Type 0
   KnowsCause found = Knows Cause Anything found
@@ -112,6 +115,8 @@ module _ (old new : InputState) (what : Option Request) where
   specified_known wanted source (Err (code_refused fault)) p = absurd p
   specified_known wanted source (Err (entry_refused fault)) p = absurd p
   specified_known wanted source (Err calls_spent) p = tt
+  specified_known wanted source (Err (undecodable_at at word)) p = absurd p
+  specified_known wanted source (Err (too_many_targets at shown)) p = absurd p
 
   machine_known : (spec : SpecName) → Among (source_inputs spec) → (found : Result Spec Refusal) → MachineOf (Gave old new) spec found → KnowsCause found
   machine_known spec among found steps =
@@ -199,6 +204,16 @@ module _ (old new : InputState) where
       (start_known old new what refl spec request.entry (behind_among old new what (sources ++ parts) entry (λ x named. named))) (λ start started found further.
       run_known request spec image start found further))) outcome steps
 
+  stop_known : (request : AnalyseRequest) (refusal : Refusal) → MayStop refusal → IsAnalysed request (Err refusal) → Cause old new (Some (analyse request)) refusal
+  stop_known request (undecodable_at at word) may is = is
+  stop_known request (too_many_targets at shown) may is = is
+  stop_known request _ may is = absurd may
+
+  analysed_known : (request : AnalyseRequest) (spec : Spec) (image : Image) (entry : Entry) (outcome : Outcome) → AnalysisOf request.base request.limit spec image entry outcome → Caused (Some (analyse request)) outcome
+  analysed_known request spec image entry (Ok answer) is = record { spec = spec; image = image; entry = entry; analysed = is }
+  analysed_known request spec image entry (Err refusal) is =
+      stop_known request refusal (stops image (problem_of spec is.machine image entry request.limit) request.base refusal is.analysed) (record { spec = spec; image = image; entry = entry; analysed = is })
+
   analyse_known : (request : AnalyseRequest) (outcome : Outcome) → AnalyseSteps (Gave old new) request outcome → Caused (Some (analyse request)) outcome
   analyse_known request outcome steps =
       let what = Some (analyse request) in
@@ -209,9 +224,9 @@ module _ (old new : InputState) where
       (machine_known old new what request.spec (first_among old new what sources parts (first_among old new what (sources ++ parts) entry (λ x named. named)))) (λ spec specified.
       both_know (CodeOf (Gave old new) request.code) (analysis.AfterCode (Gave old new) request spec) (Cause old new what) (Answers what)
       (code_known old new what refl request.code (behind_among old new what sources parts (first_among old new what (sources ++ parts) entry (λ x named. named)))) (λ image is_image.
-      both_know (EntryOf (Gave old new) spec request.entry) (analysis.AfterEntry (Gave old new) request) (Cause old new what) (Answers what)
+      both_know (EntryOf (Gave old new) spec request.entry) (analysis.AfterEntry (Gave old new) request spec image) (Cause old new what) (Answers what)
       (entry_known old new what refl spec request.entry (behind_among old new what (sources ++ parts) entry (λ x named. named))) (λ entry entered found is.
-      unbuilt_known what found is))) outcome steps
+      analysed_known request spec image entry found is))) outcome steps
 
   list_known : (request : ListRequest) (outcome : Outcome) → ListSteps (Gave old new) request outcome → Caused (Some (list request)) outcome
   list_known request outcome steps =

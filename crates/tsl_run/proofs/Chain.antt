@@ -1,6 +1,6 @@
 -- The chain of a call, as far as it comes.
 use Rattle.std.proofs.Common.{◌≡◌, ℕ, List}
-use Rattle.std.specs.Prelude.{Result, Ok, Err}
+use Rattle.std.specs.Prelude.{Result, Ok}
 use Rattle.command_words.specs.Requests.{CallRequest}
 use Rattle.spec_types.specs.declared.spec.Use.TheVariants.{Library}
 use Rattle.spec_types.specs.Specification.{Spec}

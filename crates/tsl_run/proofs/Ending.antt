@@ -9,14 +9,14 @@ use Rattle.tsl_io.specs.SinkState.{SinkState, Appends, AppendsFront}
 use Rattle.run_steps.specs.declared.status.Status.{Status}
 use Rattle.run_steps.specs.declared.status.Status.TheVariants as s
 use Rattle.run_steps.specs.Outcome as answers
-use Rattle.run_steps.specs.Outcome.{Outcome, Refusal, bad_words, not_built, cannot_read, too_long, spec_refused, code_refused, entry_refused, calls_spent, line_of, status_of}
+use Rattle.run_steps.specs.Outcome.{Outcome, Refusal, bad_words, not_built, cannot_read, too_long, spec_refused, code_refused, entry_refused, calls_spent, undecodable_at, too_many_targets, line_of, status_of}
 use Rattle.run_steps.specs.Reading as owing
 use Rattle.run_steps.specs.Reading.{CouldNotRead, Gave, Holds}
 use Rattle.run_steps.specs.Statuses.{IsAnswer}
 use Rattle.run_steps.proofs.Steps.{Fails}
-use Rattle.command_words.specs.Requests.{Request, call, emulate, analyse, list}
+use Rattle.command_words.specs.Requests.{AnalyseRequest, Request, call, emulate, analyse, list}
 use Rattle.command_words.specs.Words.{asked}
-use Rattle.tsl_run.specs.Follows.{Due, EndsWith, Finishes, IsCut, Unread, owed, unread}
+use Rattle.tsl_run.specs.Follows.{Due, EndsAsOwed, EndsWith, FinishesAsOwed, IsCut, Unread, owed, unread}
 use Rattle.tsl_run.specs.Laws.{EndsFollow}
 use Rattle.tsl_run.specs.Output as output
 use Rattle.tsl_run.specs.Output.{Ends}
@@ -24,9 +24,12 @@ use Rattle.tsl_run.specs.Owed.{ComesTo, IsOwed, Owes}
 use Rattle.tsl_run.specs.Possible as possible
 use Rattle.tsl_run.specs.Possible.{IsLineOf, IsPossible}
 use Rattle.tsl_run.specs.Steps.{Steps}
+use Rattle.tsl_run.specs.Tables.{IsTableFor}
 use Rattle.tsl_run.specs.Words.{IsUnbuilt, capped_in, input_names, names_in}
 use Rattle.tsl_run.proofs.Causes.{Caused, asked_known, is_named}
+use Rattle.tsl_run.proofs.Exists.{some_answer}
 use Rattle.tsl_run.proofs.Others.{asked_either}
+use Rattle.tsl_run.proofs.Tables.{owed_table}
 use Rattle.tsl_run.proofs.Unique.{one_answer}
 
 -- ---- the cause of each outcome
@@ -45,6 +48,8 @@ module _ (words : List (List ℕ)) (old new : InputState) where
   possible_outcome what (Err (code_refused fault)) cause = possible.code_refused cause
   possible_outcome what (Err (entry_refused fault)) cause = possible.entry_refused cause
   possible_outcome what (Err calls_spent) cause = possible.calls_spent
+  possible_outcome what (Err (undecodable_at at word)) cause = possible.undecodable_at cause
+  possible_outcome what (Err (too_many_targets at shown)) cause = possible.too_many_targets cause
 
   line_of_outcome : (outcome : Outcome) → ComesTo words old new outcome → IsLineOf words (status_of outcome) (line_of outcome)
   line_of_outcome outcome comes = record { outcome = outcome; possible = possible_outcome (asked words) outcome (caused outcome comes); has_status = refl; has_line = refl }
@@ -63,6 +68,8 @@ module _ (words : List (List ℕ)) (old new : InputState) where
   unread_outcome (Err (code_refused fault)) comes is = absurd (cc)
   unread_outcome (Err (entry_refused fault)) comes is = absurd (cc)
   unread_outcome (Err calls_spent) comes is = absurd (cc)
+  unread_outcome (Err (undecodable_at at word)) comes is = absurd (cc)
+  unread_outcome (Err (too_many_targets at shown)) comes is = absurd (cc)
 
 -- ---- what is owed
 
@@ -134,12 +141,13 @@ module _ (words : List (List ℕ)) (old new : InputState) (told : IsTrue old.tel
   due_outcome (Err (code_refused fault)) comes = owed (λ e. cc) (owes_outcome (Err (code_refused fault)) (comes_owed (Err (code_refused fault)) comes (λ e. cc)))
   due_outcome (Err (entry_refused fault)) comes = owed (λ e. cc) (owes_outcome (Err (entry_refused fault)) (comes_owed (Err (entry_refused fault)) comes (λ e. cc)))
   due_outcome (Err calls_spent) comes = owed (λ e. cc) (owes_outcome (Err calls_spent) (comes_owed (Err calls_spent) comes (λ e. cc)))
+  due_outcome (Err (undecodable_at at word)) comes = owed (λ e. cc) (owes_outcome (Err (undecodable_at at word)) (comes_owed (Err (undecodable_at at word)) comes (λ e. cc)))
+  due_outcome (Err (too_many_targets at shown)) comes = owed (λ e. cc) (owes_outcome (Err (too_many_targets at shown)) (comes_owed (Err (too_many_targets at shown)) comes (λ e. cc)))
 
-  -- where an input fails only because there is nothing to read, what comes is the one status and text that are owed
-  module _ (none : (name : List ℕ) → Contains (input_names words) name → CouldNotRead old new name → old.held name ≡ None) (status : Status) (text : List ℕ) (owes : Owes words old.held status text) where
-    pub comes_whole : (outcome : Outcome) → ComesTo words old new outcome → (status_of outcome ≡ status) × (line_of outcome ≡ text)
-    comes_whole outcome comes =
-        one_answer words old.held (status_of outcome) status (line_of outcome) text (owes_outcome outcome (asked_whole old new told (asked words) none outcome comes)) owes
+  -- where an input fails only because there is nothing to read, what comes is owed
+  module _ (none : (name : List ℕ) → Contains (input_names words) name → CouldNotRead old new name → old.held name ≡ None) where
+    pub comes_whole : (outcome : Outcome) → ComesTo words old new outcome → Owes words old.held (status_of outcome) (line_of outcome)
+    comes_whole outcome comes = owes_outcome outcome (asked_whole old new told (asked words) none outcome comes)
 
 -- ---- what follows
 
@@ -155,6 +163,20 @@ no_write_fault (Err (spec_refused fault)) is = cc
 no_write_fault (Err (code_refused fault)) is = cc
 no_write_fault (Err (entry_refused fault)) is = cc
 no_write_fault (Err calls_spent) is = cc
+no_write_fault (Err (undecodable_at at word)) is = cc
+no_write_fault (Err (too_many_targets at shown)) is = cc
+
+no_ok : (refusal : Refusal) → status_of (Err refusal) ≡ s.Ok → ⊥
+no_ok bad_words is = cc
+no_ok not_built is = cc
+no_ok (cannot_read name) is = cc
+no_ok (too_long name) is = cc
+no_ok (spec_refused fault) is = cc
+no_ok (code_refused fault) is = cc
+no_ok (entry_refused fault) is = cc
+no_ok calls_spent is = cc
+no_ok (undecodable_at at word) is = cc
+no_ok (too_many_targets at shown) is = cc
 
 no_answer : (status other : Status) → status ≡ other → IsAnswer status → IsAnswer other
 no_answer status other is answer = subst IsAnswer is answer
@@ -242,16 +264,38 @@ module _ (words : List (List ℕ)) (old new : InputState) (sink_old sink_new : S
   by_cut_line fault (output.cut outcome comes is no_room front) = (status_of outcome, line_of outcome, line_of_outcome words old new outcome comes, cut_of (line_of outcome) no_room front)
   by_cut_line fault (output.no_memory is) = absurd (let wrong : s.WriteFault ≡ s.NoMemory = sym fault ∙ is in cc)
 
-  -- where no input fails, and a fault of writing is ruled out
-  by_whole : IsTrue old.tells → ((name : List ℕ) → Contains (input_names words) name → CouldNotRead old new name → old.held name ≡ None) → (status : Status) (text : List ℕ) → Owes words old.held status text
-      → (result ≡ s.WriteFault → sink_old.room < length text → ⊥) → End → Finishes words old new sink_old sink_new result status text
-  by_whole told none status text owes no_fault (output.written outcome comes is appends) =
-      let same = comes_whole words old new told none status text owes outcome comes in
-      inl (is ∙ same.0, as_text (line_of outcome) text same.1 appends)
-  by_whole told none status text owes no_fault (output.cut outcome comes is no_room front) =
-      let same = comes_whole words old new told none status text owes outcome comes in
-      absurd (no_fault is (subst (λ (line : List ℕ). sink_old.room < length line) same.1 no_room))
-  by_whole told none status text owes no_fault (output.no_memory is) = inr is
+  -- where no input fails
+  by_whole : IsTrue old.tells → ((name : List ℕ) → Contains (input_names words) name → CouldNotRead old new name → old.held name ≡ None) → End → EndsAsOwed words old new sink_old sink_new result
+  by_whole told none (output.written outcome comes is appends) =
+      (status_of outcome, line_of outcome, comes_whole words old new told none outcome comes, inl (is, appends))
+  by_whole told none (output.cut outcome comes is no_room front) =
+      (status_of outcome, line_of outcome, comes_whole words old new told none outcome comes, inr (inl (is, cut_of (line_of outcome) no_room front)))
+  by_whole told none (output.no_memory is) = let some = some_answer words old.held in (some.0, some.1, some.2, inr (inr is))
+
+  -- nor the sink
+  by_calm : (result ≡ s.WriteFault → ⊥) → EndsAsOwed words old new sink_old sink_new result → FinishesAsOwed words old new sink_old sink_new result
+  by_calm calm ends = elim ends.3 [
+    | inl written ↦ (ends.0, ends.1, ends.2, inl written)
+    | inr further ↦ elim further [
+      | inl cut ↦ absurd (calm cut.0)
+      | inr none ↦ (ends.0, ends.1, ends.2, inr none)
+    ]
+  ]
+
+  -- where an analysis ends well
+  by_table : IsTrue old.tells → (request : AnalyseRequest) → asked words ≡ Some (analyse request) → result ≡ s.Ok → End
+      → (text : List ℕ) × IsTableFor old.held request text × Appends sink_old sink_new text
+  by_table told request asks ok (output.written outcome comes is appends) = of_text outcome comes (sym is ∙ ok) appends
+    where
+      of_text : (outcome : Outcome) → ComesTo words old new outcome → status_of outcome ≡ s.Ok → Appends sink_old sink_new (line_of outcome)
+          → (text : List ℕ) × IsTableFor old.held request text × Appends sink_old sink_new text
+      of_text (Ok (answers.text bytes)) comes is appends =
+          (bytes, owed_table words old.held request bytes asks (comes_owed words old new told (Ok (answers.text bytes)) comes (λ e. cc)), appends)
+      of_text (Ok (answers.undecodable bytes)) comes is appends = absurd (cc)
+      of_text (Ok (answers.calls_ended bytes)) comes is appends = absurd (cc)
+      of_text (Err refusal) comes is appends = absurd (no_ok refusal is)
+  by_table told request asks ok (output.cut outcome comes is no_room front) = absurd (let wrong : s.Ok ≡ s.WriteFault = sym ok ∙ is in cc)
+  by_table told request asks ok (output.no_memory is) = absurd (let wrong : s.Ok ≡ s.NoMemory = sym ok ∙ is in cc)
 
   unsure_names : All (λ name. IsTrue (old.sure name)) (input_names words) → (name : List ℕ) → Contains (input_names words) name → CouldNotRead old new name → ⊥
   unsure_names sure name named cause =
@@ -260,6 +304,7 @@ module _ (words : List (List ℕ)) (old new : InputState) (sink_old sink_new : S
 pub ends_follow : EndsFollow
 ends_follow words old new sink_old sink_new result end write_fault = record {
   answered = λ told answer. by_answered words old new sink_old sink_new result told answer end;
+  table = λ told request asks ok. by_table words old new sink_old sink_new result told request asks ok end;
   owed = λ told status text owes. by_owed words old new sink_old sink_new result told status text owes end;
   bad_words = λ asks. by_known words old new sink_old sink_new result (Err bad_words) (λ outcome comes. asks_bad words old new outcome asks comes) end;
   not_built = λ asks. by_known words old new sink_old sink_new result (Err not_built) (λ outcome comes. asks_not_built words old new outcome asks comes) end;
@@ -267,11 +312,11 @@ ends_follow words old new sink_old sink_new result end write_fault = record {
   cut = λ told fault. by_cut words old new sink_old sink_new result told fault end;
   one_line = λ no_fault memory. by_one_line words old new sink_old sink_new result no_fault memory end;
   cut_line = λ fault. by_cut_line words old new sink_old sink_new result fault end;
-  complete = λ told status text owes sure room.
-      by_whole words old new sink_old sink_new result told (λ name named cause. absurd (unsure_names words old new sink_old sink_new result sure name named cause)) status text owes (λ fault no_room. let past : sink_old.room < length text = no_room in omega arith) end;
-  complete_in_memory = λ told status text owes none room.
-      by_whole words old new sink_old sink_new result told (λ name named cause. none name named cause.unsure) status text owes (λ fault no_room. let past : sink_old.room < length text = no_room in omega arith) end;
-  complete_without_faults = λ told status text owes calm sink_calm.
-      by_whole words old new sink_old sink_new result told (λ name named cause. absurd (calm (rose old.faults new.faults cause.fault))) status text owes
-      (λ fault no_room. sink_calm (rose sink_old.faults sink_new.faults (write_fault fault))) end;
+  complete = λ told sure.
+      by_whole words old new sink_old sink_new result told (λ name named cause. absurd (unsure_names words old new sink_old sink_new result sure name named cause)) end;
+  complete_in_memory = λ told none.
+      by_whole words old new sink_old sink_new result told (λ name named cause. none name named cause.unsure) end;
+  complete_without_faults = λ told calm sink_calm.
+      by_calm words old new sink_old sink_new result (λ fault. sink_calm (rose sink_old.faults sink_new.faults (write_fault fault)))
+      (by_whole words old new sink_old sink_new result told (λ name named cause. absurd (calm (rose old.faults new.faults cause.fault))) end);
 }

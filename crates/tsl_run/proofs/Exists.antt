@@ -1,6 +1,6 @@
 -- Something is owed for all words.
-use Rattle.std.proofs.Common.{◌≡◌, ℕ, List, Option, Some, None, refl}
-use Rattle.std.specs.Prelude.{Ok, Err}
+use Rattle.std.proofs.Common.{Option, Some, None, refl}
+use Rattle.std.specs.Prelude.{Err}
 use Rattle.command_words.specs.Requests.{Request, call, emulate, analyse, list}
 use Rattle.command_words.specs.Words.{asked}
 use Rattle.function_calls.specs.Calls.{call_end}
@@ -15,19 +15,20 @@ use Rattle.run_emulate.proofs.Whole.{emulate_has_some, list_has_some}
 use Rattle.tsl_run.specs.Laws.{SomeAnswer}
 use Rattle.tsl_run.specs.Steps.{Steps, answered}
 use Rattle.tsl_run.proofs.Chain.{Called, Ended}
+use Rattle.tsl_run.proofs.Parts.{AreFew, few_wanted}
 
-some_asked : (held : Held) (what : Option Request) → IsTotal (Steps (Holds held) what)
-some_asked held None = (Err bad_words, refl)
-some_asked held (Some (call request)) =
+some_asked : (held : Held) (what : Option Request) → AreFew what → IsTotal (Steps (Holds held) what)
+some_asked held None few = (Err bad_words, refl)
+some_asked held (Some (call request)) few =
     total (SourceOf (Holds held) request.spec) (Called request) (some_source held request.spec) (λ source holds.
     total (Specifies Library source) (Ended request) (some_specified Library source) (λ spec specified.
     (answered (call_end spec request.calls request.fun request.numbers), refl)))
-some_asked held (Some (emulate request)) = emulate_has_some held request
-some_asked held (Some (analyse request)) = analyse_has_some held request
-some_asked held (Some (list request)) = list_has_some held request
-some_asked held (Some _) = (Err not_built, refl)
+some_asked held (Some (emulate request)) few = emulate_has_some held request
+some_asked held (Some (analyse request)) few = analyse_has_some held request few
+some_asked held (Some (list request)) few = list_has_some held request
+some_asked held (Some _) few = (Err not_built, refl)
 
 pub some_answer : SomeAnswer
 some_answer words held =
-    let found = some_asked held (asked words) in
+    let found = some_asked held (asked words) (few_wanted words) in
     (status_of found.0, line_of found.0, record { outcome = found.0; owed = found.1; has_status = refl; has_line = refl })

@@ -1,6 +1,6 @@
 -- What the steps of the code give.
 use Rattle.std.proofs.Common.{◌≡◌, ℕ, ◌<◌, ◌≤◌, List, Option, length, refl, subst, sym, arith}
-use Rattle.std.specs.Prelude.{IsOk, Result, Ok, Err}
+use Rattle.std.specs.Prelude.{IsOk, Result, Err}
 use Rattle.spec_types.specs.declared.spec.Use.{Use}
 use Rattle.spec_types.specs.Specification.{Spec}
 use Rattle.meaning_laws.specs.Accepted.{IsAccepted}

@@ -1,9 +1,12 @@
 pub mod Causes
 pub mod Chain
 pub mod Ending
+pub mod Exact
 pub mod Exists
 pub mod Giving
 pub mod Others
 pub mod Parts
+pub mod Stops
+pub mod Tables
 pub mod Unique
 pub mod Whole

@@ -1,6 +1,6 @@
 -- Steps over inputs that give what others give, or fail.
-use Rattle.std.proofs.Common.{◌≡◌, ◌⊎◌, inl, inr, ℕ, List, [], ◌∷◌, ◌++◌, Option, Some, None, refl, arith}
-use Rattle.std.specs.Prelude.{Contains, Result, Ok, Err}
+use Rattle.std.proofs.Common.{◌⊎◌, inl, ℕ, List, [], ◌∷◌, ◌++◌, Option, Some, None, refl, arith}
+use Rattle.std.specs.Prelude.{Contains, Result}
 use Rattle.std.proofs.lemmas.List.Elements.{Contains-append_left, Contains-append_right}
 use Rattle.command_words.specs.Code.{Code, CodePart}
 use Rattle.command_words.specs.Requests.{AnalyseRequest, CallRequest, EmulateRequest, ListRequest, Request, call, emulate, analyse, list}
@@ -95,7 +95,7 @@ module _ (reads other : Reading) (fault : Refusal → Type 0) where
       let front = first (sources ++ parts) entry by in
       either (MachineOf reads request.spec) (MachineOf other request.spec) (analysis.AfterMachine reads request) (analysis.AfterMachine other request) fault (machine_either request.spec (first sources parts front)) (λ spec.
       either (CodeOf reads request.code) (CodeOf other request.code) (analysis.AfterCode reads request spec) (analysis.AfterCode other request spec) fault (code_either request.code (behind sources parts front)) (λ image.
-      either (EntryOf reads spec request.entry) (EntryOf other spec request.entry) (analysis.AfterEntry reads request) (analysis.AfterEntry other request) fault (entry_either spec request.entry (behind (sources ++ parts) entry by))
+      either (EntryOf reads spec request.entry) (EntryOf other spec request.entry) (analysis.AfterEntry reads request spec image) (analysis.AfterEntry other request spec image) fault (entry_either spec request.entry (behind (sources ++ parts) entry by))
       (λ entry found further. inl further))) outcome steps
 
   list_either : (request : ListRequest) → Either (list_inputs request) → (outcome : Outcome) → ListSteps reads request outcome → ListSteps other request outcome ⊎ Fails fault outcome

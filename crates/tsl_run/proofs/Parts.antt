@@ -13,7 +13,7 @@ use Rattle.command_words.specs.Code.{Code, CodePart, code_parts, is_comma, part_
 use Rattle.command_words.specs.CommandLine.{Given, given_in}
 use Rattle.command_words.specs.Commands.{command_named}
 use Rattle.command_words.specs.OptionValues.{address_of, base_of, calls_of, limit_of, order_of, steps_of}
-use Rattle.command_words.specs.Requests.{AnalyseRequest, CallRequest, CheckRequest, ClaimsRequest, ConvertRequest, EmulateRequest, ListRequest, Request, SliceRequest, StressRequest, call, emulate, analyse, check, convert, list, slice, claims, stress}
+use Rattle.command_words.specs.Requests.{AnalyseRequest, EmulateRequest, ListRequest, Request, call, emulate, analyse, check, convert, list, slice, claims, stress}
 use Rattle.command_words.specs.SpecNames.{spec_in}
 use Rattle.command_words.specs.Views as view
 use Rattle.command_words.specs.Views.{part_of}
@@ -141,6 +141,18 @@ unfolding asked
 few_asked words request is =
     let given = bound (given_in words) (λ given. asked_by given) request is in
     few_given given.0 request given.2
+
+-- Where something is asked for, its code has few parts.
+abbrev pub AreFew : Option Request → Type 0
+AreFew None = Unit {0}
+AreFew (Some request) = IsFew request
+
+few_in_words : (words : List (List ℕ)) (what : Option Request) → asked words ≡ what → AreFew what
+few_in_words words None is = tt
+few_in_words words (Some request) is = few_asked words request is
+
+pub few_wanted : (words : List (List ℕ)) → AreFew (asked words)
+few_wanted words = few_in_words words (asked words) refl
 
 -- ---- the code's requests
 

@@ -1,17 +1,20 @@
 -- A run over memory that does not fail.
-use Rattle.std.proofs.Common.{◌≡◌, ℕ, ◌≤◌, ◌++◌, [], Bool, List, Option, Some, None, IsTrue, length, refl, sym, ◌∙◌, ap, subst, inl, inr}
+use Rattle.std.proofs.Common.{◌≡◌, ℕ, ◌<◌, ◌≤◌, ◌⊎◌, ◌++◌, [], Bool, List, Option, Some, None, IsTrue, length, refl, sym, ◌∙◌, ap, subst, inl, inr}
 use Rattle.std.specs.Bool.{IsFalse}
-use Rattle.std.specs.Prelude.{is_some}
+use Rattle.std.specs.Prelude.{Contains, is_some}
 use Rattle.tsl_io.specs.Faults.{RoseByOne}
 use Rattle.tsl_io.specs.FileList.{is_held}
 use Rattle.tsl_io.specs.InputState.{InputState}
-use Rattle.tsl_io.specs.SinkState.{SinkState}
+use Rattle.tsl_io.specs.SinkState.{SinkState, Appends}
 use Rattle.run_steps.specs.declared.status.Status.{Status}
 use Rattle.run_steps.specs.declared.status.Status.TheVariants as s
 use Rattle.tsl_run.specs.Output.{Ends}
 use Rattle.run_steps.specs.Reading.{Held}
-use Rattle.tsl_run.specs.Owed.{Owes}
+use Rattle.tsl_run.specs.Follows.{Follows}
+use Rattle.tsl_run.specs.Owed.{Owes, OwesAlone, OwesLonger}
+use Rattle.tsl_run.specs.Words.{input_names}
 use Rattle.tsl_run.proofs.Ending.{ends_follow}
+use Rattle.tsl_run.proofs.Exact.{exact_answers}
 
 not_held : (found : Option (List ℕ)) → IsFalse (is_some found) → found ≡ None
 not_held None is_not = refl
@@ -21,16 +24,39 @@ unsure_is_not_held : (held : Held) (sure : List ℕ → Bool) (name : List ℕ) 
 unsure_is_not_held held sure name is unsure =
     not_held (held name) (subst (λ (names : List ℕ → Bool). IsFalse (names name)) is unsure)
 
--- what is owed is the status, and all that the sink has
-pub whole : (words : List (List ℕ)) (old new : InputState) (sink_old sink_new : SinkState) (result : Status) (held : Held)
-    → IsTrue old.tells → old.held ≡ held → old.sure ≡ is_held held → IsTrue sink_old.tells → sink_old.written ≡ []
-    → Ends words old new sink_old sink_new result → (result ≡ s.WriteFault → RoseByOne sink_old.faults sink_new.faults) → (result ≡ s.NoMemory → ⊥)
-    → (status : Status) (text : List ℕ) → Owes words held status text → length text ≤ sink_old.room → (result ≡ status) × (sink_new.written ≡ text)
-whole words old new sink_old sink_new result held told is_held_ is_sure sink_told empty ends fault memory status text owes room =
-    let owed = subst (λ (h : Held). Owes words h status text) (sym is_held_) owes in
-    let sure : old.sure ≡ is_held old.held = is_sure ∙ ap (λ (h : Held). is_held h) (sym is_held_) in
-    elim ((ends_follow words old new sink_old sink_new result ends fault).complete_in_memory told status text owed
-    (λ name named unsure. unsure_is_not_held old.held old.sure name sure unsure) room) [
-      | inl finished ↦ (finished.0, finished.1 sink_told ∙ ap (λ (front : List ℕ). front ++ text) empty)
-      | inr no_memory ↦ absurd (memory no_memory)
-    ]
+module _ (words : List (List ℕ)) (old new : InputState) (sink_old sink_new : SinkState) (result : Status) (held : Held) (told : IsTrue old.tells) (holds : old.held ≡ held)
+    (sure : old.sure ≡ is_held held) (sink_told : IsTrue sink_old.tells) (empty : sink_old.written ≡ [])
+    (ends : Ends words old new sink_old sink_new result) (fault : result ≡ s.WriteFault → RoseByOne sink_old.faults sink_new.faults) (memory : result ≡ s.NoMemory → ⊥) where
+  follows : Follows words old new sink_old sink_new result
+  follows = ends_follow words old new sink_old sink_new result ends fault
+
+  -- an input that is not sure holds nothing
+  none_held : (name : List ℕ) → Contains (input_names words) name → IsFalse (old.sure name) → old.held name ≡ None
+  none_held name named unsure = unsure_is_not_held old.held old.sure name (sure ∙ ap (λ (h : Held). is_held h) (sym holds)) unsure
+
+  -- a copy of what the sink has, and its room
+  module _ (copy : List ℕ) (most : ℕ) (copied : copy ≡ sink_new.written) (room : sink_old.room ≡ most) where
+    all_of : (text : List ℕ) → Appends sink_old sink_new text → copy ≡ text
+    all_of text appends = copied ∙ appends sink_told ∙ ap (λ (front : List ℕ). front ++ text) empty
+
+    -- the status and the copy are owed; or what is owed has no room
+    pub whole : Owes words held result copy ⊎ ((result ≡ s.WriteFault) × OwesLonger words held most)
+    whole =
+        let ended = follows.complete_in_memory told none_held in
+        let owed = subst (λ (h : Held). Owes words h ended.0 ended.1) holds ended.2 in
+        elim ended.3 [
+          | inl written ↦ inl (subst (λ (text : List ℕ). Owes words held result text) (sym (all_of ended.1 written.1)) (subst (λ (status : Status). Owes words held status ended.1) (sym written.0) owed))
+          | inr further ↦ elim further [
+            | inl cut ↦ inr (cut.0, record { status = ended.0; text = ended.1; owed = owed; longer = subst (λ (limit : ℕ). limit < length ended.1) room cut.1.no_room })
+            | inr none ↦ absurd (memory none)
+          ]
+        ]
+
+    -- what alone is owed is the status and the copy
+    pub exactly : (status : Status) (text : List ℕ) → OwesAlone words held status text → length text ≤ most → (result ≡ status) × (copy ≡ text)
+    exactly status text alone fits =
+        elim ((exact_answers words old new sink_old sink_new result follows).complete_in_memory told status text (subst (λ (h : Held). OwesAlone words h status text) (sym holds) alone) none_held
+        (subst (λ (limit : ℕ). length text ≤ limit) (sym room) fits)) [
+          | inl finished ↦ (finished.0, all_of text finished.1)
+          | inr none ↦ absurd (memory none)
+        ]

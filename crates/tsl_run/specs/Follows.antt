@@ -1,5 +1,5 @@
 -- What follows from how a run ends.
-use Rattle.std.specs.Prelude.{◌≡◌, ◌≢◌, ◌⊎◌, ℕ, ◌<◌, ◌≤◌, List, None, All, Contains, IsTrue, length}
+use Rattle.std.specs.Prelude.{◌≡◌, ◌≢◌, ◌⊎◌, ℕ, ◌<◌, List, Some, None, All, Contains, IsTrue, length}
 use Rattle.std.specs.Bool.{IsFalse}
 use Rattle.tsl_io.specs.Faults.{Rose}
 use Rattle.tsl_io.specs.InputState.{InputState}
@@ -11,7 +11,9 @@ use Rattle.run_steps.specs.Reading.{CouldNotRead}
 use Rattle.tsl_run.specs.Owed.{Owes}
 use Rattle.tsl_run.specs.Possible.{IsLineOf}
 use Rattle.run_steps.specs.Statuses.{IsAnswer}
+use Rattle.command_words.specs.Requests.{AnalyseRequest, analyse}
 use Rattle.command_words.specs.Words.{asked}
+use Rattle.tsl_run.specs.Tables.{IsTableFor}
 use Rattle.tsl_run.specs.Words.{input_names, IsUnbuilt}
 
 -- An input of the words could not be read, as the text says.
@@ -42,13 +44,26 @@ module _ (words : List (List ℕ)) (old new : InputState) (sink_old sink_new : S
   abbrev pub Finishes : Status → List ℕ → Type 0
   Finishes status text = ((result ≡ status) × Appends sink_old sink_new text) ⊎ (result ≡ s.NoMemory)
 
+  -- The status and the text that it ends with are owed.
+  abbrev pub EndsAsOwed : Type 0
+  EndsAsOwed = (status : Status) × (text : List ℕ) × Owes words old.held status text × EndsWith status text
+
+  -- The status and the text that it finishes with are owed.
+  abbrev pub FinishesAsOwed : Type 0
+  FinishesAsOwed = (status : Status) × (text : List ℕ) × Owes words old.held status text × Finishes status text
+
   pub record Follows : Type 0 where
     -- Over inputs that tell: what is answered is owed, and its text is written.
     pub answered : IsTrue old.tells → IsAnswer result
         → (text : List ℕ) × Owes words old.held result text × Appends sink_old sink_new text
     -- Over inputs that tell: what is owed is answered, but for a fault and want of memory.
     pub owed : IsTrue old.tells → (status : Status) (text : List ℕ) → Owes words old.held status text → (result ≡ status) ⊎ ¬ IsAnswer result
-    -- Words that ask for nothing, or for what is not even begun, are refused.
+    -- Over inputs that tell: an analysis that ends well has written a table that is true of every run of the machine: the element at each address
+    -- describes every state that the meaning puts there, and where the base tells stamps each use list holds every definition that a read sees.
+    -- (specs/Tables names the definition of this, `IsTrueOfRuns`.)
+    pub table : IsTrue old.tells → (request : AnalyseRequest) → asked words ≡ Some (analyse request) → result ≡ s.Ok
+        → (text : List ℕ) × IsTableFor old.held request text × Appends sink_old sink_new text
+    -- Words that ask for nothing, or for what is not built, are refused.
     pub bad_words : asked words ≡ None → EndsWith s.BadWords bad_words_line
     pub not_built : IsUnbuilt (asked words) → EndsWith s.NotBuilt not_built_line
     -- A fault of an input has its cause in this run, at a name that is not sure, and is written.
@@ -58,12 +73,8 @@ module _ (words : List (List ℕ)) (old new : InputState) (sink_old sink_new : S
     -- Over all inputs: one line of the status is written, or a front of a line that had no room.
     pub one_line : result ≢ s.WriteFault → result ≢ s.NoMemory → (text : List ℕ) × IsLineOf words result text × Appends sink_old sink_new text
     pub cut_line : result ≡ s.WriteFault → (status : Status) × (text : List ℕ) × IsLineOf words status text × IsCut text
-    -- Over inputs that tell: what is owed is answered and written where the names are sure and there is room; where there is room
-    -- and each name that is not sure holds nothing; and where no fault was counted.
-    pub complete : IsTrue old.tells → (status : Status) (text : List ℕ) → Owes words old.held status text
-        → All (λ name. IsTrue (old.sure name)) (input_names words) → length text ≤ sink_old.room → Finishes status text
-    pub complete_in_memory : IsTrue old.tells → (status : Status) (text : List ℕ) → Owes words old.held status text
-        → ((name : List ℕ) → Contains (input_names words) name → IsFalse (old.sure name) → old.held name ≡ None)
-        → length text ≤ sink_old.room → Finishes status text
-    pub complete_without_faults : IsTrue old.tells → (status : Status) (text : List ℕ) → Owes words old.held status text
-        → ¬ Rose old.faults new.faults → ¬ Rose sink_old.faults sink_new.faults → Finishes status text
+    -- Over inputs that tell: what is owed is answered and written, or a front of it where it has no room, where the names are sure, and where
+    -- each name that is not sure holds nothing. It is answered and written where no fault was counted.
+    pub complete : IsTrue old.tells → All (λ name. IsTrue (old.sure name)) (input_names words) → EndsAsOwed
+    pub complete_in_memory : IsTrue old.tells → ((name : List ℕ) → Contains (input_names words) name → IsFalse (old.sure name) → old.held name ≡ None) → EndsAsOwed
+    pub complete_without_faults : IsTrue old.tells → ¬ Rose old.faults new.faults → ¬ Rose sink_old.faults sink_new.faults → FinishesAsOwed

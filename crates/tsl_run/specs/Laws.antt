@@ -1,19 +1,22 @@
 -- What holds of what is owed, and of how a run ends.
-use Rattle.std.specs.Prelude.{◌≡◌, ℕ, List}
+use Rattle.std.specs.Prelude.{◌≡◌, ℕ, List, IsTrue}
 use Rattle.tsl_io.specs.Faults.{RoseByOne}
 use Rattle.tsl_io.specs.InputState.{InputState}
 use Rattle.tsl_io.specs.SinkState.{SinkState}
 use Rattle.run_steps.specs.declared.status.Status.{Status}
 use Rattle.run_steps.specs.declared.status.Status.TheVariants as s
+use Rattle.command_words.specs.Words.{asked}
+use Rattle.tsl_run.specs.Exact.{IsExact}
 use Rattle.tsl_run.specs.Follows.{Follows}
 use Rattle.tsl_run.specs.Output.{Ends}
 use Rattle.run_steps.specs.Reading.{Held}
 use Rattle.tsl_run.specs.Owed.{Owes}
+use Rattle.tsl_run.specs.Words.{has_one_text}
 
--- one status and text are owed at most
+-- one status is owed at most, and one text with it, but of a table over relations
 abbrev pub OneAnswer : Type 0
 OneAnswer = (words : List (List ℕ)) (held : Held) (status other : Status) (text line : List ℕ)
-    → Owes words held status text → Owes words held other line → (status ≡ other) × (text ≡ line)
+    → Owes words held status text → Owes words held other line → (status ≡ other) × (IsTrue (has_one_text (asked words) status) → text ≡ line)
 
 -- and at least one
 abbrev pub SomeAnswer : Type 0
@@ -24,3 +27,8 @@ abbrev pub EndsFollow : Type 0
 EndsFollow = (words : List (List ℕ)) (old new : InputState) (sink_old sink_new : SinkState) (result : Status)
     → Ends words old new sink_old sink_new result → (result ≡ s.WriteFault → RoseByOne sink_old.faults sink_new.faults)
     → Follows words old new sink_old sink_new result
+
+-- and where one text is owed
+abbrev pub ExactAnswers : Type 0
+ExactAnswers = (words : List (List ℕ)) (old new : InputState) (sink_old sink_new : SinkState) (result : Status)
+    → Follows words old new sink_old sink_new result → IsExact words old new sink_old sink_new result

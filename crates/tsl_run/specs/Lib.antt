@@ -1,7 +1,9 @@
+pub mod Exact
 pub mod Follows
 pub mod Laws
 pub mod Output
 pub mod Owed
 pub mod Possible
 pub mod Steps
+pub mod Tables
 pub mod Words

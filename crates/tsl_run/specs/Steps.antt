@@ -1,5 +1,5 @@
 -- The steps of a run, one after another.
-use Rattle.std.specs.Prelude.{◌≡◌, ℕ, List, Option, Some, None, Result, Ok, Err}
+use Rattle.std.specs.Prelude.{◌≡◌, Option, Some, None, Ok, Err}
 use Rattle.command_words.specs.Requests.{CallRequest, Request, call, emulate, analyse, list}
 use Rattle.spec_types.specs.declared.spec.Use.TheVariants.{Library}
 use Rattle.function_calls.specs.Calls as calls

@@ -1,24 +1,27 @@
 -- What the words ask for of this program, and the inputs that they name.
-use Rattle.std.specs.Prelude.{◌≡◌, ℕ, Bool, true, false, List, [], map, Option, Some, None}
+use Rattle.std.specs.Prelude.{◌≡◌, ℕ, Bool, true, false, not, List, [], map, Option, Some, None}
 use Rattle.command_words.specs.Requests.{Request, call, emulate, analyse, list}
 use Rattle.command_words.specs.Words.{asked}
+use Rattle.analysis_domains.specs.Named.{has_relations}
+use Rattle.run_steps.specs.declared.status.Status.{Status}
+use Rattle.run_steps.specs.declared.status.Status.TheVariants as s
 use Rattle.run_steps.specs.Reading.{Capped}
 use Rattle.run_steps.specs.Sources.{source_inputs}
 use Rattle.run_analyse.specs.Steps.{analyse_inputs}
 use Rattle.run_emulate.specs.Steps.{emulate_inputs, list_inputs}
 
--- what is asked for is built, or at least begun: its inputs are read and examined
-abbrev pub is_begun : Request → Bool
-is_begun (call request) = true
-is_begun (emulate request) = true
-is_begun (analyse request) = true
-is_begun (list request) = true
-is_begun _ = false
+-- what is asked for is built
+abbrev pub is_built : Request → Bool
+is_built (call request) = true
+is_built (emulate request) = true
+is_built (analyse request) = true
+is_built (list request) = true
+is_built _ = false
 
--- Words ask for something that is not even begun.
+-- Words ask for something that is not built.
 abbrev pub IsUnbuilt : Option Request → Type 0
 IsUnbuilt None = ⊥
-IsUnbuilt (Some request) = is_begun request ≡ false
+IsUnbuilt (Some request) = is_built request ≡ false
 
 -- the inputs of what is asked for, and how many bytes each may have
 abbrev pub capped_in : Option Request → List Capped
@@ -56,3 +59,9 @@ has_entry None = false
 has_entry (Some (emulate request)) = true
 has_entry (Some (analyse request)) = true
 has_entry (Some _) = false
+
+-- One text at most is owed with this status: it is not the table of an analysis over relations, which has several.
+abbrev pub has_one_text : Option Request → Status → Bool
+has_one_text None status = true
+has_one_text (Some (analyse request)) s.Ok = not (has_relations request.base)
+has_one_text (Some _) status = true

@@ -62,7 +62,7 @@ fn answer<'a, I: Inputs>(
         ⊎ (IsTrue (I.state inputs.new).is_open
         → IsTakenFrom (capped_inputs (texts words.now)) (I.state inputs.old) (I.state inputs.new)) }
 
-    // Words that ask for nothing, or for what is not even begun, are refused before any input is opened.
+    // Words that ask for nothing, or for what is not built, are refused before any input is opened.
     ensures bad_words { asked (texts words.now) ≡ None → inputs.new ≡ inputs.old }
     ensures not_built { IsUnbuilt (asked (texts words.now)) → inputs.new ≡ inputs.old }
 {

@@ -1,8 +1,8 @@
 //! What holds of what a run owes, and of how it ends. These functions do nothing: their contracts are laws.
 
-ghost use Rattle.tsl_run.specs.Laws.{EndsFollow, OneAnswer, SomeAnswer};
+ghost use Rattle.tsl_run.specs.Laws.{EndsFollow, ExactAnswers, OneAnswer, SomeAnswer};
 
-/// A run owes one status and text at most.
+/// A run owes one status at most, and one text with it, unless that is the table of an analysis over relations.
 pub fn one_answer()
     ensures { OneAnswer }
 {}
@@ -13,7 +13,13 @@ pub fn some_answer()
 {}
 
 /// What follows for the caller of `run` from its clauses `ends` and `write_fault`: what is owed is answered, each other
-/// answer has its cause, one line or a front of it is written, and nothing is left out.
+/// answer has its cause, one line or a front of it is written, and nothing is left out. A table that is written is true of
+/// every run of the machine.
 pub fn ends_follow()
     ensures { EndsFollow }
+{}
+
+/// Where one text is owed, it is what is written.
+pub fn exact_answers()
+    ensures { ExactAnswers }
 {}

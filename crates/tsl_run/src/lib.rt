@@ -6,16 +6,21 @@
 //!
 //! `answer` shows the chain from words to answer. It is the chain of the definition, specs/Steps: each step gives something to the
 //! next one, or refuses, and then that is what the run comes to. The chain of `call` is here; those of `emulate` and `list` are
-//! those of `run_emulate`, and that of `analyse`, as far as it is built, is that of `run_analyse`. Over the bytes that the names
-//! hold (`Holds`) these steps have one outcome, which is *owed* (`Owes`). Over inputs that may fail (`Gave`) they have the same one,
-//! or that an input could not be read; the code gives just that (`Gives`, for each of its steps), and so the whole is proved step by
-//! step.
+//! those of `run_emulate`, and that of `analyse` is that of `run_analyse`. Over the bytes that the names hold (`Holds`) what these
+//! steps come to is *owed* (`Owes`): one outcome, but that a table over affine relations has several texts. Over inputs that may
+//! fail (`Gave`) they come to something that is owed, or that an input could not be read; the code gives just that (`Gives`, for
+//! each of its steps), and so the whole is proved step by step.
 //!
 //! What is proved: `run` ends with an outcome that it comes to and writes its line, or a front of it where the sink fails, or
 //! nothing for want of memory (`ends`). From this it follows that over inputs that tell their bytes an answer is owed
 //! (`answered`). With `write_fault`, all else that a caller wants follows too, as the law `laws::ends_follow` shows: each fault has
 //! its cause, one line is written, and where nothing fails what is owed is answered. `run_in_memory` is the run where nothing
 //! fails, and its contract says so.
+//!
+//! What is promised of analyses is the clause `table` of that law. Where the words ask for `analyse` and the run ends with `Ok`, what was written is
+//! the text of a table for the machine, the code and the entry that the inputs hold (specs/Tables). That table is true of every run of
+//! the machine: the element at each address describes every state that the meaning puts there, and each use list holds every
+//! definition that a read sees.
 #![tactic(auto)]
 
 ghost use Rattle.std.specs.Prelude.{◌≡◌, ◌≢◌, ◌⊎◌, IsTrue, List, None, ℕ};
@@ -71,7 +76,7 @@ pub fn run<I: Inputs, S: Sink>(
     ensures no_sink_fault { result ≢ Status.WriteFault
         → (S.state sink.new).faults ≡ (S.state sink.old).faults }
 
-    // Words that ask for nothing, or for what is not even begun, are refused before any input is opened.
+    // Words that ask for nothing, or for what is not built, are refused before any input is opened.
     ensures bad_words { asked (texts words.now) ≡ None → inputs.new ≡ inputs.old }
     ensures not_built { IsUnbuilt (asked (texts words.now)) → inputs.new ≡ inputs.old }
 

@@ -8,7 +8,7 @@
 //!   `[{0}; 2 {5} from entry,1000]`;
 //! - a constructor value is `Dot`, or `Box({2}, {3})`, with fields that are none; `Dot + Box({2}, {3})` where both are present.
 //!
-//! `value` makes a value by the calls of its base, so that it fits. `push_value` writes words as `shown_bases` does: an interval by its ends, a
+//! `value` makes a value by the calls of its base, so that it fits. `push_value` writes words as `base_text` does: an interval by its ends, a
 //! word of a pair by its parts.
 #![tactic(auto)]
 

@@ -2,8 +2,8 @@
 
 use abs_map::AMap;
 use abs_value::AV;
+use base_text::{BaseText, push_noted};
 use base_trait::Tri;
-use shown_bases::{Shown, push_noted};
 use spec_types::Spec;
 use std::alloc::AllocError as NoMemory;
 
@@ -17,7 +17,7 @@ fn flag_text(t: Tri) -> &'static str {
 }
 
 /// Appends the rest of a map and its listed cells.
-fn push_map<B: Shown>(out: &mut String, m: &AMap<B>) -> Result<(), NoMemory> {
+fn push_map<B: BaseText>(out: &mut String, m: &AMap<B>) -> Result<(), NoMemory> {
     out.push_str("[")?;
     push_noted::<B>(out, m.width(), m.rest())?;
     for place in 0..m.listed() {
@@ -28,7 +28,7 @@ fn push_map<B: Shown>(out: &mut String, m: &AMap<B>) -> Result<(), NoMemory> {
 }
 
 /// Appends a value that is no constructor's.
-fn push_leaf<B: Shown>(out: &mut String, v: &AV<B>) -> Result<(), NoMemory> {
+fn push_leaf<B: BaseText>(out: &mut String, v: &AV<B>) -> Result<(), NoMemory> {
     match v {
         AV::Flag(t) => out.push_str(flag_text(*t)),
         AV::Word { w, x } => B::push_word(out, *w, x),
@@ -41,7 +41,7 @@ fn push_leaf<B: Shown>(out: &mut String, v: &AV<B>) -> Result<(), NoMemory> {
 }
 
 /// Appends the values of fields, if any, in parentheses.
-fn push_fields<B: Shown>(out: &mut String, fields: &[AV<B>]) -> Result<(), NoMemory> {
+fn push_fields<B: BaseText>(out: &mut String, fields: &[AV<B>]) -> Result<(), NoMemory> {
     if fields.is_empty() {
         return Ok(());
     }
@@ -61,7 +61,7 @@ fn case_name(spec: &Spec, ty: u32, number: usize) -> Option<&str> {
 }
 
 /// Appends the constructors that are present.
-fn push_data<B: Shown>(
+fn push_data<B: BaseText>(
     out: &mut String,
     spec: &Spec,
     ty: u32,
@@ -79,7 +79,7 @@ fn push_data<B: Shown>(
 }
 
 /// Appends a value.
-pub fn push_value<B: Shown>(out: &mut String, spec: &Spec, v: &AV<B>) -> Result<(), NoMemory> {
+pub fn push_value<B: BaseText>(out: &mut String, spec: &Spec, v: &AV<B>) -> Result<(), NoMemory> {
     match v {
         AV::Data { ty, cases } => push_data(out, spec, *ty, cases),
         _ => push_leaf(out, v),

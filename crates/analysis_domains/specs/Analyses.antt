@@ -1,0 +1,49 @@
+-- What the analysis of a problem comes to, in a domain.
+use Rattle.std.specs.Prelude.{◌≡◌, ℕ, List, Ok, Err}
+use Rattle.tsl_values.specs.States.{State}
+use Rattle.insn_decode.specs.Image.{Image}
+use Rattle.fixed_point.specs.Analysis.{Analysis}
+use Rattle.fixed_point.specs.Outcome.{too_many, undecodable}
+use Rattle.fixed_point.specs.Play.{IsFull, IsLegal, play}
+use Rattle.fixed_point.specs.Table.{IsTableOf, Listings, TableFits}
+use Rattle.transfer_laws.specs.Analysis.{analysis_of}
+use Rattle.transfer_laws.specs.Problem.{Problem}
+use Rattle.transfer_laws.specs.Runs.{IsTrueOfRuns}
+use Rattle.transfer.specs.Analysis.{calls_of}
+use Rattle.worklist.specs.Answers.{IsStopOf}
+use Rattle.table_text.specs.Tables.{IsTableText}
+use Rattle.run_steps.specs.Outcome as o
+use Rattle.run_steps.specs.Outcome.{Outcome, Refusal, text, undecodable_at, too_many_targets}
+use Rattle.analysis_domains.specs.Domains.{DomainOf}
+
+module _ {E W N C : Type 0} (domain : DomainOf E W N C) (p : Problem) where
+  -- the analysis of the problem in the domain
+  abbrev pub analysis : Analysis E W State
+  analysis = analysis_of domain.base domain.cap domain.elements domain.meaning p (calls_of domain.base domain.cap domain.meaning p)
+
+  -- The text is that of the table of the analysis: of the one trace that is legal and leaves nothing pending. The table is true of the runs of
+  -- the machine from every state that the entry describes: the element at each address describes every state that the meaning puts
+  -- there, and where the base tells stamps each use list holds every definition that a read sees. That it is true follows from the rest, where
+  -- the domain keeps the laws and the problem is well posed. It stands here so that what is owed carries it. The image is the problem's.
+  pub record IsTable (image : Image) (base bytes : List ℕ) : Type 0 where
+    pub trace : List ℕ
+    pub table : Listings E
+    pub legal : IsLegal analysis trace
+    pub full : IsFull (play analysis trace)
+    pub is_table : IsTableOf analysis table (play analysis trace)
+    pub fits : TableFits analysis table
+    pub is_true : IsTrueOfRuns domain.base domain.elements p table
+    pub text : IsTableText (domain.IsText p.spec) p.spec image base table bytes
+
+  -- After a legal trace the least pending address has no decoding, or its new counter may be too many addresses.
+  abbrev pub IsStop : Refusal → Type 0
+  IsStop (undecodable_at at word) = (trace : List ℕ) × IsStopOf analysis trace at (undecodable word)
+  IsStop (too_many_targets at shown) = (trace : List ℕ) × (x : W) × IsStopOf analysis trace at (too_many x) × (shown ≡ domain.word_text 32 x)
+  IsStop _ = ⊥
+
+  -- The outcome of the analysis: the text of its table, headed by the name of the base, or the refusal of its first stop.
+  abbrev pub ComesTo : Image → List ℕ → Outcome → Type 0
+  ComesTo image base (Ok (text bytes)) = IsTable image base bytes
+  ComesTo image base (Ok (o.undecodable bytes)) = ⊥
+  ComesTo image base (Ok (o.calls_ended bytes)) = ⊥
+  ComesTo image base (Err refusal) = IsStop refusal

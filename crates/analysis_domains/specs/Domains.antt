@@ -1,0 +1,88 @@
+-- Domains as definitions see them, for states of a type.
+use Rattle.std.specs.Prelude.{ℕ, ◌==◌, List, max, Option, codes, if◌then◌else◌}
+use Rattle.base_trait.specs.Algebra.{Algebra}
+use Rattle.base_trait.specs.declared.uses.Stamped.{Stamped}
+use Rattle.kset_base.specs.Meaning.{kset}
+use Rattle.interval_base.specs.Meaning.{interval}
+use Rattle.interval_base.specs.declared.range.Range.{Range}
+use Rattle.bits_base.specs.Meaning.{bits}
+use Rattle.bits_base.specs.declared.known.Known.{Known}
+use Rattle.defuse_base.specs.Meaning.{defuse}
+use Rattle.affine_base.specs.Meaning.{affine}
+use Rattle.affine_base.specs.declared.word.Word.{Word}
+use Rattle.affine_rows.specs.Submodule.{Submodule}
+use Rattle.paired_base.specs.Meaning.{paired}
+use Rattle.tsl_values.specs.declared.entry.KeyAt.{KeyAt}
+use Rattle.tsl_values.specs.States.{State}
+use Rattle.value_laws.specs.Abs.{Parts}
+use Rattle.fixed_point.specs.Elements.{Elements}
+use Rattle.fixed_point.specs.Pairs.{paired as paired_elements}
+use Rattle.domain_laws.specs.Domain.{Meaning}
+use Rattle.domain_laws.specs.States.{StateType}
+use Rattle.cell_laws.specs.Calls.{cell_calls}
+use Rattle.cell_laws.specs.Cells.{cells}
+use Rattle.affine_calls.specs.Calls.{affine_calls, affine_elements}
+use Rattle.pair_calls.specs.Domain.{pair_meaning}
+use Rattle.base_text.specs.Texts.{Texts, bits_texts, defuse_texts, interval_texts, set_texts}
+use Rattle.base_text.specs.Words.{affine_text, pair_text}
+use Rattle.element_text.specs.Parts.{AffineText, CellsText, ElementText, PairText}
+
+-- A domain with elements E, over words W, notes N and contexts C.
+pub record DomainOf (E W N C : Type 0) : Type 1 where
+  -- its base, and how many cells a map may list
+  pub base : Algebra W N C
+  pub cap : ℕ
+  -- its elements, and the calls on them
+  pub elements : Elements E State
+  pub meaning : Meaning E W N C
+  -- the texts of elements, and of words of so many bits
+  pub IsText : ElementText E
+  pub word_text : ℕ → W → List ℕ
+
+-- two domains side by side
+abbrev pub pair_of : {E F V W M N C D : Type 0} → DomainOf E V M C → DomainOf F W N D → DomainOf (E × F) (V × W) (M × N) (C × D)
+pair_of first second = record {
+  base = paired first.base second.base;
+  cap = max first.cap second.cap;
+  elements = paired_elements first.elements second.elements;
+  meaning = pair_meaning first.base second.base (max first.cap second.cap) first.meaning second.meaning;
+  IsText = PairText first.IsText second.IsText;
+  word_text = pair_text first.word_text second.word_text;
+}
+
+module _ (t : StateType) where
+  -- cells of a base that has a name
+  abbrev pub cells_of : {W N C : Type 0} → Algebra W N C → C → ℕ → List ℕ → Texts W N → DomainOf (Parts W N) W N C
+  cells_of base c cap name texts = record {
+    base = base;
+    cap = cap;
+    elements = cells base c cap t.fields;
+    meaning = cell_calls base c cap t;
+    IsText = CellsText name texts;
+    word_text = texts.word;
+  }
+
+  -- sets of at most K numbers
+  abbrev pub sets : ℕ → DomainOf (Parts (Option (List ℕ)) (Unit {0})) (Option (List ℕ)) (Unit {0}) (Unit {0})
+  sets K = cells_of (kset K) tt 256 (if K == 1 then codes "const" else codes "kset") set_texts
+
+  abbrev pub intervals : DomainOf (Parts Range (Unit {0})) Range (Unit {0}) (Unit {0})
+  intervals = cells_of interval tt 256 (codes "interval") interval_texts
+
+  abbrev pub known_bits : DomainOf (Parts Known (Unit {0})) Known (Unit {0}) (Unit {0})
+  known_bits = cells_of bits tt 256 (codes "bits") bits_texts
+
+  -- definitions and uses
+  abbrev pub definitions : DomainOf (Parts (Option (List ℕ)) (List Stamped)) (Option (List ℕ)) (List Stamped) (Unit {0})
+  definitions = cells_of defuse tt 256 (codes "defuse") defuse_texts
+
+  -- affine relations
+  abbrev pub relations : DomainOf Submodule Word (Unit {0}) (List (ℕ × KeyAt))
+  relations = record {
+    base = affine;
+    cap = 256;
+    elements = affine_elements t;
+    meaning = affine_calls t;
+    IsText = AffineText;
+    word_text = affine_text;
+  }

@@ -1,0 +1,5 @@
+pub mod Analyses
+pub mod Domains
+pub mod Instance
+pub mod Laws
+pub mod Named

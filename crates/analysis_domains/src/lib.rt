@@ -1,0 +1,15 @@
+//! The domains that the program names, and what an analysis in each comes to.
+//!
+//! Each of the sixteen bases stands for a domain (specs/Named): cells of sets, intervals, known bits or definitions; affine relations;
+//! or two of these side by side. specs/Domains has each as definitions see it: its words, its elements and the calls on them, for the states
+//! of any specification, and the texts of both. A `NamedDomain` of the code can be made for each machine; that each is one of these, `run_analyse` shows.
+//!
+//! *The outcome* of the analysis of a problem in a domain (`ComesTo`, specs/Analyses) is the text of the table of the one legal trace that leaves
+//! nothing pending, or the refusal of the first stop. The table is true of the runs of the machine. Of a well-posed problem there is
+//! one outcome (src/laws.rt), but that the text of an affine relation may have any rows that generate it.
+#![tactic(auto)]
+
+mod domain;
+pub mod laws;
+
+pub use domain::NamedDomain;

@@ -1,0 +1,4 @@
+pub mod Lists
+pub mod Notes
+pub mod Texts
+pub mod Words

@@ -1,0 +1,35 @@
+-- The texts of words.
+use Rattle.std.specs.Prelude.{ℕ, ◌-◌, ◌^◌, ◌==◌, ◌&&◌, List, ◌++◌, map, Option, Some, None, codes, if◌then◌else◌}
+use Rattle.cell_text.specs.Digits.{digits_of, hex_digits}
+use Rattle.interval_base.specs.declared.range.Range.{Range}
+use Rattle.bits_base.specs.declared.known.Known.{Known}
+use Rattle.affine_base.specs.declared.word.Word.{Word}
+use Rattle.affine_base.specs.declared.word.Word.TheVariants.{Any, Const, Form}
+use Rattle.base_text.specs.Lists.{with_commas}
+
+-- a number of w bits: a hex digit for each 4, rounded up
+unfoldable pub number : ℕ → ℕ → List ℕ
+number w n = hex_digits (digits_of w) n
+
+-- a set: its numbers, ascending, or `any`
+abbrev pub set_text : ℕ → Option (List ℕ) → List ℕ
+set_text w None = codes "any"
+set_text w (Some numbers) = codes "{" ++ (with_commas (map (number w) numbers) ++ codes "}")
+
+-- an interval: its ends; `any`, where they are those of the width
+abbrev pub range_text : ℕ → Range → List ℕ
+range_text w x = if x.lo == 0 && x.hi == 2 ^ w - 1 then codes "any" else number w x.lo ++ (codes ".." ++ number w x.hi)
+
+-- known bits: those that are 1, and the unknown ones; `any`, where all are unknown
+abbrev pub known_text : ℕ → Known → List ℕ
+known_text w x = if x.m == 2 ^ w - 1 then codes "any" else number w x.v ++ (codes "/" ++ number w x.m)
+
+-- an affine word: `any`, its number, or the numbers of its form, the constant first
+abbrev pub affine_text : ℕ → Word → List ℕ
+affine_text w Any = codes "any"
+affine_text w (Const n) = number w n
+affine_text w (Form numbers) = with_commas (map (number 32) numbers)
+
+-- a word of a pair: both parts
+abbrev pub pair_text : {A B : Type 0} → (ℕ → A → List ℕ) → (ℕ → B → List ℕ) → ℕ → A × B → List ℕ
+pair_text first second w x = first w x.0 ++ (codes " " ++ second w x.1)

@@ -1,0 +1,26 @@
+//! Words and notes of the bases as text.
+//!
+//! A number has a hex digit for each 4 bits of its width, rounded up. Words are written so:
+//!
+//! | word | text |
+//! |---|---|
+//! | `any`, an interval of all numbers, bits that are all unknown | `any` |
+//! | a set | `{01,02}`, ascending; so is the set of all numbers |
+//! | an interval | its ends, `01..02` |
+//! | known bits | those that are 1, and the unknown ones: `04/03` is one of 4, 5, 6 and 7 |
+//! | an affine constant | `00000005` |
+//! | an affine form | its numbers, the constant first: `00000001,00000000,00000002` is 1 more than twice the second tracked cell |
+//! | a word of a pair | both parts, `{05} 00..07` |
+//!
+//! A note of stamps stands behind the word of its cell, ` from entry,00001000`; one that tells nothing is nothing.
+//!
+//! What each text is, specs/Words and specs/Notes say; `BaseText` has a base's as functions, and each call appends them.
+#![tactic(auto)]
+
+mod base;
+mod notes;
+mod words;
+
+pub use base::{BaseText, push_noted};
+pub use notes::push_stamps;
+pub use words::{push_number, push_spaced};

@@ -1,0 +1,78 @@
+//! Tables.
+
+ghost use Rattle.std.specs.Prelude.{◌≡◌, ◌++◌, IfOk, OnOk};
+ghost use Rattle.std.specs.String.{string_bytes};
+ghost use Rattle.spec_types.specs.Views.{specification};
+ghost use Rattle.fixed_point.specs.Views.{listings};
+ghost use Rattle.element_text.specs.Parts.{Appended};
+ghost use Rattle.table_text.specs.Tables.{AreBlocks, IsAt, IsTableText};
+
+use crate::blocks::push_block;
+use crate::head::push_head;
+use element_text::ElemText;
+use fixed_point::Table;
+use insn_decode::Image;
+use spec_types::Spec;
+use std::alloc::{AllocError as NoMemory, Global};
+
+/// Appends the block of an address, where it is listed.
+fn push_listed<D: ElemText>(
+    out: &mut String,
+    spec: &Spec,
+    at: u32,
+    table: &Table<D::Elem>,
+) -> Result<(), NoMemory>
+    ensures { OnOk result (Appended (IsAt (D.IsText (specification spec.now)) (specification spec.now) at (listings (λ x. x) table.now at)) (string_bytes out.old) (string_bytes out.new)) }
+{
+    match table.blocks.get(&at) {
+        Some(block) => push_block::<D>(out, spec, at, block),
+        None => Ok(()),
+    }
+}
+
+/// Appends the blocks of addresses, in their order.
+fn push_blocks<D: ElemText>(
+    out: &mut String,
+    spec: &Spec,
+    addresses: &[u32],
+    table: &Table<D::Elem>,
+) -> Result<(), NoMemory>
+    ensures { OnOk result (Appended (AreBlocks (D.IsText (specification spec.now)) (specification spec.now) (listings (λ x. x) table.now) addresses.now) (string_bytes out.old) (string_bytes out.new)) }
+{
+    for at in addresses {
+        push_listed::<D>(out, spec, *at, table)?;
+    }
+    Ok(())
+}
+
+/// Appends a table.
+fn push_table<D: ElemText>(
+    alloc: Global,
+    out: &mut String,
+    spec: &Spec,
+    image: &Image,
+    base: &str,
+    table: &Table<D::Elem>,
+) -> Result<(), NoMemory>
+    ensures { OnOk result (Appended (IsTableText (D.IsText (specification spec.now)) (specification spec.now) image.now base.now (listings (λ x. x) table.now)) (string_bytes out.old) (string_bytes out.new)) }
+{
+    push_head(out, base, image)?;
+    let addresses = image.addresses(alloc)?;
+    push_blocks::<D>(out, spec, &addresses, table)
+}
+
+/// The text of a table of an image: its head, with the name of its base, and the blocks of the code words that it lists. Blocks at
+/// other addresses are left out; a table of an analysis has none.
+pub fn table_text<D: ElemText>(
+    alloc: Global,
+    spec: &Spec,
+    image: &Image,
+    base: &str,
+    table: &Table<D::Elem>,
+) -> Result<Vec<u8>, NoMemory>
+    ensures { IfOk result (λ r. IsTableText (D.IsText (specification spec.now)) (specification spec.now) image.now base.now (listings (λ x. x) table.now) r.items) }
+{
+    let mut out = String::new(alloc);
+    push_table::<D>(alloc, &mut out, spec, image, base, table)?;
+    Ok(out.into_bytes())
+}
