@@ -11,8 +11,7 @@
 //! `over` analyses a subject in such a domain, `over_both` in two side by side. The answer is the trace, and the table with the verdicts on it
 //! and on it with something cut; or else, where an address and a text are given (`Replacement`), the verdict on the table with that element.
 //!
-//! *What is proved.* An element that is read fits its domain, a domain that is made is for its specification, and each base of such a domain
-//! joins.
+//! *What is proved.* An element that is read fits its domain.
 #![tactic(auto)]
 
 mod analyses;
@@ -20,9 +19,7 @@ mod domains;
 mod least;
 mod rows;
 mod verdicts;
-mod words;
 
 pub use analyses::{over, over_both};
 pub use domains::ShownDomain;
 pub use verdicts::Replacement;
-pub use words::Named;

@@ -148,7 +148,7 @@ impl<'b, D: ShownDomain> Notation<D> for Relations<'b> {
         spec: &Spec,
         x: &D::Elem,
     ) -> Result<(), NoMemory> {
-        D::push_element(alloc, out, spec, x)
+        D::push_shown(alloc, out, spec, x)
     }
 }
 

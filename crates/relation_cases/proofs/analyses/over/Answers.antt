@@ -7,4 +7,4 @@ made-requires-clause-states g c =
     c.accepted_have_states.ensures (specification s.spec) s.machine c.requires.subject.accepted c.requires.subject.machine
 
 pub analysed-requires-clause-joins : goal.analysed-requires-clause-joins
-analysed-requires-clause-joins g c = g.met.D.ShownDomain.joins c.requires.may
+analysed-requires-clause-joins g c = g.met.D.NamedDomain.joins c.requires.may
