@@ -24,8 +24,9 @@ use Rattle.reinterpretation.proofs.Called.{keeps_args}
 use Rattle.reinterpretation.proofs.Carried.{asks_fit}
 use Rattle.reinterpretation.proofs.Levels.{AreKept, own_args}
 use Rattle.reinterpretation.proofs.Listed.{keeps_stamps}
-use Rattle.reinterpretation.proofs.Lowered.{args_height, args_high, args_rank, group_rank, groups_lower}
-use Rattle.reinterpretation.proofs.OwnStamps.{part_stamps}
+use Rattle.reinterpretation.specs.Ranks.{args_height, args_rank, group_rank}
+use Rattle.reinterpretation.proofs.Lowered.{args_high, groups_lower}
+use Rattle.reinterpretation.specs.OwnStamps.{part_stamps}
 use Rattle.reinterpretation.proofs.Termed.{ArgsOf}
 use Rattle.call_answers.specs.Answers.{activated, greatest_rank}
 use Rattle.call_answers.specs.Laws.{JoinsUnder}

@@ -13,7 +13,8 @@ use Rattle.value_types.specs.Types.{have_types}
 use Rattle.reinterpretation.specs.Calls.{AreArguments}
 use Rattle.reinterpretation.specs.Terms.{params_of}
 use Rattle.reinterpretation.proofs.Plain.{past}
-use Rattle.reinterpretation.proofs.Tested.{parts_fit, parts_tell, parts_told}
+use Rattle.reinterpretation.specs.Tests.{parts_fit}
+use Rattle.reinterpretation.proofs.Tested.{parts_tell, parts_told}
 use Rattle.call_answers.specs.Answers.{are_arguments}
 
 below_told : (m n : ℕ) → IsTrue (nat_lt m n) → m < n

@@ -28,7 +28,7 @@ use Rattle.reinterpretation.proofs.Carried.{carried}
 use Rattle.reinterpretation.proofs.Kept.{IsKept, keeps_itself}
 use Rattle.reinterpretation.proofs.Levels.{AreKept, own_args}
 use Rattle.reinterpretation.proofs.Listed.{keeps_stamps}
-use Rattle.reinterpretation.proofs.OwnStamps.{part_stamps}
+use Rattle.reinterpretation.specs.OwnStamps.{part_stamps}
 use Rattle.reinterpretation.proofs.Plain.{signed}
 use Rattle.reinterpretation.proofs.Termed.{ArgsOf}
 use Rattle.reinterpretation.proofs.Typed.{AreOf, IsOf}

@@ -17,9 +17,9 @@ use Rattle.recursion_fix.specs.Answer.{gives}
 use Rattle.reinterpretation.specs.Answers.{Answer}
 use Rattle.reinterpretation.specs.Calls.{moves}
 use Rattle.reinterpretation.specs.Terms.{group_turn, params_of}
-use Rattle.reinterpretation.proofs.Lowered.{group_rank}
-use Rattle.reinterpretation.proofs.OwnStamps.{part_stamps}
-use Rattle.reinterpretation.proofs.Tested.{parts_fit}
+use Rattle.reinterpretation.specs.Ranks.{group_rank}
+use Rattle.reinterpretation.specs.OwnStamps.{part_stamps}
+use Rattle.reinterpretation.specs.Tests.{parts_fit}
 use Rattle.call_answers.specs.Driven.{driven, enough_turns}
 
 -- c is the context of words, cap the room of a map, and a the address of the instruction

@@ -35,7 +35,7 @@ use Rattle.reinterpretation.proofs.Called.{all_fine, calls_kept, turn_gives}
 use Rattle.reinterpretation.proofs.Kept.{IsKept}
 use Rattle.reinterpretation.proofs.Levels.{own_args}
 use Rattle.reinterpretation.proofs.Listed.{keeps_stamps}
-use Rattle.reinterpretation.proofs.OwnStamps.{part_stamps}
+use Rattle.reinterpretation.specs.OwnStamps.{part_stamps}
 use Rattle.reinterpretation.proofs.Plain.{past}
 use Rattle.reinterpretation.proofs.Termed as termed
 use Rattle.reinterpretation.proofs.Termed.{IsYield}

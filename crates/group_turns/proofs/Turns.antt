@@ -15,7 +15,8 @@ use Rattle.recursion_fix.specs.Fitting.{WideningLowersRank}
 use Rattle.recursion_fix.specs.Meaning.{ArgsFit}
 use Rattle.reinterpretation.specs.Calls.{moves}
 use Rattle.reinterpretation.specs.Terms.{GroupArgs, params_of}
-use Rattle.reinterpretation.proofs.Lowered.{args_height, args_high, args_rank, group_rank, groups_lower}
+use Rattle.reinterpretation.specs.Ranks.{args_height, args_rank, group_rank}
+use Rattle.reinterpretation.proofs.Lowered.{args_high, groups_lower}
 use Rattle.reinterpretation.proofs.Listed.{each_lists}
 use Rattle.reinterpretation.proofs.Plain.{are_given}
 use Rattle.reinterpretation.proofs.Termed.{ArgsOf}

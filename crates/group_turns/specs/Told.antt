@@ -23,7 +23,8 @@ use Rattle.reinterpretation.specs.Terms.{params_of}
 use Rattle.reinterpretation.proofs.Listed.{each_lists}
 use Rattle.reinterpretation.proofs.Plain.{are_given}
 use Rattle.reinterpretation.proofs.Termed.{ArgsOf}
-use Rattle.reinterpretation.proofs.Tested.{parts_fit, parts_tell, parts_told}
+use Rattle.reinterpretation.specs.Tests.{parts_fit}
+use Rattle.reinterpretation.proofs.Tested.{parts_tell, parts_told}
 use Rattle.reinterpretation.proofs.Typed.{AreOf, are_fit, are_typed}
 use Rattle.group_turns.specs.Listing.{cases_list, cell_lists, parts_list, value_lists}
 use Rattle.group_turns.specs.Turning.{may_be_of}

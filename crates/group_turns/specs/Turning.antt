@@ -12,9 +12,9 @@ use Rattle.recursion_fix.specs.Meaning.{Meaning}
 use Rattle.group_arguments.specs.Groups.{each_passes}
 use Rattle.reinterpretation.specs.Calls.{moves}
 use Rattle.reinterpretation.specs.Terms.{GroupArgs, params_of}
-use Rattle.reinterpretation.proofs.Lowered.{group_rank}
-use Rattle.reinterpretation.proofs.OwnStamps.{part_stamps}
-use Rattle.reinterpretation.proofs.Tested.{parts_fit, value_fits}
+use Rattle.reinterpretation.specs.Ranks.{group_rank}
+use Rattle.reinterpretation.specs.OwnStamps.{part_stamps}
+use Rattle.reinterpretation.specs.Tests.{parts_fit, value_fits}
 use Rattle.group_turns.specs.Listing.{parts_list}
 
 -- the stamps of an activation that began with these arguments, by the instruction at an address

@@ -20,8 +20,9 @@ use Rattle.reinterpretation.proofs.Called.{keeps_args}
 use Rattle.reinterpretation.proofs.Carried.{asks_fit}
 use Rattle.reinterpretation.proofs.Levels.{Answered, calls_exist, own_args}
 use Rattle.reinterpretation.proofs.Listed.{keeps_stamps}
-use Rattle.reinterpretation.proofs.Lowered.{group_rank, groups_lower}
-use Rattle.reinterpretation.proofs.OwnStamps.{part_stamps}
+use Rattle.reinterpretation.specs.OwnStamps.{part_stamps}
+use Rattle.reinterpretation.specs.Ranks.{group_rank}
+use Rattle.reinterpretation.proofs.Lowered.{groups_lower}
 use Rattle.reinterpretation.proofs.Termed.{ArgsOf}
 
 module _ {W N C : Type 0} (B : Algebra W N C) (laws : Laws W N C B) where

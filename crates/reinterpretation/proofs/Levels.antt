@@ -30,10 +30,12 @@ use Rattle.reinterpretation.proofs.Called.{all_fine, answer_kept}
 use Rattle.reinterpretation.proofs.Carried.{carried}
 use Rattle.reinterpretation.proofs.Kept.{IsKept, keeps_itself}
 use Rattle.reinterpretation.proofs.Listed.{each_lists, keeps_stamps}
-use Rattle.reinterpretation.proofs.OwnStamps.{own_list, part_stamps}
+use Rattle.reinterpretation.specs.OwnStamps.{part_stamps}
+use Rattle.reinterpretation.specs.Tests.{parts_fit}
+use Rattle.reinterpretation.proofs.OwnStamps.{own_list}
 use Rattle.reinterpretation.proofs.Plain.{are_given, past, signed}
 use Rattle.reinterpretation.proofs.Termed.{ArgsOf}
-use Rattle.reinterpretation.proofs.Tested.{parts_fit, parts_tell, parts_told}
+use Rattle.reinterpretation.proofs.Tested.{parts_tell, parts_told}
 use Rattle.reinterpretation.proofs.Typed.{AreOf, IsOf}
 
 module _ {W N C : Type 0} (B : Algebra W N C) (c : C) (cap : ℕ) (spec : Spec) (a : ℕ) where

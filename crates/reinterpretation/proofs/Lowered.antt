@@ -10,17 +10,18 @@ use Rattle.spec_types.specs.WellFormed.{IsWellFormed}
 use Rattle.tsl_values.specs.Types.{environment_of}
 use Rattle.value_laws.specs.Abs.{Abs}
 use Rattle.value_laws.specs.Calls.{absorbs_of, widen_of}
-use Rattle.value_laws.specs.Shapes.{HasShape, ListsStamps, height_of, rank_of}
+use Rattle.value_laws.specs.Shapes.{HasShape, ListsStamps, rank_of}
 use Rattle.value_laws.proofs.Ranks.{rank_height, widen_falls}
 use Rattle.value_laws.proofs.Widening.{widen_keeps}
 use Rattle.value_types.specs.TypeShapes.{shape_of}
 use Rattle.value_types.proofs.Typing.{types_are_shapes}
 use Rattle.group_arguments.specs.Groups.{EachIs}
-use Rattle.group_arguments.specs.Ranks.{RanksFall, ranks}
+use Rattle.group_arguments.specs.Ranks.{RanksFall}
 use Rattle.group_arguments.proofs.Ranks.{group_ranks_fall}
 use Rattle.recursion_fix.specs.Fitting.{WideningLowersRank}
 use Rattle.reinterpretation.specs.Calls.{all_absorb, list_moves, moves}
-use Rattle.reinterpretation.specs.Terms.{GroupArgs, merge_all, params_of}
+use Rattle.reinterpretation.specs.Ranks.{args_height, args_rank, group_rank}
+use Rattle.reinterpretation.specs.Terms.{merge_all, params_of}
 use Rattle.reinterpretation.proofs.Termed.{ArgsOf}
 use Rattle.reinterpretation.proofs.Typed.{AreOf, IsOf, type_is}
 
@@ -34,19 +35,6 @@ both_lower m n k j p q h g = ((let x = h.0 in let y = g.0 in omega (arith, x, y)
     sorted : (p ≡ false) ⊎ (q ≡ false) → m + k < n + j
     sorted (inl e) = let x = h.1 e in let y = g.0 in omega (arith, x, y)
     sorted (inr e) = let x = h.0 in let y = g.1 e in omega (arith, x, y)
-
-module _ {W N C : Type 0} (B : Algebra W N C) (c : C) (cap : ℕ) (spec : Spec) (stamps : List Stamped) where
-  -- the rank of an argument list, along the types of parameters, and the most that it can be
-  abbrev pub args_rank : List Ty → List (Abs W N) → ℕ
-  args_rank (t ∷ ts) (x ∷ xs) = rank_of B cap c stamps (shape_of (environment_of spec) t) x + args_rank ts xs
-  args_rank _ _ = 0
-
-  abbrev pub args_height : List Ty → ℕ
-  args_height [] = 0
-  args_height (t ∷ ts) = height_of B cap (length stamps) (shape_of (environment_of spec) t) + args_height ts
-
-  abbrev pub group_rank : GroupArgs W N → ℕ
-  group_rank = ranks (λ f xs. args_rank (params_of spec f) xs) (λ f. args_height (params_of spec f)) (length spec.funs)
 
 module _ {W N C : Type 0} (B : Algebra W N C) (laws : Laws W N C B) (c : C) (cap : ℕ) (spec : Spec) (a : ℕ) (stamps : List Stamped) (formed : IsWellFormed (environment_of spec)) where
   shaped : (ty : Ty) (x : Abs W N) → IsOf B c cap (environment_of spec) (ListsStamps B stamps) ty x → HasShape (shape_of (environment_of spec) ty) x

@@ -8,55 +8,36 @@ use Rattle.map_laws.specs.declared.cell.Cell.{Cell}
 use Rattle.map_laws.specs.Cells.{ListsOnly}
 use Rattle.value_laws.specs.Abs.{Abs, Cases, Parts, flag, word, made, map, no_case, absent, present, no_part, part}
 use Rattle.value_laws.specs.Shapes.{CasesList, ListsStamps, PartsList}
+use Rattle.reinterpretation.specs.OwnStamps.{case_stamps, cell_stamps, part_stamps, value_stamps}
 
 module _ {W N C : Type 0} (B : Algebra W N C) where
-  abbrev pub cell_stamps : List (ℕ × Cell W N) → List Stamped
-  cell_stamps [] = []
-  cell_stamps (e ∷ es) = B.notes.listed e.1.note ++ cell_stamps es
-
-  abbrev mutual
-    pub value_stamps : Abs W N → List Stamped
-    value_stamps (flag t) = []
-    value_stamps (word w x) = []
-    value_stamps (made ty cs) = case_stamps cs
-    value_stamps (map m x) = B.notes.listed x.rest.note ++ cell_stamps x.cells
-
-    pub case_stamps : Cases W N → List Stamped
-    case_stamps no_case = []
-    case_stamps (absent cs) = case_stamps cs
-    case_stamps (present xs cs) = part_stamps xs ++ case_stamps cs
-
-    pub part_stamps : Parts W N → List Stamped
-    part_stamps no_part = []
-    part_stamps (part x xs) = value_stamps x ++ part_stamps xs
-
   module _ (stamps : List Stamped) where
     abbrev pub IsWithin : List Stamped → Type 0
     IsWithin own = (s : Stamped) → IsAmong s own → IsAmong s stamps
 
-    cells_list : (es : List (ℕ × Cell W N)) → IsWithin (cell_stamps es) → Each (λ e. ListsOnly B stamps e.1) es
+    cells_list : (es : List (ℕ × Cell W N)) → IsWithin (cell_stamps B es) → Each (λ e. ListsOnly B stamps e.1) es
     cells_list [] h = tt
     cells_list (e ∷ es) h = (
-      are_among_from (B.notes.listed e.1.note) stamps (λ s k. h s (among_left s (B.notes.listed e.1.note) (cell_stamps es) k)),
-      cells_list es (λ s k. h s (among_right s (B.notes.listed e.1.note) (cell_stamps es) k)),
+      are_among_from (B.notes.listed e.1.note) stamps (λ s k. h s (among_left s (B.notes.listed e.1.note) (cell_stamps B es) k)),
+      cells_list es (λ s k. h s (among_right s (B.notes.listed e.1.note) (cell_stamps B es) k)),
     )
 
     mutual
-      value_lists : (x : Abs W N) → IsWithin (value_stamps x) → ListsStamps B stamps x
+      value_lists : (x : Abs W N) → IsWithin (value_stamps B x) → ListsStamps B stamps x
       value_lists (flag t) h = tt
       value_lists (word w x) h = tt
       value_lists (made ty cs) h = cases_list cs h
       value_lists (map m x) h = (
-        are_among_from (B.notes.listed x.rest.note) stamps (λ s k. h s (among_left s (B.notes.listed x.rest.note) (cell_stamps x.cells) k)),
-        cells_list x.cells (λ s k. h s (among_right s (B.notes.listed x.rest.note) (cell_stamps x.cells) k)),
+        are_among_from (B.notes.listed x.rest.note) stamps (λ s k. h s (among_left s (B.notes.listed x.rest.note) (cell_stamps B x.cells) k)),
+        cells_list x.cells (λ s k. h s (among_right s (B.notes.listed x.rest.note) (cell_stamps B x.cells) k)),
       )
 
-      cases_list : (cs : Cases W N) → IsWithin (case_stamps cs) → CasesList B stamps cs
+      cases_list : (cs : Cases W N) → IsWithin (case_stamps B cs) → CasesList B stamps cs
       cases_list no_case h = tt
       cases_list (absent cs) h = cases_list cs h
-      cases_list (present xs cs) h = (own_list xs (λ s k. h s (among_left s (part_stamps xs) (case_stamps cs) k)), cases_list cs (λ s k. h s (among_right s (part_stamps xs) (case_stamps cs) k)))
+      cases_list (present xs cs) h = (own_list xs (λ s k. h s (among_left s (part_stamps B xs) (case_stamps B cs) k)), cases_list cs (λ s k. h s (among_right s (part_stamps B xs) (case_stamps B cs) k)))
 
       -- values list their own stamps
-      pub own_list : (xs : Parts W N) → IsWithin (part_stamps xs) → PartsList B stamps xs
+      pub own_list : (xs : Parts W N) → IsWithin (part_stamps B xs) → PartsList B stamps xs
       own_list no_part h = tt
-      own_list (part x xs) h = (value_lists x (λ s k. h s (among_left s (value_stamps x) (part_stamps xs) k)), own_list xs (λ s k. h s (among_right s (value_stamps x) (part_stamps xs) k)))
+      own_list (part x xs) h = (value_lists x (λ s k. h s (among_left s (value_stamps B x) (part_stamps B xs) k)), own_list xs (λ s k. h s (among_right s (value_stamps B x) (part_stamps B xs) k)))

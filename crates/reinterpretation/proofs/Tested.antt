@@ -1,5 +1,5 @@
 -- A test that tells whether values fit.
-use Rattle.std.proofs.Common.{ℕ, ◌<◌, ◌^◌, ◌&&◌, Bool, true, List, [], ◌∷◌, length, refl, IsTrue, arith}
+use Rattle.std.proofs.Common.{ℕ, ◌<◌, ◌^◌, ◌&&◌, List, [], ◌∷◌, length, refl, IsTrue, arith}
 use Rattle.std.specs.Prelude.{nat_le, nat_lt}
 use Rattle.std.specs.List.{list_all}
 use Rattle.std.proofs.lemmas.Bool.Decides.{nat_tests}
@@ -15,33 +15,11 @@ use Rattle.spec_types.proofs.Checks.{width_is as width_from}
 use Rattle.meaning_laws.proofs.Values.{width_to}
 use Rattle.value_laws.specs.Abs.{Abs, Cases, Parts, flag, word, made, map, no_case, absent, present, no_part, part}
 use Rattle.value_laws.specs.Fits.{CasesFit, Fits, PartsFit}
+use Rattle.reinterpretation.specs.Tests.{cases_fit, keys_fit, parts_fit, value_fits, words_fit}
 
 pub each_mapped : {A : Type 0} (P Q : A → Type 0) (xs : List A) → ((x : A) → P x → Q x) → Each P xs → Each Q xs
 each_mapped P Q [] f h = tt
 each_mapped P Q (x ∷ xs) f h = (f x h.0, each_mapped P Q xs f h.1)
-
-module _ {W N C : Type 0} (B : Algebra W N C) (c : C) (cap : ℕ) where
-  abbrev pub words_fit : Map W N → Bool
-  words_fit m = B.words.fits_test c m.width m.rest.word && list_all (λ e. B.words.fits_test c m.width e.1.word) m.cells
-
-  abbrev pub keys_fit : Map W N → Bool
-  keys_fit m = ascends_from 0 (keys m) && (list_all (λ k. nat_lt k (2 ^ 32)) (keys m) && nat_le (length m.cells) cap)
-
-  abbrev mutual
-    pub value_fits : Abs W N → Bool
-    value_fits (flag t) = true
-    value_fits (word w x) = is_width w && B.words.fits_test c w x
-    value_fits (made ty cs) = cases_fit cs
-    value_fits (map m x) = is_width x.width && (words_fit x && keys_fit x)
-
-    pub cases_fit : Cases W N → Bool
-    cases_fit no_case = true
-    cases_fit (absent cs) = cases_fit cs
-    cases_fit (present xs cs) = parts_fit xs && cases_fit cs
-
-    pub parts_fit : Parts W N → Bool
-    parts_fit no_part = true
-    parts_fit (part x xs) = value_fits x && parts_fit xs
 
 module _ {W N C : Type 0} (B : Algebra W N C) (laws : Laws W N C B) (c : C) (cap : ℕ) where
   words_told : (m : Map W N) → IsTrue (words_fit B c cap m) → EachCell (CellFits B c m.width) m

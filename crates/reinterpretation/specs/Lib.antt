@@ -1,8 +1,11 @@
 pub mod Answers
-pub mod Keys
-pub mod Steps
-pub mod Choices
-pub mod Terms
 pub mod Calls
-pub mod Sound
+pub mod Choices
+pub mod Keys
 pub mod Laws
+pub mod OwnStamps
+pub mod Ranks
+pub mod Sound
+pub mod Steps
+pub mod Terms
+pub mod Tests

@@ -149,9 +149,9 @@ module _ {E W N C : Type 0} (B : Algebra W N C) (laws : Laws W N C B) (cap : ℕ
             (none_fails B M.context cap 64 2) (h.right a) f is.interp xs is.interp_there args keyed_args);
         lists = calls_list_stamps B laws p.spec M.context cap a (Widen 64 2) (calls a) stamps f xs h.posed.accepted (inl h.joins) tt (h.right a) args (parts_list B (At a ∷ stamps) xs listed_args);
         logged = call_logged B laws M.context cap p.spec a (ListsStamps B (At a ∷ stamps)) (keeps_stamps B laws M.context cap env a stamps) (λ y z k l. widen_lists B laws M.context (At a ∷ stamps) y z k l) (inl h.joins) h.posed.accepted
-            (Widen 64 2) (calls a) (h.right a) (λ u. AreAmong u.stamps (At a ∷ stamps)) (reads_listed B laws M.context (At a ∷ stamps)) f is.interp xs is.interp_there args listed_args;
+            (Widen 64 2) (calls a) (h.right a) (λ u. AreAmong u.stamps (At a ∷ stamps)) (reads_listed B laws M.context env (At a ∷ stamps)) f is.interp xs is.interp_there args listed_args;
         unstamped = λ none. call_logged B laws M.context cap p.spec a (KeysFit env) (keeps_keys B M.context cap env a) (λ y z k l. widen_keys_fit B M.context env y z k l) (inl h.joins) h.posed.accepted
-            (Widen 64 2) (calls a) (h.right a) (λ u. ⊥) (reads_none B laws M.context (KeysFit env) none) f is.interp xs is.interp_there args keyed_args;
+            (Widen 64 2) (calls a) (h.right a) (λ u. ⊥) (reads_none B laws M.context env (KeysFit env) none) f is.interp xs is.interp_there args keyed_args;
       }
 
   -- a value that has a counter is a state

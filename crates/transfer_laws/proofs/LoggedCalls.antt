@@ -11,7 +11,7 @@ use Rattle.base_trait.proofs.Lists.{are_among_at, are_among_from}
 use Rattle.map_laws.specs.Calls.{access_of}
 use Rattle.map_laws.specs.Laws.{HasRoom}
 use Rattle.map_laws.proofs.Reading.{access_lists}
-use Rattle.spec_types.specs.Environment.{Signature}
+use Rattle.spec_types.specs.Environment.{Environment, Signature}
 use Rattle.spec_types.specs.Specification.{Spec, Fun}
 use Rattle.tsl_values.specs.Types.{environment_of}
 use Rattle.meaning.specs.Direct.{group_of}
@@ -44,7 +44,7 @@ use Rattle.transfer_laws.proofs.LoggedTurns.{group_logged}
 
 module _ {W N C : Type 0} (B : Algebra W N C) (laws : Laws W N C B) (c : C) (cap : ℕ) (spec : Spec) (a : ℕ) (P : Abs W N → Type 0) (inv : Invariant B c cap (environment_of spec) a P)
     (widens : (x y : Abs W N) → P x → P y → P (widen_of B c x y)) (room : HasRoom B cap) (ok : IsAccepted spec) (policy : Policy) (calls : ℕ → List (Abs W N) → Answer (Abs W N)) (right : AreRight B c cap spec a policy calls)
-    (U : Seen → Type 0) (reads : ReadsAre B c P U) where
+    (U : Seen → Type 0) (reads : ReadsAre B c (environment_of spec) P U) where
   abbrev Fits : ℕ → GroupArgs W N → Type 0
   Fits g = EachIs (ArgsOf B laws c cap spec a P g)
 
@@ -95,10 +95,10 @@ module _ {W N C : Type 0} (B : Algebra W N C) (laws : Laws W N C B) (c : C) (cap
   pub call_logged : (f : ℕ) (fun : Fun) (xs : List (Abs W N)) → slice_get spec.funs f ≡ Some fun → AreArguments B c cap spec f xs → Each P xs → IsLogged U (calls f xs)
   call_logged f fun xs e args k = calls_logged (suc (ok.rank (group_of spec f))) f (signature_of fun) xs (omega arith) (signed spec f fun e) (are_arguments B c cap P spec f fun xs e args k)
 
-module _ {W N C : Type 0} (B : Algebra W N C) (laws : Laws W N C B) (c : C) where
+module _ {W N C : Type 0} (B : Algebra W N C) (laws : Laws W N C B) (c : C) (env : Environment) where
   -- reads of a map have stamps that it lists
-  pub reads_listed : (stamps : List Stamped) → ReadsAre B c (ListsStamps B stamps) (λ u. AreAmong u.stamps stamps)
-  reads_listed stamps m x ks h =
+  pub reads_listed : (stamps : List Stamped) → ReadsAre B c env (ListsStamps B stamps) (λ u. AreAmong u.stamps stamps)
+  reads_listed stamps m x ks below h =
       let lists = access_lists B laws c stamps x ks h in
       let note = (access_of B c x ks).note in
       each_weaker (λ u. AreAmong u.stamps (B.notes.listed note)) (λ u. AreAmong u.stamps stamps)
@@ -106,5 +106,5 @@ module _ {W N C : Type 0} (B : Algebra W N C) (laws : Laws W N C B) (c : C) wher
       (B.notes.reads m (named_key ks) note) (laws.notes.reads_list m (named_key ks) note)
 
   -- of notes that tell no stamps there are no reads
-  pub reads_none : (P : Abs W N → Type 0) → B.notes.stamped ≡ false → ReadsAre B c P (λ u. ⊥)
-  reads_none P e m x ks h = subst (λ l. Each (λ u. ⊥) l) (sym (laws.notes.reads_nothing m (named_key ks) (access_of B c x ks).note e)) tt
+  pub reads_none : (P : Abs W N → Type 0) → B.notes.stamped ≡ false → ReadsAre B c env P (λ u. ⊥)
+  reads_none P e m x ks below h = subst (λ l. Each (λ u. ⊥) l) (sym (laws.notes.reads_nothing m (named_key ks) (access_of B c x ks).note e)) tt

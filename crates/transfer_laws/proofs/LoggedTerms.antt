@@ -1,5 +1,5 @@
 -- Terms log uses of a property alone, where reads of maps have it.
-use Rattle.std.proofs.Common.{◌≡◌, ℕ, zero, suc, ◌<◌, Bool, true, false, cond, List, [], ◌∷◌, ◌++◌, Option, Some, None, slice_get, sym, subst}
+use Rattle.std.proofs.Common.{◌≡◌, ℕ, zero, suc, ◌<◌, Bool, true, false, cond, List, [], ◌∷◌, ◌++◌, length, Option, Some, None, slice_get, refl, sym, subst}
 use Rattle.std.specs.Prelude.{◌==◌, IfSome}
 use Rattle.base_trait.specs.Algebra.{Algebra}
 use Rattle.base_trait.specs.Laws.{Laws}
@@ -13,11 +13,11 @@ use Rattle.spec_types.specs.declared.ty.Ty.{Ty}
 use Rattle.spec_types.specs.declared.ty.Ty.TheVariants.{Bool as Flag, Word, Data as DataTy, Map as MapOf}
 use Rattle.spec_types.specs.CoreTerms as t
 use Rattle.spec_types.specs.CoreTerms.{Core, Cores}
-use Rattle.spec_types.specs.Environment.{Signature, key_type, value_type}
+use Rattle.spec_types.specs.Environment.{Environment, Signature, key_type, value_type}
 use Rattle.spec_types.specs.Specification.{Spec}
 use Rattle.spec_types.specs.Texts.{case_at, fields_at}
 use Rattle.spec_types.specs.WellFormed.{IsWellFormed}
-use Rattle.tsl_values.specs.Types.{environment_of}
+use Rattle.tsl_values.specs.Types.{environment_of, key_count}
 use Rattle.meaning.specs.Direct.{group_of}
 use Rattle.core_meaning.specs.Places.{types_named}
 use Rattle.core_meaning.specs.CoreTypes.{HasCoreType, HaveCoreTypes, ArmHasType}
@@ -31,27 +31,30 @@ use Rattle.reinterpretation.specs.Keys.{keys_of, named_key}
 use Rattle.reinterpretation.specs.Steps.{accessed, read_of}
 use Rattle.reinterpretation.specs.Terms.{arm_of, value_of, values_of}
 use Rattle.reinterpretation.proofs.Kept.{IsKept}
+use Rattle.reinterpretation.proofs.Keyed.{IsBelow, key_below}
 use Rattle.reinterpretation.proofs.Typed.{IsOf, AreOf, are_append, map_there}
 use Rattle.reinterpretation.proofs.Stepped.{Invariant}
 use Rattle.reinterpretation.proofs.Chosen.{named_kept}
 use Rattle.reinterpretation.proofs.Termed.{KeysAreFine, value_kept, values_kept}
 use Rattle.transfer_laws.proofs.Logs.{IsLogged, behind_logged, bind_logged, branch_logged, decided_logged, each_append}
 
--- what is read of a map that keeps P has the property
-abbrev pub ReadsAre : {W N C : Type 0} → Algebra W N C → C → (Abs W N → Type 0) → (Seen → Type 0) → Type 0
-ReadsAre {W} {N} B c P U = (m : ℕ) (x : Map W N) (ks : Keys) → P (map m x) → Each U (B.notes.reads m (named_key ks) (access_of B c x ks).note)
+-- what is read of a map that keeps P, at a key of its type, has the property
+abbrev pub ReadsAre : {W N C : Type 0} → Algebra W N C → C → Environment → (Abs W N → Type 0) → (Seen → Type 0) → Type 0
+ReadsAre {W} {N} B c env P U =
+    (m : ℕ) (x : Map W N) (ks : Keys) → IsBelow (key_count env (key_type env m)) ks → P (map m x) → Each U (B.notes.reads m (named_key ks) (access_of B c x ks).note)
 
 module _ {W N C : Type 0} (B : Algebra W N C) (laws : Laws W N C B) (c : C) (cap : ℕ) (spec : Spec) (a : ℕ) (P : Abs W N → Type 0) (inv : Invariant B c cap (environment_of spec) a P)
-    (room : HasRoom B cap) (formed : IsWellFormed (environment_of spec)) (keys_fine : KeysAreFine (environment_of spec)) (U : Seen → Type 0) (reads : ReadsAre B c P U) where
-  accessed_logged : (m : ℕ) (x key : Abs W N) (l : List Seen) → IsOf B c cap (environment_of spec) P (MapOf m) x → Each U l → IsLogged U (accessed B c m x key l)
-  accessed_logged m x key l h k =
+    (room : HasRoom B cap) (formed : IsWellFormed (environment_of spec)) (keys_fine : KeysAreFine (environment_of spec)) (U : Seen → Type 0) (reads : ReadsAre B c (environment_of spec) P U) where
+  accessed_logged : (m : ℕ) (x key : Abs W N) (l : List Seen) → m < length (environment_of spec).maps → IsOf B c cap (environment_of spec) P (MapOf m) x → IsOf B c cap (environment_of spec) P (key_type (environment_of spec) m) key
+      → Each U l → IsLogged U (accessed B c m x key l)
+  accessed_logged m x key l lt h q k =
       let there = map_there B c cap (environment_of spec) P m x h in
-      subst (λ z. IsLogged U (accessed B c m z key l)) (sym there.is) (at there.map_is (subst P there.is h.also) (m == m) (keys_of B c there.map_is key))
+      subst (λ z. IsLogged U (accessed B c m z key l)) (sym there.is) (at there.map_is (subst P there.is h.also) (m == m) (keys_of B c there.map_is key) refl)
     where
-      at : (z : Map W N) → P (map m z) → (b : Bool) (o : Option Keys) → IsLogged U (cond b (read_of B c m z l o) (gives None l))
-      at z p true None = k
-      at z p true (Some ks) = each_append U l _ k (reads m z ks p)
-      at z p false o = k
+      at : (z : Map W N) → P (map m z) → (b : Bool) (o : Option Keys) → keys_of B c z key ≡ o → IsLogged U (cond b (read_of B c m z l o) (gives None l))
+      at z p true None e = k
+      at z p true (Some ks) e = each_append U l _ k (reads m z ks (key_below B laws c cap (environment_of spec) P (key_type (environment_of spec) m) z key ks (keys_fine m lt).0 q e) p)
+      at z p false o e = k
 
   module _ (calls : ℕ → List (Abs W N) → Answer (Abs W N)) (rank : ℕ → ℕ) (g : ℕ)
       (below : (f : ℕ) (s : Signature) (xs : List (Abs W N)) → rank (group_of spec f) < rank g → slice_get (environment_of spec).funs f ≡ Some s → AreOf B c cap (environment_of spec) P s.params xs
@@ -113,7 +116,7 @@ module _ {W N C : Type 0} (B : Algebra W N C) (laws : Laws W N C B) (c : C) (cap
       value_logged (t.get m x q) vars env ty l h ok b k =
           bind_logged U (IsIn (MapOf m)) l (value_of B c cap spec a calls env x l) _ (valued x vars env (MapOf m) l h ok.1 b.0) (value_logged x vars env (MapOf m) l h ok.1 b.0 k) (λ p l hp k.
           bind_logged U (IsIn (key_type (environment_of spec) m)) l (value_of B c cap spec a calls env q l) _ (valued q vars env (key_type (environment_of spec) m) l h ok.2 b.1)
-          (value_logged q vars env (key_type (environment_of spec) m) l h ok.2 b.1 k) (λ q l hq k. accessed_logged m p q l hp k))
+          (value_logged q vars env (key_type (environment_of spec) m) l h ok.2 b.1 k) (λ q l hq k. accessed_logged m p q l ok.0 hp hq k))
       value_logged (t.put m x q v) vars env ty l h ok b k =
           bind_logged U (IsIn (MapOf m)) l (value_of B c cap spec a calls env x l) _ (valued x vars env (MapOf m) l h ok.1 b.0) (value_logged x vars env (MapOf m) l h ok.1 b.0 k) (λ p l hp k.
           bind_logged U (IsIn (key_type (environment_of spec) m)) l (value_of B c cap spec a calls env q l) _ (valued q vars env (key_type (environment_of spec) m) l h ok.2 b.1)

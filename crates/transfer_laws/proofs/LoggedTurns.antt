@@ -34,7 +34,7 @@ use Rattle.transfer_laws.proofs.Logs.{AllLogging, IsLogged, Logging, behind_logg
 use Rattle.transfer_laws.proofs.LoggedTerms.{ReadsAre, all_valued, value_logged, values_logged, valued}
 
 module _ {W N C : Type 0} (B : Algebra W N C) (laws : Laws W N C B) (c : C) (cap : ℕ) (spec : Spec) (a : ℕ) (P : Abs W N → Type 0) (inv : Invariant B c cap (environment_of spec) a P)
-    (room : HasRoom B cap) (formed : IsWellFormed (environment_of spec)) (keys_fine : KeysAreFine (environment_of spec)) (U : Seen → Type 0) (reads : ReadsAre B c P U)
+    (room : HasRoom B cap) (formed : IsWellFormed (environment_of spec)) (keys_fine : KeysAreFine (environment_of spec)) (U : Seen → Type 0) (reads : ReadsAre B c (environment_of spec) P U)
     (calls : ℕ → List (Abs W N) → Answer (Abs W N)) (rank : ℕ → ℕ) (g : ℕ)
     (below : (f : ℕ) (s : Signature) (xs : List (Abs W N)) → rank (group_of spec f) < rank g → slice_get (environment_of spec).funs f ≡ Some s → AreOf B c cap (environment_of spec) P s.params xs
     → IsKept (Unit {0}) (IsOf B c cap (environment_of spec) P s.result_type) [] (calls f xs))
