@@ -1,0 +1,76 @@
+-- The tables of traces are printable.
+use Rattle.std.proofs.Common.{◌≡◌, ℕ, ◌<◌, ◌^◌, Bool, List, [], ◌∷◌, Option, Some, None, refl, sym, subst}
+use Rattle.std.specs.Prelude.{filter, not}
+use Rattle.base_trait.specs.Algebra.{Algebra}
+use Rattle.base_trait.specs.Laws.{Laws}
+use Rattle.base_trait.specs.Lists.{Each}
+use Rattle.base_trait.proofs.Tests.{at_choice}
+use Rattle.tsl_values.specs.States.{State}
+use Rattle.value_laws.specs.Abs.{Abs}
+use Rattle.reinterpretation.specs.Answers.{Answer}
+use Rattle.fixed_point.specs.Analysis.{Analysis}
+use Rattle.fixed_point.specs.Code.{is_code}
+use Rattle.fixed_point.specs.Elements.{Elements}
+use Rattle.fixed_point.specs.Outcome.{Outcome, moves, too_many, undecodable}
+use Rattle.fixed_point.specs.Play.{Reached, play}
+use Rattle.fixed_point.specs.Table.{IsBlockOf, Listing, Listings, TableFits, Tells}
+use Rattle.domain_laws.specs.Domain.{Meaning}
+use Rattle.domain_laws.specs.States.{state_type}
+use Rattle.transfer_laws.specs.Analysis.{analysis_of}
+use Rattle.transfer_laws.specs.Laws.{IsAnalysed}
+use Rattle.transfer_laws.specs.Problem.{Problem}
+use Rattle.transfer_laws.specs.Uses.{AreInOrder}
+use Rattle.transfer_laws.proofs.Keeping.{transfers_keep_the_laws}
+use Rattle.printable_tables.specs.Domains.{ElementsKeep}
+use Rattle.printable_tables.specs.Laws.{TablesArePrintable, has_word}
+use Rattle.printable_tables.specs.Notes.{NotesKeep}
+use Rattle.printable_tables.specs.Tables.{IsPrintable, IsUseOf}
+use Rattle.printable_tables.proofs.Plays.{AnalysisKeeps, reached_keep}
+use Rattle.printable_tables.proofs.Transfers.{IsOutcome, transfer_is}
+
+-- what holds of each item holds of those that pass a test
+each_kept : (P : ℕ → Type 0) (test : ℕ → Bool) (xs : List ℕ) → Each P xs → Each P (filter test xs)
+each_kept P test [] h = tt
+each_kept P test (x ∷ xs) h = at_choice (Each P) (test x) (x ∷ filter test xs) (filter test xs) (λ e. (h.0, each_kept P test xs h.1)) (λ e. each_kept P test xs h.1)
+
+module _ {E W S : Type 0} (A : Analysis E W S) where
+  -- a block that tells an outcome
+  told : (p : Problem) (K : E → Type 0) (b : Listing E) (given : Outcome E W) → K b.elem → IsOutcome p K given → Tells A b given → IsPrintable p.spec K b
+  told p K b (undecodable code_word) kept is tells = absurd tells
+  told p K b (too_many shown) kept is tells = absurd tells
+  told p K b (moves targets post uses) kept is tells = record {
+    elem = kept;
+    exits = subst (Each (λ to. to < 2 ^ 32)) (sym tells.1) (each_kept (λ to. to < 2 ^ 32) (λ a. not (is_code A.code a)) targets is.targets);
+    uses = subst (Each (IsUseOf p.spec)) (sym tells.2) is.uses.0;
+    order = subst (AreInOrder (state_type p.spec).fields) (sym tells.2) is.uses.1;
+  }
+
+module _ {E W N C : Type 0} (B : Algebra W N C) (laws : Laws W N C B) (cap : ℕ) (D : Elements E State) (M : Meaning E W N C) (p : Problem) (calls : ℕ → ℕ → List (Abs W N) → Answer (Abs W N)) (h : IsAnalysed B cap D M p calls)
+    (F : N → Type 0) (K : E → Type 0) (notes : NotesKeep B.notes (has_word p) F) (elements : ElementsKeep D M F K) where
+  abbrev A : Analysis E W State
+  A = analysis_of B cap D M p calls
+
+  keeps : AnalysisKeeps A K
+  keeps = record {
+    entry = elements.entry p.lines;
+    join = elements.join;
+    widen = elements.widen;
+    transfer = λ a x code fit kept. (transfer_is B laws cap D M p calls h F K notes elements a x code fit kept).post;
+  }
+
+  block_is : (trace : List ℕ) (t : Listings E) → TableFits A t → (at : ℕ) (b : Listing E) → t at ≡ Some b → (y : Option (Listing E)) (o : Option (Reached E)) → y ≡ Some b → play A trace at ≡ o → IsBlockOf A at y o
+      → IsPrintable p.spec K b
+  block_is trace t fits at b is None o e there block = absurd cc
+  block_is trace t fits at b is (Some c) None e there block = absurd block
+  block_is trace t fits at b is (Some c) (Some r) e there block =
+      let same : c ≡ b = cc in
+      let own = subst (λ (b : Listing E). D.same b.elem r.elem × Tells A b (A.transfer at b.elem)) same block in
+      let fine = fits at b is in
+      let reached = reached_keep A (transfers_keep_the_laws B laws cap D M p calls h) K keeps trace at r there in
+      let kept : K b.elem = elements.same r.elem b.elem (h.domain.elements.same_back b.elem r.elem own.0) reached.2 in
+      told A p K b (A.transfer at b.elem) kept (transfer_is B laws cap D M p calls h F K notes elements at b.elem fine.0 fine.1 kept) own.1
+
+pub tables_are_printable : {E W N C : Type 0} (B : Algebra W N C) → Laws W N C B → (cap : ℕ) (D : Elements E State) (M : Meaning E W N C) (F : (ℕ → Bool) → N → Type 0) (K : (ℕ → Bool) → E → Type 0)
+    → ((code : ℕ → Bool) → NotesKeep B.notes code (F code)) → ((code : ℕ → Bool) → ElementsKeep D M (F code) (K code)) → TablesArePrintable B cap D M K
+tables_are_printable B laws cap D M F K notes elements p calls trace t h fits table at b is =
+    block_is B laws cap D M p calls h (F (has_word p)) (K (has_word p)) (notes (has_word p)) (elements (has_word p)) trace t fits at b is (t at) (play (analysis_of B cap D M p calls) trace at) is refl (table at)

@@ -1,0 +1,54 @@
+-- What tables of analyses have, so that their texts tell them.
+use Rattle.std.specs.Prelude.{ℕ, Bool, is_some, List}
+use Rattle.base_trait.specs.Algebra.{Algebra}
+use Rattle.base_trait.specs.PairedNotes.{paired_notes}
+use Rattle.tsl_values.specs.States.{State}
+use Rattle.value_laws.specs.Abs.{Abs}
+use Rattle.reinterpretation.specs.Answers.{Answer}
+use Rattle.fixed_point.specs.Elements.{Elements}
+use Rattle.fixed_point.specs.Pairs.{paired as paired_elements}
+use Rattle.fixed_point.specs.Play.{play}
+use Rattle.fixed_point.specs.Table.{IsTableOf, Listings, TableFits}
+use Rattle.domain_laws.specs.Domain.{Meaning}
+use Rattle.domain_laws.specs.States.{StateType}
+use Rattle.cell_laws.specs.Calls.{cell_calls}
+use Rattle.cell_laws.specs.Cells.{cells}
+use Rattle.affine_calls.specs.Calls.{affine_calls, affine_elements}
+use Rattle.pair_calls.specs.Domain.{pair_meaning}
+use Rattle.transfer_laws.specs.Analysis.{analysis_of}
+use Rattle.transfer_laws.specs.Laws.{IsAnalysed}
+use Rattle.transfer_laws.specs.Problem.{Problem}
+use Rattle.printable_tables.specs.Domains.{ElementsKeep, HasNone}
+use Rattle.printable_tables.specs.Notes.{BothNotes, NotesKeep, TellsNothing}
+use Rattle.printable_tables.specs.Tables.{IsPrintableTable}
+use Rattle.printable_tables.specs.Values.{PartsHaveNotes}
+
+-- whether an address is that of a code word of the problem
+abbrev pub has_word : Problem → ℕ → Bool
+has_word p a = is_some (p.word_at a)
+
+module _ {E W N C : Type 0} (B : Algebra W N C) (cap : ℕ) (D : Elements E State) (M : Meaning E W N C) (K : (ℕ → Bool) → E → Type 0) where
+  -- The table of a trace is printable, by what elements keep where these are the code addresses.
+  abbrev pub TablesArePrintable : Type 0
+  TablesArePrintable =
+      (p : Problem) (calls : ℕ → ℕ → List (Abs W N) → Answer (Abs W N)) (trace : List ℕ) (t : Listings E) → IsAnalysed B cap D M p calls
+      → TableFits (analysis_of B cap D M p calls) t → IsTableOf (analysis_of B cap D M p calls) t (play (analysis_of B cap D M p calls) trace)
+      → IsPrintableTable p.spec (K (has_word p)) t
+
+-- ---- what elements keep
+-- those of cells, that their notes have a property
+abbrev pub CellsKeep : {W N C : Type 0} → Algebra W N C → ((ℕ → Bool) → N → Type 0) → Type 0
+CellsKeep {C = C} B F = (code : ℕ → Bool) (c : C) (cap : ℕ) (t : StateType) → ElementsKeep (cells B c cap t.fields) (cell_calls B c cap t) (F code) (PartsHaveNotes (F code))
+
+-- those of affine relations have no notes
+abbrev pub RelationsKeep : Type 0
+RelationsKeep = (code : ℕ → Bool) (t : StateType) → ElementsKeep (affine_elements t) (affine_calls t) (TellsNothing code) HasNone
+
+-- pairs, what both parts keep
+module _ {E L V W M N C D : Type 0} (A : Algebra V M C) (B : Algebra W N D) (P : Elements E State) (Q : Elements L State) (first : Meaning E V M C) (second : Meaning L W N D)
+    (F : (ℕ → Bool) → M → Type 0) (G : (ℕ → Bool) → N → Type 0) (J : (ℕ → Bool) → E → Type 0) (K : (ℕ → Bool) → L → Type 0) where
+  abbrev pub PairsKeep : Type 0
+  PairsKeep =
+      (code : ℕ → Bool) (cap : ℕ)
+      → NotesKeep (paired_notes A.notes B.notes) code (BothNotes (F code) (G code))
+      × ElementsKeep (paired_elements P Q) (pair_meaning A B cap first second) (BothNotes (F code) (G code)) (λ x. J code x.0 × K code x.1)

@@ -1,0 +1,5 @@
+pub mod Domains
+pub mod Laws
+pub mod Notes
+pub mod Tables
+pub mod Values
