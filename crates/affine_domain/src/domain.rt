@@ -15,7 +15,7 @@ use spec_types::Spec;
 use state_domain::{fields_of, state_number};
 use std::alloc::{AllocError as NoMemory, Global};
 use std::marker::Model;
-use tsl_values::Entry;
+use tsl_values::{Entry, KeyAt};
 
 /// The domain whose element is a submodule of the vectors of 1 and the numbers of the tracked cells. Contracts see it as the
 /// type of its states.
@@ -46,6 +46,7 @@ impl AffineDomain {
     ghost use Rattle.spec_types.specs.Views.{specification};
     ghost use Rattle.domain_laws.specs.States.{has_states, state_type};
     ghost use Rattle.affine_calls.specs.Calls.{is_for};
+    ghost use Rattle.affine_calls.specs.Tracked.{tracked_cells};
 
     /// The domain for the states of a specification: a datatype of one constructor, whose first field is the counter of 32 bits,
     /// and whose others are words and maps.
@@ -62,6 +63,13 @@ impl AffineDomain {
             fields,
             tracked,
         })
+    }
+
+    /// The tracked cells, in their order.
+    pub fn tracked_cells(&self) -> &[(u32, KeyAt)]
+        ensures { result.now ≡ tracked_cells self.now }
+    {
+        &self.tracked.cells
     }
 }
 

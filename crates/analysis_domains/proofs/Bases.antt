@@ -1,5 +1,5 @@
 -- The sixteen bases.
-use Rattle.std.proofs.Common.{◌≡◌, ℕ, true, IsTrue, inl, inr, refl}
+use Rattle.std.proofs.Common.{◌≡◌, ◌⊎◌, ℕ, true, IsTrue, inl, inr, refl}
 use Rattle.std.specs.Prelude.{codes, if◌then◌else◌, ◌==◌}
 use Rattle.kset_base.specs.Meaning.{kset}
 use Rattle.kset_base.specs.Instance.{kset_laws}
@@ -13,89 +13,99 @@ use Rattle.command_words.specs.declared.bases.BaseName.{BaseName}
 use Rattle.command_words.specs.declared.bases.BaseName.TheVariants as b
 use Rattle.command_words.specs.Bases.{base_text}
 use Rattle.insn_decode.specs.Image.{Image}
+use Rattle.spec_types.specs.Specification.{Spec}
 use Rattle.domain_laws.specs.States.{StateType, has_states, state_type}
 use Rattle.transfer_laws.specs.Problem.{IsWellPosed, Problem}
 use Rattle.pair_calls.specs.Domain.{may_pair}
 use Rattle.accepted_states.proofs.States.{accepted_have_states}
+use Rattle.base_text.specs.Readings.{bits_readings, defuse_readings, interval_readings, set_readings}
 use Rattle.base_text.specs.Texts.{bits_texts, defuse_texts, interval_texts, set_texts}
 use Rattle.run_steps.specs.Outcome.{Outcome}
-use Rattle.analysis_domains.specs.Analyses.{ComesTo}
 use Rattle.analysis_domains.specs.Domains.{DomainOf, definitions, intervals, known_bits, pair_of, relations, sets}
 use Rattle.analysis_domains.specs.Laws.{AnalysesAreOne, AnalysesHaveSome, AreOne}
-use Rattle.analysis_domains.specs.Named.{Analysed, has_relations}
+use Rattle.analysis_domains.specs.Named.{Analysed, AnyDomain, domain_of, has_relations}
 use Rattle.analysis_domains.proofs.Lawful.{IsLawful, IsPlain, cells_are_plain, pairs_are_lawful, pairs_are_plain, relations_are_lawful}
+use Rattle.analysis_domains.proofs.Read.{bits_are_read, definitions_are_read, intervals_are_read, sets_are_read}
 use Rattle.analysis_domains.proofs.Outcomes.{has_outcome, outcomes_are_alike, outcomes_are_one}
 
--- The outcomes of an analysis over a base: there is one, and two are one, up to the choice of rows.
-record HasOutcome (base : BaseName) (Comes : Outcome → Type 0) : Type 0 where
-  pub some : (found : Outcome) × Comes found
-  pub one : (found other : Outcome) → Comes found → Comes other → AreOne base found other
+-- The domain of a base is plain, or it has relations and is lawful.
+abbrev pub IsKnown : {E W N C : Type 0} → BaseName → DomainOf E W N C → Spec → Type 0
+IsKnown base domain spec = IsPlain domain spec ⊎ (IsTrue (has_relations base) × IsLawful domain spec)
 
-module _ (image : Image) (p : Problem) (posed : IsWellPosed p) where
-  has : has_states p.spec ≡ true
-  has = accepted_have_states p.spec p.machine posed.accepted posed.machine
+module _ {E W N C : Type 0} (base : BaseName) (domain : DomainOf E W N C) (spec : Spec) where
+  pub known_is_lawful : IsKnown base domain spec → IsLawful domain spec
+  known_is_lawful (inl plain) = plain.lawful
+  known_is_lawful (inr related) = related.1
 
-  -- ---- any domain
-  plain : (base : BaseName) {E W N C : Type 0} (domain : DomainOf E W N C) → IsPlain domain p.spec → HasOutcome base (ComesTo domain p image (base_text base))
-  plain base domain is = record {
-    some = has_outcome domain p is.lawful posed image (base_text base);
-    one = λ found other h k. inl (outcomes_are_one domain p is.lawful posed image (base_text base) is.exact found other h k);
-  }
-
-  related : (base : BaseName) {E W N C : Type 0} (domain : DomainOf E W N C) → IsTrue (has_relations base) → IsLawful domain p.spec → HasOutcome base (ComesTo domain p image (base_text base))
-  related base domain has_some lawful = record {
-    some = has_outcome domain p lawful posed image (base_text base);
-    one = outcomes_are_alike domain p image (base_text base) (AreOne base) (λ bytes other h k. inr (has_some, tt)) (λ refusal. inl refl);
-  }
+module _ (spec : Spec) (has : has_states spec ≡ true) where
+  abbrev t : StateType
+  t = state_type spec
 
   -- ---- those of cells
-  abbrev t : StateType
-  t = state_type p.spec
+  of_sets : (K : ℕ) → IsPlain (sets t K) spec
+  of_sets K = cells_are_plain spec has (kset K) tt (if K == 1 then codes "const" else codes "kset") set_texts (set_readings K) (kset_laws K) refl refl (sets_are_read spec has K (if K == 1 then codes "const" else codes "kset"))
 
-  of_sets : (K : ℕ) → IsPlain (sets t K) p.spec
-  of_sets K = cells_are_plain p.spec has (kset K) tt (if K == 1 then codes "const" else codes "kset") set_texts (kset_laws K) refl refl
+  of_intervals : IsPlain (intervals t) spec
+  of_intervals = cells_are_plain spec has interval tt (codes "interval") interval_texts interval_readings interval_laws refl refl (intervals_are_read spec has (codes "interval"))
 
-  of_intervals : IsPlain (intervals t) p.spec
-  of_intervals = cells_are_plain p.spec has interval tt (codes "interval") interval_texts interval_laws refl refl
+  of_bits : IsPlain (known_bits t) spec
+  of_bits = cells_are_plain spec has bits tt (codes "bits") bits_texts bits_readings bits_laws refl refl (bits_are_read spec has (codes "bits"))
 
-  of_bits : IsPlain (known_bits t) p.spec
-  of_bits = cells_are_plain p.spec has bits tt (codes "bits") bits_texts bits_laws refl refl
+  of_definitions : IsPlain (definitions t) spec
+  of_definitions = cells_are_plain spec has defuse tt (codes "defuse") defuse_texts defuse_readings defuse_laws refl refl (definitions_are_read spec has (codes "defuse"))
 
-  of_definitions : IsPlain (definitions t) p.spec
-  of_definitions = cells_are_plain p.spec has defuse tt (codes "defuse") defuse_texts defuse_laws refl refl
+  of_relations : IsLawful (relations t) spec
+  of_relations = relations_are_lawful spec has
 
-  of_relations : IsLawful (relations t) p.spec
-  of_relations = relations_are_lawful p.spec has
+  -- ---- pairs
+  plain_pair : (base : BaseName) {E F V W M N C D : Type 0} (first : DomainOf E V M C) (second : DomainOf F W N D) → IsPlain first spec → IsPlain second spec
+      → IsTrue (may_pair first.base second.base) → IsKnown base (pair_of first second) spec
+  plain_pair base first second left right may = inl (pairs_are_plain first second spec left right may)
+
+  related_pair : (base : BaseName) {E F V W M N C D : Type 0} (first : DomainOf E V M C) (second : DomainOf F W N D) → IsTrue (has_relations base)
+      → IsLawful first spec → IsLawful second spec → IsTrue (may_pair first.base second.base) → IsKnown base (pair_of first second) spec
+  related_pair base first second has_some left right may = inr (has_some, pairs_are_lawful first second spec left right may)
 
   -- ---- each base
-  pair_plain : (base : BaseName) {E F V W M N C D : Type 0} (first : DomainOf E V M C) (second : DomainOf F W N D) → IsPlain first p.spec → IsPlain second p.spec
-      → IsTrue (may_pair first.base second.base) → HasOutcome base (ComesTo (pair_of first second) p image (base_text base))
-  pair_plain base first second left right may = plain base (pair_of first second) (pairs_are_plain first second p.spec left right may)
+  pub all_known : (base : BaseName) → IsKnown base (domain_of t base).domain spec
+  all_known b.Const = inl (of_sets 1)
+  all_known b.KSet = inl (of_sets 16)
+  all_known b.Interval = inl of_intervals
+  all_known b.Affine = inr (refl, of_relations)
+  all_known b.DefUse = inl of_definitions
+  all_known b.ConstInterval = plain_pair b.ConstInterval (sets t 1) (intervals t) (of_sets 1) of_intervals refl
+  all_known b.KSetInterval = plain_pair b.KSetInterval (sets t 16) (intervals t) (of_sets 16) of_intervals refl
+  all_known b.KSetAffine = related_pair b.KSetAffine (sets t 16) (relations t) refl (of_sets 16).lawful of_relations refl
+  all_known b.KSetDefUse = plain_pair b.KSetDefUse (sets t 16) (definitions t) (of_sets 16) of_definitions refl
+  all_known b.IntervalAffine = related_pair b.IntervalAffine (intervals t) (relations t) refl of_intervals.lawful of_relations refl
+  all_known b.IntervalDefUse = plain_pair b.IntervalDefUse (intervals t) (definitions t) of_intervals of_definitions refl
+  all_known b.AffineDefUse = related_pair b.AffineDefUse (relations t) (definitions t) refl of_relations of_definitions.lawful refl
+  all_known b.Bits = inl of_bits
+  all_known b.KSetBits = plain_pair b.KSetBits (sets t 16) (known_bits t) (of_sets 16) of_bits refl
+  all_known b.IntervalBits = plain_pair b.IntervalBits (intervals t) (known_bits t) of_intervals of_bits refl
+  all_known b.BitsDefUse = plain_pair b.BitsDefUse (known_bits t) (definitions t) of_bits of_definitions refl
 
-  pair_related : (base : BaseName) {E F V W M N C D : Type 0} (first : DomainOf E V M C) (second : DomainOf F W N D) → IsTrue (has_relations base)
-      → IsLawful first p.spec → IsLawful second p.spec → IsTrue (may_pair first.base second.base) → HasOutcome base (ComesTo (pair_of first second) p image (base_text base))
-  pair_related base first second has_some left right may = related base (pair_of first second) has_some (pairs_are_lawful first second p.spec left right may)
+-- ---- analyses
 
-  has_one : (base : BaseName) → HasOutcome base (Analysed image p base)
-  has_one b.Const = plain b.Const (sets t 1) (of_sets 1)
-  has_one b.KSet = plain b.KSet (sets t 16) (of_sets 16)
-  has_one b.Interval = plain b.Interval (intervals t) of_intervals
-  has_one b.Affine = related b.Affine (relations t) refl of_relations
-  has_one b.DefUse = plain b.DefUse (definitions t) of_definitions
-  has_one b.ConstInterval = pair_plain b.ConstInterval (sets t 1) (intervals t) (of_sets 1) of_intervals refl
-  has_one b.KSetInterval = pair_plain b.KSetInterval (sets t 16) (intervals t) (of_sets 16) of_intervals refl
-  has_one b.KSetAffine = pair_related b.KSetAffine (sets t 16) (relations t) refl (of_sets 16).lawful of_relations refl
-  has_one b.KSetDefUse = pair_plain b.KSetDefUse (sets t 16) (definitions t) (of_sets 16) of_definitions refl
-  has_one b.IntervalAffine = pair_related b.IntervalAffine (intervals t) (relations t) refl of_intervals.lawful of_relations refl
-  has_one b.IntervalDefUse = pair_plain b.IntervalDefUse (intervals t) (definitions t) of_intervals of_definitions refl
-  has_one b.AffineDefUse = pair_related b.AffineDefUse (relations t) (definitions t) refl of_relations of_definitions.lawful refl
-  has_one b.Bits = plain b.Bits (known_bits t) of_bits
-  has_one b.KSetBits = pair_plain b.KSetBits (sets t 16) (known_bits t) (of_sets 16) of_bits refl
-  has_one b.IntervalBits = pair_plain b.IntervalBits (intervals t) (known_bits t) of_intervals of_bits refl
-  has_one b.BitsDefUse = pair_plain b.BitsDefUse (known_bits t) (definitions t) of_bits of_definitions refl
+module _ (image : Image) (p : Problem) (base : BaseName) (posed : IsWellPosed p) where
+  pub posed_have_states : has_states p.spec ≡ true
+  posed_have_states = accepted_have_states p.spec p.machine posed.accepted posed.machine
+
+  abbrev any_domain : AnyDomain
+  any_domain = domain_of (state_type p.spec) base
+
+  pub known : IsKnown base any_domain.domain p.spec
+  known = all_known p.spec posed_have_states base
+
+  are_one : (found other : Outcome) → IsKnown base any_domain.domain p.spec → Analysed image p base found → Analysed image p base other → AreOne base found other
+  are_one found other (inl plain) h k = inl (outcomes_are_one any_domain.domain p plain.lawful posed image (base_text base) plain.exact found other h k)
+  are_one found other (inr related) h k =
+      outcomes_are_alike any_domain.domain p image (base_text base) (AreOne base) (λ bytes other h k. inr (related.0, tt)) (λ refusal. inl refl) found other h k
 
 pub analyses_are_one : AnalysesAreOne
-analyses_are_one image p base found other posed h k = (has_one image p posed base).one found other h k
+analyses_are_one image p base found other posed h k = are_one image p base posed found other (known image p base posed) h k
 
 pub analyses_have_some : AnalysesHaveSome
-analyses_have_some image p base posed = (has_one image p posed base).some
+analyses_have_some image p base posed =
+    let any = domain_of (state_type p.spec) base in
+    has_outcome any.domain p (known_is_lawful base any.domain p.spec (known image p base posed)) posed image (base_text base)

@@ -9,27 +9,36 @@ use Rattle.affine_base.specs.Instance.{affine_laws}
 use Rattle.spec_types.specs.Specification.{Spec}
 use Rattle.domain_laws.specs.Domain.{DomainLaws}
 use Rattle.domain_laws.specs.States.{has_states, state_type}
+use Rattle.cell_laws.specs.Cells.{cells}
 use Rattle.cell_laws.proofs.Domain.{cells_keep_the_laws}
 use Rattle.cell_laws.proofs.Fields.{made_for}
 use Rattle.affine_calls.proofs.Domain.{of_states}
 use Rattle.pair_calls.specs.Domain.{may_pair}
 use Rattle.pair_calls.proofs.Domain.{pairs_are_domains}
 use Rattle.cell_text.specs.Places.{state_fields}
+use Rattle.base_text.specs.Readings.{Readings}
 use Rattle.base_text.specs.Texts.{Texts}
 use Rattle.element_text.specs.Cells.{cell_lines}
 use Rattle.element_text.specs.Parts.{part_line}
 use Rattle.element_text.specs.Rows.{row_lines}
+use Rattle.element_readers.specs.Reading.{CellsRead}
+use Rattle.element_readers.specs.Laws.{ReadingLaws}
 use Rattle.analysis_domains.specs.Domains.{DomainOf, cells_of, pair_of, relations}
+use Rattle.analysis_domains.proofs.Read.{pairs_are_read, relations_are_read}
 use Rattle.analysis_domains.proofs.Rows.{have_kept}
+use Rattle.analysis_domains.proofs.Telling.{Tells, cells_tell_so, pairs_tell_so, relations_tell_so}
 use Rattle.analysis_domains.proofs.Texts.{EachHasText, HaveOneText}
 
--- The base keeps its laws and joins, and lists at most 256 cells; the domain is one for the specification; and each element has a text.
+-- The base keeps its laws and joins, and lists at most 256 cells; the domain is one for the specification; each element has a text; and what is
+-- read of lines is one element, which fits. What elements tell of claims is true, and the same of elements that are the same.
 pub record IsLawful {E W N C : Type 0} (domain : DomainOf E W N C) (spec : Spec) : Type 0 where
   pub laws : Laws W N C domain.base
   pub joins : IsTrue domain.base.joins
   pub few : domain.cap ≡ 256
   pub keeps : DomainLaws domain.base domain.cap spec domain.elements domain.meaning
   pub written : EachHasText (domain.IsText spec)
+  pub reads : ReadingLaws domain.Reads domain.elements spec
+  pub tells : Tells (state_type spec).fields domain.elements domain.telling
 
 -- Elements that are the same have one text.
 abbrev pub IsExact : {E W N C : Type 0} → DomainOf E W N C → Spec → Type 0
@@ -42,15 +51,17 @@ pub record IsPlain {E W N C : Type 0} (domain : DomainOf E W N C) (spec : Spec) 
 
 module _ (spec : Spec) (has : has_states spec ≡ true) where
   -- ---- cells
-  pub cells_are_plain : {W N C : Type 0} (base : Algebra W N C) (c : C) (name : List ℕ) (texts : Texts W N) → Laws W N C base → IsTrue base.joins → base.words.looks ≡ false
-      → IsPlain (cells_of (state_type spec) base c 256 name texts) spec
-  cells_are_plain base c name texts laws joins unseen = record {
+  pub cells_are_plain : {W N C : Type 0} (base : Algebra W N C) (c : C) (name : List ℕ) (texts : Texts W N) (readings : Readings W N) → Laws W N C base → IsTrue base.joins → base.words.looks ≡ false
+      → ReadingLaws (CellsRead readings 256 name) (cells base c 256 (state_type spec).fields) spec → IsPlain (cells_of (state_type spec) base c 256 name texts readings) spec
+  cells_are_plain base c name texts readings laws joins unseen reads = record {
     lawful = record {
       laws = laws;
       joins = joins;
       few = refl;
       keeps = cells_keep_the_laws base laws c 256 (state_type spec) spec (made_for base (state_type spec) spec joins unseen has refl);
       written = λ x. (part_line name ++ cell_lines texts spec (state_fields spec) x, refl);
+      reads = reads;
+      tells = cells_tell_so base laws c 256 (state_type spec).fields;
     };
     exact = λ x y text other same h k. h ∙ ap (λ z. part_line name ++ cell_lines texts spec (state_fields spec) z) same ∙ sym k;
   }
@@ -66,6 +77,8 @@ module _ (spec : Spec) (has : has_states spec ≡ true) where
         let found = have_kept x.k x.rows in
         let lines = row_lines found.0 in
         (part_line (codes "affine") ++ lines, record { lines = lines; rows = record { rows = found.0; generate = found.1.generate; add = found.1.add; lines = refl }; part = refl });
+    reads = relations_are_read spec has;
+    tells = relations_tell_so (state_type spec);
   }
 
 -- ---- two side by side
@@ -83,6 +96,8 @@ module _ {E F V W M N C D : Type 0} (first : DomainOf E V M C) (second : DomainO
             let one = left.written x.0 in
             let other = right.written x.1 in
             (one.0 ++ other.0, record { left = one.0; right = other.0; first = one.1; second = other.1; both = refl });
+        reads = pairs_are_read first.Reads second.Reads first.elements second.elements spec left.reads right.reads;
+        tells = pairs_tell_so (state_type spec).fields first.elements second.elements first.telling second.telling left.tells right.tells;
       }
 
   pub pairs_are_plain : IsPlain first spec → IsPlain second spec → IsTrue (may_pair first.base second.base) → IsPlain (pair_of first second) spec

@@ -1,7 +1,15 @@
 pub mod Bases
+pub mod Claims
+pub mod Closed
 pub mod Lawful
 pub mod Outcomes
 pub mod Plays
+pub mod Read
+pub mod Readings
 pub mod Ready
 pub mod Rows
+pub mod Slices
+pub mod Sums
+pub mod Telling
 pub mod Texts
+pub mod Verdicts

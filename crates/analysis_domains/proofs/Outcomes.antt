@@ -6,17 +6,18 @@ use Rattle.fixed_point.specs.Play.{IsFull, IsLegal, IsStopped, play}
 use Rattle.fixed_point.specs.Table.{IsTableOf}
 use Rattle.fixed_point.proofs.Ending.{legal_traces_end}
 use Rattle.fixed_point.proofs.One.{legal_traces_are_one}
+use Rattle.fixed_point.proofs.Potential.{legal_traces_are_short}
 use Rattle.fixed_point.proofs.Tables.{full_traces_close, tables_are_one}
 use Rattle.worklist.specs.Answers.{IsStopOf}
 use Rattle.transfer_laws.specs.Problem.{IsWellPosed, Problem}
 use Rattle.run_steps.specs.Outcome as o
 use Rattle.run_steps.specs.Outcome.{Outcome, Refusal, text}
-use Rattle.analysis_domains.specs.Analyses.{ComesTo, IsStop, IsTable, analysis}
+use Rattle.analysis_domains.specs.Analyses.{ComesTo, IsShort, IsStop, IsTable, analysis}
 use Rattle.analysis_domains.specs.Domains.{DomainOf}
 use Rattle.analysis_domains.proofs.Lawful.{IsExact, IsLawful}
 use Rattle.analysis_domains.proofs.Plays.{is_table, no_stop, one_stop, table_fits, table_of}
 use Rattle.analysis_domains.proofs.Ready.{closed_is_true, keeps_the_laws}
-use Rattle.analysis_domains.proofs.Texts.{has_text, one_text}
+use Rattle.analysis_domains.proofs.Texts.{has_text, one_text, same_are_alike}
 
 module _ {E W N C : Type 0} (domain : DomainOf E W N C) (p : Problem) where
   -- ---- what an outcome is
@@ -42,8 +43,11 @@ module _ {E W N C : Type 0} (domain : DomainOf E W N C) (p : Problem) where
   stop_at (o.code_refused fault) h = absurd h
   stop_at (o.entry_refused fault) h = absurd h
   stop_at o.calls_spent h = absurd h
-  stop_at (o.undecodable_at at word) h = record { trace = h.0; at = at; given = f.undecodable word; stop = h.1; is = refl }
-  stop_at (o.too_many_targets at shown) h = record { trace = h.0; at = at; given = f.too_many h.1; stop = h.2; is = ap (o.too_many_targets at) h.3 }
+  stop_at (o.undecodable_at at word) h = record { trace = h.0; at = at; given = f.undecodable word; stop = h.2; is = refl }
+  stop_at (o.table_refused fault) h = absurd h
+  stop_at (o.claims_refused fault) h = absurd h
+  stop_at (o.rejected rejection) h = absurd h
+  stop_at (o.too_many_targets at shown) h = record { trace = h.0; at = at; given = f.too_many h.1; stop = h.3; is = ap (o.too_many_targets at) h.4 }
 
   module _ (image : Image) (base : List ℕ) where
     -- It is a text of the table, or the refusal of a stop.
@@ -92,7 +96,7 @@ module _ {E W N C : Type 0} (domain : DomainOf E W N C) (p : Problem) where
         let same : h.trace ≡ k.trace = legal_traces_are_one A h.trace k.trace h.legal (inl h.full) k.legal (inl k.full) in
         let tables = tables_are_one A (keeps_the_laws domain p lawful posed) k.trace h.table k.table h.fits k.fits
         (subst (λ trace. IsTableOf A h.table (play A trace)) same h.is_table) k.is_table in
-        one_text A (domain.IsText p.spec) p.spec exact image base h.table k.table bytes other tables h.text k.text
+        one_text domain.elements (domain.IsText p.spec) p.spec exact image base h.table k.table bytes other (same_are_alike A domain.elements (λ x y same. same) h.table k.table tables) h.text k.text
 
     -- In a domain whose elements have one text there is one outcome.
     pub outcomes_are_one : IsExact domain p.spec → (found other : Outcome) → ComesTo domain p image base found → ComesTo domain p image base other → found ≡ other
@@ -100,6 +104,9 @@ module _ {E W N C : Type 0} (domain : DomainOf E W N C) (p : Problem) where
         outcomes_are_alike image base (λ x y. x ≡ y) (λ x y h k. ap (λ bytes. Ok (text bytes)) (tables_have_one_text exact x y h k)) (λ refusal. refl)
 
     -- ---- there is one
+    is_short : (trace : List ℕ) → IsLegal (analysis domain p) trace → IsShort domain p trace
+    is_short trace legal = legal_traces_are_short (analysis domain p) (keeps_the_laws domain p lawful posed) trace legal
+
     full_table : (trace : List ℕ) → IsLegal (analysis domain p) trace → IsFull (play (analysis domain p) trace) → (bytes : List ℕ) × IsTable domain p image base bytes
     full_table trace legal full =
         let A = analysis domain p in
@@ -114,6 +121,7 @@ module _ {E W N C : Type 0} (domain : DomainOf E W N C) (p : Problem) where
             table = table;
             legal = legal;
             full = full;
+            few = is_short trace legal;
             is_table = is;
             fits = fits;
             is_true = closed_is_true domain p lawful posed table fits (full_traces_close A laws trace table legal full fits is);
@@ -123,8 +131,8 @@ module _ {E W N C : Type 0} (domain : DomainOf E W N C) (p : Problem) where
 
     stopped : (trace : List ℕ) (at : ℕ) (given : f.Outcome E W) → IsLegal (analysis domain p) trace → IsStopped (analysis domain p) (play (analysis domain p) trace) at given
         → (found : Outcome) × ComesTo domain p image base found
-    stopped trace at (f.undecodable word) legal stop = (Err (o.undecodable_at at word), (trace, (legal, stop)))
-    stopped trace at (f.too_many x) legal stop = (Err (o.too_many_targets at (domain.word_text 32 x)), (trace, x, (legal, stop), refl))
+    stopped trace at (f.undecodable word) legal stop = (Err (o.undecodable_at at word), (trace, is_short trace legal, (legal, stop)))
+    stopped trace at (f.too_many x) legal stop = (Err (o.too_many_targets at (domain.word_text 32 x)), (trace, x, is_short trace legal, (legal, stop), refl))
     stopped trace at (f.moves targets post uses) legal stop = absurd (stop.0 tt)
 
     pub has_outcome : (found : Outcome) × ComesTo domain p image base found

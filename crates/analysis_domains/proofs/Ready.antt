@@ -20,7 +20,7 @@ module _ {E W N C : Type 0} (domain : DomainOf E W N C) (p : Problem) (lawful : 
   abbrev calls : ℕ → ℕ → List (Abs W N) → Answer (Abs W N)
   calls = calls_of domain.base domain.cap domain.meaning p
 
-  is_analysed : IsAnalysed domain.base domain.cap domain.elements domain.meaning p calls
+  pub is_analysed : IsAnalysed domain.base domain.cap domain.elements domain.meaning p calls
   is_analysed = record {
     joins = lawful.joins;
     posed = posed;

@@ -3,10 +3,12 @@ use Rattle.std.proofs.Common.{◌≡◌, ◌∙◌, ℕ, List, [], ◌∷◌, �
 use Rattle.spec_types.specs.Specification.{Spec}
 use Rattle.insn_decode.specs.Image.{Image, addresses}
 use Rattle.fixed_point.specs.Analysis.{Analysis}
+use Rattle.fixed_point.specs.Elements.{Elements}
 use Rattle.fixed_point.specs.Table.{AreSameBlocks, AreSameTables, Listing, Listings}
 use Rattle.table_text.specs.Blocks.{at_line, end_lines}
 use Rattle.table_text.specs.Heads.{head}
 use Rattle.table_text.specs.Tables.{AreBlocks, IsAt, IsTableText, none, onto}
+use Rattle.table_readings.specs.Readings.{AreAlike, AreAlikeAt}
 
 -- Each element has a text.
 abbrev pub EachHasText : {E : Type 0} → (E → List ℕ → Type 0) → Type 0
@@ -37,8 +39,8 @@ module _ {E : Type 0} (IsElement : E → List ℕ → Type 0) (spec : Spec) (has
 abbrev pub HaveOneText : {E : Type 0} → (E → List ℕ → Type 0) → (E → E → Type 0) → Type 0
 HaveOneText {E} IsElement Same = (x y : E) (text other : List ℕ) → Same x y → IsElement x text → IsElement y other → text ≡ other
 
-module _ {E W S : Type 0} (A : Analysis E W S) (IsElement : E → List ℕ → Type 0) (spec : Spec) (one : HaveOneText IsElement A.elements.same) where
-  one_block : (at : ℕ) (x y : Option (Listing E)) (text other : List ℕ) → AreSameBlocks A x y → IsAt IsElement spec at x text → IsAt IsElement spec at y other → text ≡ other
+module _ {E S : Type 0} (D : Elements E S) (IsElement : E → List ℕ → Type 0) (spec : Spec) (one : HaveOneText IsElement D.same) where
+  one_block : (at : ℕ) (x y : Option (Listing E)) (text other : List ℕ) → AreAlikeAt D x y → IsAt IsElement spec at x text → IsAt IsElement spec at y other → text ≡ other
   one_block at None None text other same h k = h ∙ sym k
   one_block at None (Some c) text other same h k = absurd same
   one_block at (Some b) None text other same h k = absurd same
@@ -51,14 +53,37 @@ module _ {E W S : Type 0} (A : Analysis E W S) (IsElement : E → List ℕ → T
       let right = k.lines in
       cc
 
-  one_blocks : (t u : Listings E) (addresses text other : List ℕ) → AreSameTables A t u → AreBlocks IsElement spec t addresses text → AreBlocks IsElement spec u addresses other → text ≡ other
+  one_blocks : (t u : Listings E) (addresses text other : List ℕ) → AreAlike D t u → AreBlocks IsElement spec t addresses text → AreBlocks IsElement spec u addresses other → text ≡ other
   one_blocks t u [] text other same none none = refl
   one_blocks t u (at ∷ addresses) text other same (onto first rest h hs) (onto second more k ks) =
       let here = one_block at (t at) (u at) first second (same at) h k in
       let there = one_blocks t u addresses rest more same hs ks in
       cc
 
-  pub one_text : (image : Image) (base : List ℕ) (t u : Listings E) (text other : List ℕ) → AreSameTables A t u
+  pub one_text : (image : Image) (base : List ℕ) (t u : Listings E) (text other : List ℕ) → AreAlike D t u
       → IsTableText IsElement spec image base t text → IsTableText IsElement spec image base u other → text ≡ other
   one_text image base t u text other same h k =
       h.lines ∙ ap (λ (blocks : List ℕ). head base image ++ blocks) (one_blocks t u (addresses image.segments) h.blocks k.blocks same h.are_blocks k.are_blocks) ∙ sym k.lines
+
+-- ---- tables that are the same
+-- Where elements of an analysis are the same just as those of a domain are.
+module _ {E W S T : Type 0} (A : Analysis E W S) (D : Elements E T) where
+  module _ (to : (x y : E) → A.elements.same x y → D.same x y) where
+    alike_at : (x y : Option (Listing E)) → AreSameBlocks A x y → AreAlikeAt D x y
+    alike_at None None same = tt
+    alike_at None (Some c) same = absurd same
+    alike_at (Some b) None same = absurd same
+    alike_at (Some b) (Some c) same = record { elem = to b.elem c.elem same.elem; next = same.next; exits = same.exits; uses = same.uses }
+
+    pub same_are_alike : (t u : Listings E) → AreSameTables A t u → AreAlike D t u
+    same_are_alike t u same at = alike_at (t at) (u at) (same at)
+
+  module _ (from : (x y : E) → D.same x y → A.elements.same x y) where
+    same_at : (x y : Option (Listing E)) → AreAlikeAt D x y → AreSameBlocks A x y
+    same_at None None alike = tt
+    same_at None (Some c) alike = absurd alike
+    same_at (Some b) None alike = absurd alike
+    same_at (Some b) (Some c) alike = record { elem = from b.elem c.elem alike.elem; next = alike.next; exits = alike.exits; uses = alike.uses }
+
+    pub alike_are_same : (t u : Listings E) → AreAlike D t u → AreSameTables A t u
+    alike_are_same t u alike at = same_at (t at) (u at) (alike at)

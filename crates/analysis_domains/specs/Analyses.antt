@@ -1,8 +1,8 @@
 -- What the analysis of a problem comes to, in a domain.
-use Rattle.std.specs.Prelude.{◌≡◌, ℕ, List, Ok, Err}
+use Rattle.std.specs.Prelude.{◌≡◌, ◌≤◌, ℕ, ◌+◌, ◌*◌, List, Ok, Err, length}
 use Rattle.tsl_values.specs.States.{State}
 use Rattle.insn_decode.specs.Image.{Image}
-use Rattle.fixed_point.specs.Analysis.{Analysis}
+use Rattle.fixed_point.specs.Analysis.{Analysis, height_of}
 use Rattle.fixed_point.specs.Outcome.{too_many, undecodable}
 use Rattle.fixed_point.specs.Play.{IsFull, IsLegal, play}
 use Rattle.fixed_point.specs.Table.{IsTableOf, Listings, TableFits}
@@ -21,6 +21,10 @@ module _ {E W N C : Type 0} (domain : DomainOf E W N C) (p : Problem) where
   abbrev pub analysis : Analysis E W State
   analysis = analysis_of domain.base domain.cap domain.elements domain.meaning p (calls_of domain.base domain.cap domain.meaning p)
 
+  -- The trace is short: of N code words and elements of the height H it has at most N(H + 4) transfers.
+  abbrev pub IsShort : List ℕ → Type 0
+  IsShort trace = length trace ≤ length p.addresses * (height_of analysis + 4)
+
   -- The text is that of the table of the analysis: of the one trace that is legal and leaves nothing pending. The table is true of the runs of
   -- the machine from every state that the entry describes: the element at each address describes every state that the meaning puts
   -- there, and where the base tells stamps each use list holds every definition that a read sees. That it is true follows from the rest, where
@@ -30,15 +34,16 @@ module _ {E W N C : Type 0} (domain : DomainOf E W N C) (p : Problem) where
     pub table : Listings E
     pub legal : IsLegal analysis trace
     pub full : IsFull (play analysis trace)
+    pub few : IsShort trace
     pub is_table : IsTableOf analysis table (play analysis trace)
     pub fits : TableFits analysis table
     pub is_true : IsTrueOfRuns domain.base domain.elements p table
     pub text : IsTableText (domain.IsText p.spec) p.spec image base table bytes
 
-  -- After a legal trace the least pending address has no decoding, or its new counter may be too many addresses.
+  -- After a legal trace, which is short, the least pending address has no decoding, or its new counter may be too many addresses.
   abbrev pub IsStop : Refusal → Type 0
-  IsStop (undecodable_at at word) = (trace : List ℕ) × IsStopOf analysis trace at (undecodable word)
-  IsStop (too_many_targets at shown) = (trace : List ℕ) × (x : W) × IsStopOf analysis trace at (too_many x) × (shown ≡ domain.word_text 32 x)
+  IsStop (undecodable_at at word) = (trace : List ℕ) × IsShort trace × IsStopOf analysis trace at (undecodable word)
+  IsStop (too_many_targets at shown) = (trace : List ℕ) × (x : W) × IsShort trace × IsStopOf analysis trace at (too_many x) × (shown ≡ domain.word_text 32 x)
   IsStop _ = ⊥
 
   -- The outcome of the analysis: the text of its table, headed by the name of the base, or the refusal of its first stop.

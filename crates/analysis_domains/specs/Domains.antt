@@ -21,11 +21,17 @@ use Rattle.domain_laws.specs.Domain.{Meaning}
 use Rattle.domain_laws.specs.States.{StateType}
 use Rattle.cell_laws.specs.Calls.{cell_calls}
 use Rattle.cell_laws.specs.Cells.{cells}
-use Rattle.affine_calls.specs.Calls.{affine_calls, affine_elements}
+use Rattle.affine_calls.specs.Calls.{affine_calls, affine_elements, cell_count}
 use Rattle.pair_calls.specs.Domain.{pair_meaning}
+use Rattle.base_text.specs.Readings.{Readings, bits_readings, defuse_readings, interval_readings, set_readings}
 use Rattle.base_text.specs.Texts.{Texts, bits_texts, defuse_texts, interval_texts, set_texts}
 use Rattle.base_text.specs.Words.{affine_text, pair_text}
 use Rattle.element_text.specs.Parts.{AffineText, CellsText, ElementText, PairText}
+use Rattle.element_readers.specs.Reading.{AffineRead, CellsRead, ElementReading, PairRead}
+use Rattle.claim_laws.specs.Affine.{affine_tell}
+use Rattle.claim_laws.specs.Answers.{Telling}
+use Rattle.claim_laws.specs.Cells.{cells_tell}
+use Rattle.claim_laws.specs.Pairs.{pairs_tell}
 
 -- A domain with elements E, over words W, notes N and contexts C.
 pub record DomainOf (E W N C : Type 0) : Type 1 where
@@ -35,9 +41,12 @@ pub record DomainOf (E W N C : Type 0) : Type 1 where
   -- its elements, and the calls on them
   pub elements : Elements E State
   pub meaning : Meaning E W N C
-  -- the texts of elements, and of words of so many bits
+  -- the texts of elements, what is read of lines, and the texts of words of so many bits
   pub IsText : ElementText E
+  pub Reads : ElementReading E
   pub word_text : ℕ → W → List ℕ
+  -- what elements tell of claims
+  pub telling : Telling E
 
 -- two domains side by side
 abbrev pub pair_of : {E F V W M N C D : Type 0} → DomainOf E V M C → DomainOf F W N D → DomainOf (E × F) (V × W) (M × N) (C × D)
@@ -47,34 +56,38 @@ pair_of first second = record {
   elements = paired_elements first.elements second.elements;
   meaning = pair_meaning first.base second.base (max first.cap second.cap) first.meaning second.meaning;
   IsText = PairText first.IsText second.IsText;
+  Reads = PairRead first.Reads second.Reads;
   word_text = pair_text first.word_text second.word_text;
+  telling = pairs_tell first.telling second.telling;
 }
 
 module _ (t : StateType) where
   -- cells of a base that has a name
-  abbrev pub cells_of : {W N C : Type 0} → Algebra W N C → C → ℕ → List ℕ → Texts W N → DomainOf (Parts W N) W N C
-  cells_of base c cap name texts = record {
+  abbrev pub cells_of : {W N C : Type 0} → Algebra W N C → C → ℕ → List ℕ → Texts W N → Readings W N → DomainOf (Parts W N) W N C
+  cells_of base c cap name texts readings = record {
     base = base;
     cap = cap;
     elements = cells base c cap t.fields;
     meaning = cell_calls base c cap t;
     IsText = CellsText name texts;
+    Reads = CellsRead readings cap name;
     word_text = texts.word;
+    telling = cells_tell base c;
   }
 
   -- sets of at most K numbers
   abbrev pub sets : ℕ → DomainOf (Parts (Option (List ℕ)) (Unit {0})) (Option (List ℕ)) (Unit {0}) (Unit {0})
-  sets K = cells_of (kset K) tt 256 (if K == 1 then codes "const" else codes "kset") set_texts
+  sets K = cells_of (kset K) tt 256 (if K == 1 then codes "const" else codes "kset") set_texts (set_readings K)
 
   abbrev pub intervals : DomainOf (Parts Range (Unit {0})) Range (Unit {0}) (Unit {0})
-  intervals = cells_of interval tt 256 (codes "interval") interval_texts
+  intervals = cells_of interval tt 256 (codes "interval") interval_texts interval_readings
 
   abbrev pub known_bits : DomainOf (Parts Known (Unit {0})) Known (Unit {0}) (Unit {0})
-  known_bits = cells_of bits tt 256 (codes "bits") bits_texts
+  known_bits = cells_of bits tt 256 (codes "bits") bits_texts bits_readings
 
   -- definitions and uses
   abbrev pub definitions : DomainOf (Parts (Option (List ℕ)) (List Stamped)) (Option (List ℕ)) (List Stamped) (Unit {0})
-  definitions = cells_of defuse tt 256 (codes "defuse") defuse_texts
+  definitions = cells_of defuse tt 256 (codes "defuse") defuse_texts defuse_readings
 
   -- affine relations
   abbrev pub relations : DomainOf Submodule Word (Unit {0}) (List (ℕ × KeyAt))
@@ -84,5 +97,7 @@ module _ (t : StateType) where
     elements = affine_elements t;
     meaning = affine_calls t;
     IsText = AffineText;
+    Reads = AffineRead (cell_count t);
     word_text = affine_text;
+    telling = affine_tell t;
   }

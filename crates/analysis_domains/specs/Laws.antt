@@ -1,10 +1,21 @@
--- The outcomes of analyses.
-use Rattle.std.specs.Prelude.{◌≡◌, ◌⊎◌, IsTrue, Ok}
+-- The outcomes of work on tables.
+use Rattle.std.specs.Prelude.{◌≡◌, ◌⊎◌, ◌↔◌, ℕ, IsSome, IsTrue, List, ◌∷◌, Ok, Some, is_some, true}
+use Rattle.base_trait.specs.Lists.{Each}
+use Rattle.affine_rows.specs.Submodule.{Congruent, Submodule, dot}
+use Rattle.affine_calls.specs.Calls.{cell_count}
+use Rattle.affine_calls.specs.Tracked.{tracked_cells}
+use Rattle.claim_laws.specs.Affine.{IsDescribed}
+use Rattle.claim_laws.specs.Answers.{column_of, form_of, told}
+use Rattle.claim_laws.specs.Claims.{Multiple, sum}
 use Rattle.command_words.specs.declared.bases.BaseName.{BaseName}
-use Rattle.insn_decode.specs.Image.{Image}
+use Rattle.insn_decode.specs.Image.{Image, code_at}
+use Rattle.spec_types.specs.Specification.{Spec}
+use Rattle.domain_laws.specs.States.{StateType, has_states}
+use Rattle.fixed_point.specs.Code.{is_code}
 use Rattle.transfer_laws.specs.Problem.{IsWellPosed, Problem}
+use Rattle.slice_text.specs.declared.asked.Asked.{Asked}
 use Rattle.run_steps.specs.Outcome.{Outcome, text}
-use Rattle.analysis_domains.specs.Named.{Analysed, has_relations}
+use Rattle.analysis_domains.specs.Named.{Analysed, Checked, Claimed, Converted, Sliced, domain_of, has_relations, relations_in}
 
 -- Both are texts.
 abbrev pub AreTexts : Outcome → Outcome → Type 0
@@ -22,3 +33,51 @@ AnalysesAreOne = (image : Image) (p : Problem) (base : BaseName) (found other : 
 -- and at least one.
 abbrev pub AnalysesHaveSome : Type 0
 AnalysesHaveSome = (image : Image) (p : Problem) (base : BaseName) → IsWellPosed p → (found : Outcome) × Analysed image p base found
+
+-- ---- checks and conversions
+
+-- The code words of an image are those of a problem.
+abbrev pub HasWordsOf : Image → Problem → Type 0
+HasWordsOf image p = (a : ℕ) → IsTrue (is_some (code_at image a)) → IsTrue (is_code p.addresses a)
+
+-- Of a well-posed problem the check of a text has one outcome at most,
+abbrev pub ChecksAreOne : Type 0
+ChecksAreOne = (image : Image) (p : Problem) (base : BaseName) (bytes : List ℕ) (found other : Outcome) → IsWellPosed p → Checked image p base bytes found → Checked image p base bytes other → found ≡ other
+
+-- and at least one, where the image is the problem's.
+abbrev pub ChecksHaveSome : Type 0
+ChecksHaveSome = (image : Image) (p : Problem) (base : BaseName) (bytes : List ℕ) → IsWellPosed p → HasWordsOf image p → (found : Outcome) × Checked image p base bytes found
+
+-- A text that is written anew has one outcome at most, but that over relations two may be texts, where the specification has states,
+abbrev pub ConversionsAreOne : Type 0
+ConversionsAreOne = (image : Image) (spec : Spec) (base : BaseName) (bytes : List ℕ) (found other : Outcome) → has_states spec ≡ true → Converted image spec base bytes found → Converted image spec base bytes other → AreOne base found other
+
+-- and at least one.
+abbrev pub ConversionsHaveSome : Type 0
+ConversionsHaveSome = (image : Image) (spec : Spec) (base : BaseName) (bytes : List ℕ) → has_states spec ≡ true → (found : Outcome) × Converted image spec base bytes found
+
+-- ---- slices and claims
+
+-- Of a well-posed problem the slice of a text has one outcome at most,
+abbrev pub SlicesAreOne : Type 0
+SlicesAreOne = (image : Image) (p : Problem) (base : BaseName) (bytes : List ℕ) (at : ℕ) (asked : Asked) (found other : Outcome) → IsWellPosed p → Sliced image p base bytes at asked found → Sliced image p base bytes at asked other → found ≡ other
+
+-- and at least one, where the image is the problem's.
+abbrev pub SlicesHaveSome : Type 0
+SlicesHaveSome = (image : Image) (p : Problem) (base : BaseName) (bytes : List ℕ) (at : ℕ) (asked : Asked) → IsWellPosed p → HasWordsOf image p → (found : Outcome) × Sliced image p base bytes at asked found
+
+-- Claims have one outcome at most,
+abbrev pub ClaimsAreOne : Type 0
+ClaimsAreOne = (image : Image) (p : Problem) (base : BaseName) (bytes list : List ℕ) (found other : Outcome) → IsWellPosed p → Claimed image p base bytes list found → Claimed image p base bytes list other → found ≡ other
+
+-- and at least one.
+abbrev pub ClaimsHaveSome : Type 0
+ClaimsHaveSome = (image : Image) (p : Problem) (base : BaseName) (bytes list : List ℕ) → IsWellPosed p → HasWordsOf image p → (found : Outcome) × Claimed image p base bytes list found
+
+-- Where affine relations describe some numbers of the tracked cells, a sum is told exactly where it is 0 for all numbers that they describe.
+abbrev pub SumsAreExact : Type 0
+SumsAreExact =
+    (t : StateType) (base : BaseName) (x : (domain_of t base).Elem) (relations : Submodule) (at c : ℕ) (parts : List Multiple) (some : List ℕ) → relations_in t base x ≡ Some relations
+    → Each (λ part. IsSome (column_of (tracked_cells t) part.1 part.2)) parts → IsDescribed (cell_count t) relations.rows some
+    → IsTrue (told (domain_of t base).domain.telling x (sum at c parts))
+    ↔ ((numbers : List ℕ) → IsDescribed (cell_count t) relations.rows numbers → Congruent (dot (form_of (tracked_cells t) c parts) (1 ∷ numbers)) 0)

@@ -1,5 +1,12 @@
 pub mod Analyses
+pub mod Checks
+pub mod Claims
+pub mod Closed
+pub mod Conversions
 pub mod Domains
 pub mod Instance
 pub mod Laws
 pub mod Named
+pub mod Slices
+pub mod Tasks
+pub mod Work

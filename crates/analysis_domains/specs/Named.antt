@@ -1,42 +1,86 @@
--- What an analysis over a base comes to.
-use Rattle.std.specs.Prelude.{Bool, true, false}
+-- What is asked over a base comes to.
+use Rattle.std.specs.Prelude.{ℕ, Bool, true, false, List, Option, Some, None}
+use Rattle.affine_rows.specs.Submodule.{Submodule}
 use Rattle.command_words.specs.declared.bases.BaseName.{BaseName}
 use Rattle.command_words.specs.declared.bases.BaseName.TheVariants as b
 use Rattle.command_words.specs.Bases.{base_text}
 use Rattle.insn_decode.specs.Image.{Image}
+use Rattle.spec_types.specs.Specification.{Spec}
 use Rattle.domain_laws.specs.States.{StateType, state_type}
 use Rattle.transfer_laws.specs.Problem.{Problem}
 use Rattle.run_steps.specs.Outcome.{Outcome}
-use Rattle.analysis_domains.specs.Analyses.{ComesTo}
+use Rattle.slice_text.specs.declared.asked.Asked.{Asked}
+use Rattle.analysis_domains.specs.Checks.{IsAccepted}
+use Rattle.analysis_domains.specs.Claims.{HoldsClaims}
+use Rattle.analysis_domains.specs.Slices.{HoldsChains}
+use Rattle.analysis_domains.specs.Tasks.{Comes, Task, analyse, check, claims, convert, slice, spec_of}
 use Rattle.analysis_domains.specs.Domains.{DomainOf, definitions, intervals, known_bits, pair_of, relations, sets}
 
-module _ (image : Image) (p : Problem) (t : StateType) where
-  -- the outcome in a domain, with the name of the base in the head of its table
-  abbrev pub In : {E W N C : Type 0} → BaseName → DomainOf E W N C → Outcome → Type 0
-  In base domain = ComesTo domain p image (base_text base)
+-- A domain, with the types of its elements, words, notes and contexts.
+pub record AnyDomain : Type 1 where
+  pub Elem : Type 0
+  pub Word : Type 0
+  pub Note : Type 0
+  pub Ctx : Type 0
+  pub domain : DomainOf Elem Word Note Ctx
 
-  -- the domain of each base
-  abbrev pub Over : BaseName → Outcome → Type 0
-  Over b.Const = In b.Const (sets t 1)
-  Over b.KSet = In b.KSet (sets t 16)
-  Over b.Interval = In b.Interval (intervals t)
-  Over b.Affine = In b.Affine (relations t)
-  Over b.DefUse = In b.DefUse (definitions t)
-  Over b.ConstInterval = In b.ConstInterval (pair_of (sets t 1) (intervals t))
-  Over b.KSetInterval = In b.KSetInterval (pair_of (sets t 16) (intervals t))
-  Over b.KSetAffine = In b.KSetAffine (pair_of (sets t 16) (relations t))
-  Over b.KSetDefUse = In b.KSetDefUse (pair_of (sets t 16) (definitions t))
-  Over b.IntervalAffine = In b.IntervalAffine (pair_of (intervals t) (relations t))
-  Over b.IntervalDefUse = In b.IntervalDefUse (pair_of (intervals t) (definitions t))
-  Over b.AffineDefUse = In b.AffineDefUse (pair_of (relations t) (definitions t))
-  Over b.Bits = In b.Bits (known_bits t)
-  Over b.KSetBits = In b.KSetBits (pair_of (sets t 16) (known_bits t))
-  Over b.IntervalBits = In b.IntervalBits (pair_of (intervals t) (known_bits t))
-  Over b.BitsDefUse = In b.BitsDefUse (pair_of (known_bits t) (definitions t))
+abbrev pub any : {E W N C : Type 0} → DomainOf E W N C → AnyDomain
+any {E = E} {W = W} {N = N} {C = C} domain = record { Elem = E; Word = W; Note = N; Ctx = C; domain = domain }
 
--- The outcome of the analysis of a problem over a base, with the states of its specification.
+-- the domain of each base, for states of a type
+abbrev pub domain_of : StateType → BaseName → AnyDomain
+domain_of t b.Const = any (sets t 1)
+domain_of t b.KSet = any (sets t 16)
+domain_of t b.Interval = any (intervals t)
+domain_of t b.Affine = any (relations t)
+domain_of t b.DefUse = any (definitions t)
+domain_of t b.ConstInterval = any (pair_of (sets t 1) (intervals t))
+domain_of t b.KSetInterval = any (pair_of (sets t 16) (intervals t))
+domain_of t b.KSetAffine = any (pair_of (sets t 16) (relations t))
+domain_of t b.KSetDefUse = any (pair_of (sets t 16) (definitions t))
+domain_of t b.IntervalAffine = any (pair_of (intervals t) (relations t))
+domain_of t b.IntervalDefUse = any (pair_of (intervals t) (definitions t))
+domain_of t b.AffineDefUse = any (pair_of (relations t) (definitions t))
+domain_of t b.Bits = any (known_bits t)
+domain_of t b.KSetBits = any (pair_of (sets t 16) (known_bits t))
+domain_of t b.IntervalBits = any (pair_of (intervals t) (known_bits t))
+domain_of t b.BitsDefUse = any (pair_of (known_bits t) (definitions t))
+
+-- The outcome of what is asked over a base, with the states of its specification.
+abbrev pub Done : Image → Task → BaseName → Outcome → Type 0
+Done image task base = Comes (domain_of (state_type (spec_of task)) base).domain image (base_text base) task
+
+-- That of the analysis of a problem,
 abbrev pub Analysed : Image → Problem → BaseName → Outcome → Type 0
-Analysed image p base = Over image p (state_type p.spec) base
+Analysed image p base = Done image (analyse p) base
+
+-- that of the check of a text,
+abbrev pub Checked : Image → Problem → BaseName → List ℕ → Outcome → Type 0
+Checked image p base bytes = Done image (check p bytes) base
+
+-- and that of a text which is written anew.
+abbrev pub Converted : Image → Spec → BaseName → List ℕ → Outcome → Type 0
+Converted image spec base bytes = Done image (convert spec bytes) base
+
+-- That of the slice of a text, at an address for a cell,
+abbrev pub Sliced : Image → Problem → BaseName → List ℕ → ℕ → Asked → Outcome → Type 0
+Sliced image p base bytes at asked = Done image (slice p bytes at asked) base
+
+-- and that of the claims of a text, of which another is the table.
+abbrev pub Claimed : Image → Problem → BaseName → List ℕ → List ℕ → Outcome → Type 0
+Claimed image p base bytes list = Done image (claims p bytes list) base
+
+-- The text is that of a table over a base that is accepted: closed, and true of every run.
+abbrev pub Accepted : Image → Problem → BaseName → List ℕ → Type 0
+Accepted image p base bytes = IsAccepted (domain_of (state_type p.spec) base).domain p image (base_text base) bytes
+
+-- The text is that of a slice over a base, of a table that is accepted, and holds every chain of reads.
+abbrev pub SliceHolds : Image → Problem → BaseName → List ℕ → ℕ → Asked → List ℕ → Type 0
+SliceHolds image p base bytes at asked text = HoldsChains (domain_of (state_type p.spec) base).domain p image (base_text base) bytes at asked text
+
+-- The text is that of the answers over a base to claims, of a table that is accepted, and each claim that is answered yes is true of every run.
+abbrev pub ClaimsHold : Image → Problem → BaseName → List ℕ → List ℕ → List ℕ → Type 0
+ClaimsHold image p base bytes list text = HoldsClaims (domain_of (state_type p.spec) base).domain p image (base_text base) bytes list text
 
 -- Its elements are affine relations, or have them as a part: such an element has several texts.
 abbrev pub has_relations : BaseName → Bool
@@ -45,3 +89,11 @@ has_relations b.KSetAffine = true
 has_relations b.IntervalAffine = true
 has_relations b.AffineDefUse = true
 has_relations _ = false
+
+-- the affine relations that an element is, or has as a part
+abbrev pub relations_in : (t : StateType) (base : BaseName) → (domain_of t base).Elem → Option Submodule
+relations_in t b.Affine x = Some x
+relations_in t b.KSetAffine x = Some x.1
+relations_in t b.IntervalAffine x = Some x.1
+relations_in t b.AffineDefUse x = Some x.0
+relations_in t _ x = None

@@ -5,14 +5,16 @@ ghost use Rattle.spec_types.specs.Views.{specification};
 ghost use Rattle.domain_laws.specs.States.{has_states, state_type};
 
 use affine_domain::AffineDomain;
-use element_text::{ElemText, NamedBase};
+use element_readers::ReadElement;
+use element_text::NamedBase;
 use pair_domain::PairDomain;
 use spec_types::Spec;
 use state_domain::StateDomain;
 use std::alloc::{AllocError as NoMemory, Global};
+use tsl_claims::ClaimElem;
 
 /// A domain that can be made for each specification of a machine.
-pub trait NamedDomain: ElemText + Drop {
+pub trait NamedDomain: ReadElement + ClaimElem + Drop {
     /// Whether its base is one that domains can be made over.
     ghost may: { Bool };
 

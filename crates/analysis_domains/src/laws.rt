@@ -1,6 +1,6 @@
-//! What holds of the outcomes of analyses. These functions do nothing: their contracts are laws.
+//! What holds of the outcomes of analyses, and of what elements tell. These functions do nothing: their contracts are laws.
 
-ghost use Rattle.analysis_domains.specs.Laws.{AnalysesAreOne, AnalysesHaveSome};
+ghost use Rattle.analysis_domains.specs.Laws.{AnalysesAreOne, AnalysesHaveSome, SumsAreExact};
 
 /// Of a well-posed problem an analysis has one outcome at most, but that over relations two may be texts of its table.
 pub fn analyses_are_one()
@@ -10,4 +10,9 @@ pub fn analyses_are_one()
 /// It has an outcome: the text of its table, or the refusal of its first stop.
 pub fn analyses_have_some()
     ensures { AnalysesHaveSome }
+{}
+
+/// Where affine relations describe some numbers, a sum is told exactly where it is 0 for all that they describe.
+pub fn sums_are_exact()
+    ensures { SumsAreExact }
 {}

@@ -1,1 +1,5 @@
+pub mod AddressesTold
+pub mod FirstPiece
 pub mod Greatest
+pub mod Loops
+pub mod SetsGrown

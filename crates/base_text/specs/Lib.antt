@@ -1,4 +1,15 @@
+pub mod Chains
+pub mod Digits
+pub mod Fronts
+pub mod Inside
 pub mod Lists
 pub mod Notes
+pub mod Options
+pub mod Pieces
+pub mod PiecesTold
+pub mod Reading
+pub mod Readings
+pub mod Tell
 pub mod Texts
+pub mod Told
 pub mod Words

@@ -1,4 +1,4 @@
-//! Words and notes of the bases as text.
+//! Words and notes of the bases as text, written and read back.
 //!
 //! A number has a hex digit for each 4 bits of its width, rounded up. Words are written so:
 //!
@@ -15,12 +15,29 @@
 //! A note of stamps stands behind the word of its cell, ` from entry,00001000`; one that tells nothing is nothing.
 //!
 //! What each text is, specs/Words and specs/Notes say; `BaseText` has a base's as functions, and each call appends them.
+//!
+//! *Reading.* Words and notes of bases of cells are read back, which specs/Reading defines and `CellBase` does. Each has one
+//! text, so what is read is what was written: digits are in lower case, the numbers of a set and stamps ascend, and `00..ff`
+//! of 8 bits is no interval, since that is `any`. An address of a stamp is one of a code word. The law `tell` of `CellBase`
+//! says all this, and specs/Readings states it.
 #![tactic(auto)]
 
+mod addresses;
 mod base;
+mod cells;
+pub mod laws;
 mod notes;
+mod numbers;
+mod pieces;
+mod reading;
+mod sets;
+mod stamps;
 mod words;
 
+pub use addresses::addresses_in;
 pub use base::{BaseText, push_noted};
+pub use cells::CellBase;
 pub use notes::push_stamps;
+pub use numbers::{behind, number_in};
+pub use stamps::stamps_in;
 pub use words::{push_number, push_spaced};

@@ -33,7 +33,7 @@ pub fn push_spaced(out: &mut String, numbers: &[u32]) -> Result<(), NoMemory>
 
 /// Whether a number is the greatest of a width in bits.
 #[tactic(auto, using(crate::proofs::Greatest::past_greatest))]
-fn is_greatest(w: u32, n: u64) -> bool
+pub(crate) fn is_greatest(w: u32, n: u64) -> bool
     ensures { result ≡ n == 2 ^ w - 1 }
 {
     if w < 64 {

@@ -2,7 +2,7 @@
 
 use std::alloc::{AllocError, Global};
 use tsl_io::{MemInputs, MemSink};
-use tsl_run::{run, run_in_memory};
+use tsl_run::{run_in_memory, run_uncounted};
 
 /// How a run ends: its exit status, and all that it writes.
 #[derive(Drop, PartialEq, Eq)]
@@ -89,7 +89,7 @@ fn end_with_failures(
     } = failures;
     let mut inputs = MemInputs::new(alloc, inputs, calls)?;
     let mut sink = MemSink::new(alloc, writes, most)?;
-    let status = run(alloc, words, &mut inputs, &mut sink).code();
+    let status = run_uncounted(alloc, words, &mut inputs, &mut sink).code();
     let text = sink.bytes().to_vec(alloc)?;
     Ok(Ending { status, text })
 }

@@ -7,6 +7,7 @@ ghost use Rattle.cell_names.specs.Names as defined;
 ghost use Rattle.cell_names.specs.Views.{both, cell_of, part_of};
 
 use crate::split::split_once;
+use state_text::{begins_name, is_mark, is_word_byte};
 
 /// What is written of a cell behind the name of its field: nothing, `[*]` or `[KEY]`.
 #[derive(Clone, Copy, Debug)]
@@ -23,38 +24,11 @@ pub struct CellName<'a> {
     pub part: CellPart<'a>,
 }
 
-/// Whether the byte is a letter, a digit or `_`.
-fn is_word_byte(byte: u8) -> bool
-    ensures { result ≡ forms.is_word_byte byte }
-{
-    byte.is_ascii_alphanumeric() || byte == b'_'
-}
-
 /// Whether all bytes are letters, digits and `_`.
 fn are_word_bytes(bytes: &[u8]) -> bool
     ensures { result ≡ list_all forms.is_word_byte bytes.now }
 {
     bytes.iter().all(|byte| is_word_byte(*byte))
-}
-
-/// Whether the bytes begin with a letter or `_`.
-fn begins_name(bytes: &[u8]) -> bool
-    ensures { result ≡ forms.begins_name bytes.now }
-{
-    match bytes.first() {
-        Some(byte) => byte.is_ascii_alphabetic() || *byte == b'_',
-        None => false,
-    }
-}
-
-/// Whether the bytes are `_` alone.
-fn is_mark(bytes: &[u8]) -> bool
-    ensures { result ≡ forms.is_mark bytes.now }
-{
-    match bytes {
-        [] => false,
-        [byte, rest @ ..] => *byte == b'_' && rest.is_empty(),
-    }
 }
 
 /// Whether the bytes are a name.

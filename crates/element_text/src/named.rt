@@ -2,14 +2,14 @@
 
 ghost use Rattle.std.specs.Prelude.{◌≡◌, ℕ, ◌==◌, List, codes, if◌then◌else◌};
 
-use base_text::BaseText;
+use base_text::CellBase;
 use bits_base::Bits;
 use defuse_base::DefUse;
 use interval_base::Interval;
 use kset_base::KSet;
 
 /// A base of cells that has a name.
-pub trait NamedBase: BaseText {
+pub trait NamedBase: CellBase {
     /// The bytes of the name.
     ghost named: { List ℕ };
 

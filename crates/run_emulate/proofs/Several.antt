@@ -11,7 +11,7 @@ use Rattle.tsl_values.specs.States.{State}
 use Rattle.tsl_io.specs.InputState.{InputState, InputsKept}
 use Rattle.run_steps.specs.declared.outcome.Halt.{Halt}
 use Rattle.run_steps.specs.declared.outcome.Halt.TheVariants.{Refused, NoMemory}
-use Rattle.run_steps.specs.declared.outcome.Refusal.TheVariants.{BadWords, NotBuilt, CannotRead, TooLong, SpecRefused, CodeRefused, EntryRefused, CallsSpent, UndecodableAt, TooManyTargets}
+use Rattle.run_steps.specs.declared.outcome.Refusal.TheVariants.{BadWords, NotBuilt, CannotRead, TooLong, SpecRefused, CodeRefused, EntryRefused, CallsSpent, UndecodableAt, TooManyTargets, TableRefused, ClaimsRefused, Rejected}
 use Rattle.run_steps.specs.Faultless.{NoOtherFault}
 use Rattle.run_steps.specs.Outcome.{Answer, Refusal, text}
 use Rattle.run_steps.specs.Outcomes.{Stops}
@@ -38,6 +38,9 @@ faultless_later old mid new (Err (Refused (EntryRefused fault))) calm same = sam
 faultless_later old mid new (Err (Refused CallsSpent)) calm same = same ∙ calm
 faultless_later old mid new (Err (Refused (UndecodableAt at word))) calm same = same ∙ calm
 faultless_later old mid new (Err (Refused (TooManyTargets at shown))) calm same = same ∙ calm
+faultless_later old mid new (Err (Refused (TableRefused fault))) calm same = same ∙ calm
+faultless_later old mid new (Err (Refused (ClaimsRefused fault))) calm same = same ∙ calm
+faultless_later old mid new (Err (Refused (Rejected rejection))) calm same = same ∙ calm
 faultless_later old mid new (Err NoMemory) calm same = same ∙ calm
 
 -- ---- two inputs

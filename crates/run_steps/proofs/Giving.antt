@@ -18,7 +18,7 @@ use Rattle.tsl_io.specs.InputState.{InputState, InputsKept}
 use Rattle.tsl_io.specs.WholeRead.{TakesAtMost}
 use Rattle.run_steps.specs.declared.outcome.Halt.{Halt}
 use Rattle.run_steps.specs.declared.outcome.Halt.TheVariants.{Refused, NoMemory}
-use Rattle.run_steps.specs.declared.outcome.Refusal.TheVariants.{BadWords, NotBuilt, CannotRead, TooLong, SpecRefused, CodeRefused, EntryRefused, CallsSpent, UndecodableAt, TooManyTargets}
+use Rattle.run_steps.specs.declared.outcome.Refusal.TheVariants.{BadWords, NotBuilt, CannotRead, TooLong, SpecRefused, CodeRefused, EntryRefused, CallsSpent, UndecodableAt, TooManyTargets, TableRefused, ClaimsRefused, Rejected}
 use Rattle.run_steps.specs.Faultless.{NoOtherFault}
 use Rattle.run_steps.specs.Outcome.{Refusal}
 use Rattle.run_steps.specs.Outcomes.{Stops, halt_of_lexing, halt_of_checking, halt_of_parsing}
@@ -63,6 +63,9 @@ no_other_fault old new (Err (Refused (EntryRefused fault))) same = same
 no_other_fault old new (Err (Refused CallsSpent)) same = same
 no_other_fault old new (Err (Refused (UndecodableAt at word))) same = same
 no_other_fault old new (Err (Refused (TooManyTargets at shown))) same = same
+no_other_fault old new (Err (Refused (TableRefused fault))) same = same
+no_other_fault old new (Err (Refused (ClaimsRefused fault))) same = same
+no_other_fault old new (Err (Refused (Rejected rejection))) same = same
 no_other_fault old new (Err NoMemory) same = same
 
 -- of one input

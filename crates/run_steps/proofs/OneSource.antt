@@ -26,7 +26,7 @@ use Rattle.checked_trees.proofs.There.{specifications_are_there}
 use Rattle.command_words.specs.SpecNames.{SpecName, input, power_pc, risc_v}
 use Rattle.run_steps.specs.declared.spec_fault.SpecFault.{SpecFault}
 use Rattle.run_steps.specs.declared.spec_fault.SpecFault.TheVariants.{Lexing, Parsing, Checking}
-use Rattle.run_steps.specs.Outcome.{Refusal, bad_words, not_built, cannot_read, too_long, spec_refused, code_refused, entry_refused, calls_spent, undecodable_at, too_many_targets}
+use Rattle.run_steps.specs.Outcome.{Refusal, bad_words, not_built, cannot_read, too_long, spec_refused, code_refused, entry_refused, calls_spent, undecodable_at, too_many_targets, table_refused, claims_refused, rejected}
 use Rattle.run_steps.specs.Reading.{Held, Holds, whole, long, none}
 use Rattle.run_steps.specs.Shipped.{power_pc_text, risc_v_text}
 use Rattle.run_steps.specs.Sources.{source_cap, IsSpecification, SourceOf, Specifies}
@@ -114,6 +114,9 @@ module _ (wanted : Use) (source : List ℕ) where
   kind_of (Err calls_spent) p = absurd p
   kind_of (Err (undecodable_at at word)) p = absurd p
   kind_of (Err (too_many_targets at shown)) p = absurd p
+  kind_of (Err (table_refused fault)) p = absurd p
+  kind_of (Err (claims_refused fault)) p = absurd p
+  kind_of (Err (rejected rejection)) p = absurd p
 
   one_kind : (found other : Result Spec Refusal) → Kind found → Kind other → found ≡ other
   one_kind found other (specified {spec = spec} p) (specified {spec = second} q) = ap (λ (s : Spec). Ok s) (one_spec spec second p q)

@@ -1,13 +1,18 @@
 -- What a run comes to: one value for each status and line.
 use Rattle.std.specs.Prelude.{ℕ, List, Result, Ok, Err}
+use Rattle.claim_faults.specs.declared.claim_error.ClaimError.{ClaimError}
+use Rattle.claim_faults.specs.FaultLines as claims
 use Rattle.insn_decode.specs.declared.image_error.ImageError.{ImageError}
 use Rattle.insn_decode.specs.Faults as image
 use Rattle.state_text.specs.declared.entry_error.EntryError.{EntryError}
 use Rattle.state_text.specs.FaultLines as entry
+use Rattle.table_faults.specs.declared.table_error.TableError.{TableError}
+use Rattle.table_faults.specs.FaultLines as table
+use Rattle.run_steps.specs.declared.rejection.Rejection.{Rejection}
 use Rattle.run_steps.specs.declared.spec_fault.SpecFault.{SpecFault}
 use Rattle.run_steps.specs.declared.status.Status.{Status}
 use Rattle.run_steps.specs.declared.status.Status.TheVariants as s
-use Rattle.run_steps.specs.Lines.{bad_words_line, calls_spent_line, cannot_read_line, not_built_line, targets_line, too_long_line, undecodable_line}
+use Rattle.run_steps.specs.Lines.{bad_words_line, calls_spent_line, cannot_read_line, not_built_line, rejection_line, targets_line, too_long_line, undecodable_line}
 use Rattle.run_steps.specs.SpecFaults.{spec_line}
 
 -- the text that the words ask for; where it tells of a machine that stopped for want of a decoding or of calls, the status says so
@@ -38,6 +43,12 @@ pub data Refusal : Type 0 where
   undecodable_at : (at word : ℕ) → Refusal
   -- the instruction at an address may lead to too many addresses: the counter behind it, as text
   too_many_targets : (at : ℕ) → (shown : List ℕ) → Refusal
+  -- the text of the table has this fault first
+  table_refused : TableError → Refusal
+  -- the text of the claims has this fault first
+  claims_refused : ClaimError → Refusal
+  -- the table is not closed: its first part that fails
+  rejected : Rejection → Refusal
 
 -- an answer, or a refusal
 abbrev pub Outcome : Type 0
@@ -57,6 +68,9 @@ status_of (Err (entry_refused fault)) = s.EntryRefused
 status_of (Err calls_spent) = s.CallsSpent
 status_of (Err (undecodable_at at word)) = s.Undecodable
 status_of (Err (too_many_targets at shown)) = s.TooManyTargets
+status_of (Err (table_refused fault)) = s.TableRefused
+status_of (Err (claims_refused fault)) = s.ClaimsRefused
+status_of (Err (rejected rejection)) = s.Rejected
 
 -- what is written
 abbrev pub line_of : Outcome → List ℕ
@@ -73,3 +87,6 @@ line_of (Err (entry_refused fault)) = entry.fault_line fault
 line_of (Err calls_spent) = calls_spent_line
 line_of (Err (undecodable_at at word)) = undecodable_line at word
 line_of (Err (too_many_targets at shown)) = targets_line at shown
+line_of (Err (table_refused fault)) = table.fault_line fault
+line_of (Err (claims_refused fault)) = claims.fault_line fault
+line_of (Err (rejected rejection)) = rejection_line rejection

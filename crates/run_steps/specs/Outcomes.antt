@@ -13,16 +13,20 @@ use Rattle.insn_decode.specs.declared.image_error.ImageError.{ImageError}
 use Rattle.insn_decode.specs.declared.image_error.ImageError.TheVariants as imaging
 use Rattle.state_text.specs.declared.entry_error.EntryError.{EntryError}
 use Rattle.state_text.specs.declared.entry_error.EntryError.TheVariants as entering
+use Rattle.table_faults.specs.declared.table_error.TableError.{TableError}
+use Rattle.table_faults.specs.declared.table_error.TableError.TheVariants as reading
+use Rattle.claim_faults.specs.declared.claim_error.ClaimError.{ClaimError}
+use Rattle.claim_faults.specs.declared.claim_error.ClaimError.TheVariants as claiming
 use Rattle.run_steps.specs.declared.outcome.Answer as code-answer
 use Rattle.run_steps.specs.declared.outcome.Answer.TheVariants as a
 use Rattle.run_steps.specs.declared.outcome.Halt.{Halt}
 use Rattle.run_steps.specs.declared.outcome.Halt.TheVariants.{Refused, NoMemory}
 use Rattle.run_steps.specs.declared.outcome.Outcome as code-outcome
 use Rattle.run_steps.specs.declared.outcome.Refusal as code-refusal
-use Rattle.run_steps.specs.declared.outcome.Refusal.TheVariants.{BadWords, NotBuilt, CannotRead, TooLong, SpecRefused, CodeRefused, EntryRefused, CallsSpent, UndecodableAt, TooManyTargets}
+use Rattle.run_steps.specs.declared.outcome.Refusal.TheVariants.{BadWords, NotBuilt, CannotRead, TooLong, SpecRefused, CodeRefused, EntryRefused, CallsSpent, UndecodableAt, TooManyTargets, TableRefused, ClaimsRefused, Rejected}
 use Rattle.run_steps.specs.declared.outcome.Outcome.TheVariants as o
 use Rattle.run_steps.specs.declared.spec_fault.SpecFault.TheVariants.{Lexing, Parsing, Checking}
-use Rattle.run_steps.specs.Outcome.{Answer, Outcome, Refusal, text, undecodable, calls_ended, bad_words, not_built, cannot_read, too_long, spec_refused, code_refused, entry_refused, calls_spent, undecodable_at, too_many_targets}
+use Rattle.run_steps.specs.Outcome.{Answer, Outcome, Refusal, text, undecodable, calls_ended, bad_words, not_built, cannot_read, too_long, spec_refused, code_refused, entry_refused, calls_spent, undecodable_at, too_many_targets, table_refused, claims_refused, rejected}
 
 abbrev pub answer_of : code-answer.Answer → Answer
 answer_of (a.Text bytes) = text bytes.items
@@ -40,6 +44,9 @@ refusal_of (EntryRefused fault) = entry_refused fault
 refusal_of CallsSpent = calls_spent
 refusal_of (UndecodableAt at word) = undecodable_at at word
 refusal_of (TooManyTargets at shown) = too_many_targets at (string_bytes shown)
+refusal_of (TableRefused fault) = table_refused fault
+refusal_of (ClaimsRefused fault) = claims_refused fault
+refusal_of (Rejected rejection) = rejected rejection
 
 abbrev pub outcome_of : code-outcome.Outcome → Outcome
 outcome_of (o.Answered answer) = Ok (answer_of answer)
@@ -84,3 +91,13 @@ halt_of_imaging error = Refused (CodeRefused error)
 abbrev pub halt_of_entry : EntryError → Halt
 halt_of_entry entering.NoMemory = NoMemory
 halt_of_entry error = Refused (EntryRefused error)
+
+-- why a text is no table
+abbrev pub halt_of_table : TableError → Halt
+halt_of_table reading.NoMemory = NoMemory
+halt_of_table error = Refused (TableRefused error)
+
+-- why a text is no claims
+abbrev pub halt_of_claims : ClaimError → Halt
+halt_of_claims claiming.NoMemory = NoMemory
+halt_of_claims error = Refused (ClaimsRefused error)

@@ -10,11 +10,13 @@
 #![tactic(auto)]
 
 mod outcome;
+mod rejection;
 mod source;
 mod spec_fault;
 mod status;
 
 pub use outcome::{Answer, Halt, Outcome, Refusal};
+pub use rejection::Rejection;
 pub use source::{read_input, source_of, specified};
 pub use spec_fault::SpecFault;
 pub use status::Status;

@@ -4,16 +4,19 @@ ghost use Rattle.std.specs.Prelude.{◌≡◌, Err, IfOk};
 ghost use Rattle.std.specs.String.{string_bytes};
 ghost use Rattle.run_steps.specs.Lines.{targets_line, undecodable_line};
 ghost use Rattle.run_steps.specs.Outcome.{line_of, status_of};
-ghost use Rattle.run_steps.specs.Outcomes.{halt_of_entry, halt_of_imaging, halt_of_words, outcome_of, refusal_of};
+ghost use Rattle.run_steps.specs.Outcomes.{halt_of_claims, halt_of_entry, halt_of_imaging, halt_of_table, halt_of_words, outcome_of, refusal_of};
 ghost use Rattle.run_steps.specs.declared.outcome.Halt.TheVariants.{NoMemory, Refused};
 
+use crate::rejection::Rejection;
 use crate::spec_fault::SpecFault;
 use crate::status::Status;
 use cell_text::push_hex;
+use claim_faults::ClaimError;
 use command_words::WordsError;
 use insn_decode::ImageError;
 use state_text::EntryError;
 use std::alloc::{AllocError, AllocFailed, Global};
+use table_faults::TableError;
 
 /// The text that the words ask for. Where it tells of a machine that stopped for want of a decoding or of calls, the status says so.
 #[derive(Debug, Drop)]
@@ -49,6 +52,12 @@ pub enum Refusal<'a> {
     UndecodableAt { at: u32, word: u32 },
     /// The instruction at an address may lead to too many addresses: the counter behind it, as text.
     TooManyTargets { at: u32, shown: String },
+    /// The text of the table has this fault first.
+    TableRefused(TableError),
+    /// The text of the claims has this fault first.
+    ClaimsRefused(ClaimError),
+    /// The table is not closed: its first part that fails.
+    Rejected(Rejection),
 }
 
 /// What a run comes to.
@@ -79,6 +88,9 @@ impl Outcome<'_> {
             Outcome::Refused(Refusal::CallsSpent) => Status::CallsSpent,
             Outcome::Refused(Refusal::UndecodableAt { .. }) => Status::Undecodable,
             Outcome::Refused(Refusal::TooManyTargets { .. }) => Status::TooManyTargets,
+            Outcome::Refused(Refusal::TableRefused(_)) => Status::TableRefused,
+            Outcome::Refused(Refusal::ClaimsRefused(_)) => Status::ClaimsRefused,
+            Outcome::Refused(Refusal::Rejected(_)) => Status::Rejected,
         }
     }
 
@@ -111,6 +123,9 @@ impl Refusal<'_> {
             Refusal::CallsSpent => String::from_str(alloc, "calls spent\n"),
             Refusal::UndecodableAt { at, word } => undecodable_line(alloc, *at, *word),
             Refusal::TooManyTargets { at, shown } => targets_line(alloc, *at, shown),
+            Refusal::TableRefused(fault) => fault.fault_line(alloc),
+            Refusal::ClaimsRefused(fault) => fault.fault_line(alloc),
+            Refusal::Rejected(rejection) => rejection.line(alloc),
         }
     }
 }
@@ -185,6 +200,28 @@ impl From<EntryError> for Halt<'_> {
         match error {
             EntryError::NoMemory => Halt::NoMemory,
             fault => Halt::Refused(Refusal::EntryRefused(fault)),
+        }
+    }
+}
+
+impl From<TableError> for Halt<'_> {
+    ghost from_gives = { λ error halt. halt ≡ halt_of_table error };
+
+    fn from(error: TableError) -> Self {
+        match error {
+            TableError::NoMemory => Halt::NoMemory,
+            fault => Halt::Refused(Refusal::TableRefused(fault)),
+        }
+    }
+}
+
+impl From<ClaimError> for Halt<'_> {
+    ghost from_gives = { λ error halt. halt ≡ halt_of_claims error };
+
+    fn from(error: ClaimError) -> Self {
+        match error {
+            ClaimError::NoMemory => Halt::NoMemory,
+            fault => Halt::Refused(Refusal::ClaimsRefused(fault)),
         }
     }
 }

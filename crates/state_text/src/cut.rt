@@ -24,7 +24,7 @@ pub(crate) struct Cut<'a> {
 }
 
 /// Whether the byte is one of a name's.
-fn is_word_byte(byte: u8) -> bool
+pub fn is_word_byte(byte: u8) -> bool
     ensures { result ≡ forms.is_word_byte byte }
 {
     byte.is_ascii_alphanumeric() || byte == b'_'
@@ -39,7 +39,7 @@ fn word_len(bytes: &[u8]) -> usize
 }
 
 /// Whether the bytes begin a name.
-fn begins_name(bytes: &[u8]) -> bool
+pub fn begins_name(bytes: &[u8]) -> bool
     ensures { result ≡ forms.begins_name bytes.now }
 {
     match bytes.first() {
@@ -49,7 +49,7 @@ fn begins_name(bytes: &[u8]) -> bool
 }
 
 /// Whether the bytes are `_` alone.
-fn is_mark(bytes: &[u8]) -> bool
+pub fn is_mark(bytes: &[u8]) -> bool
     ensures { result ≡ forms.is_mark bytes.now }
 {
     match bytes {

@@ -31,6 +31,7 @@ mod stop;
 mod values;
 mod writer;
 
+pub use cut::{begins_name, is_mark, is_word_byte};
 pub use entry_error::EntryError;
 pub use reader::read_entry;
 pub use single_state::one_state;

@@ -65,7 +65,7 @@ fn part_read(key: Option<u64>) -> KeyAt
 }
 
 /// Appends the line of a use.
-fn push_use(out: &mut String, spec: &Spec, of: &Use) -> Result<(), NoMemory>
+pub fn push_use(out: &mut String, spec: &Spec, of: &Use) -> Result<(), NoMemory>
     ensures { OnOk result (string_bytes out.new ≡ string_bytes out.old ++ lines.use_line (specification spec.now) (seen of.now)) }
 {
     let Some(field) = field_of_map(state_fields(spec), of.map) else {

@@ -9,7 +9,7 @@ use insn_decode::{Image, Order};
 use std::alloc::AllocError as NoMemory;
 
 /// Appends the line of the order of the bytes of a word.
-fn push_order(out: &mut String, order: Order) -> Result<(), NoMemory>
+pub fn push_order(out: &mut String, order: Order) -> Result<(), NoMemory>
     ensures { OnOk result (string_bytes out.new ≡ string_bytes out.old ++ lines.order_line order) }
 {
     match order {
@@ -19,7 +19,7 @@ fn push_order(out: &mut String, order: Order) -> Result<(), NoMemory>
 }
 
 /// Appends the line of a segment: its base, and its length in bytes.
-fn push_segment(out: &mut String, base: u32, words: u32) -> Result<(), NoMemory>
+pub fn push_segment(out: &mut String, base: u32, words: u32) -> Result<(), NoMemory>
     ensures { OnOk result (string_bytes out.new ≡ string_bytes out.old ++ lines.code_line base words) }
 {
     out.push_str("code ")?;

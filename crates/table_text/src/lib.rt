@@ -33,4 +33,6 @@ mod blocks;
 mod head;
 mod table;
 
+pub use blocks::push_use;
+pub use head::{push_order, push_segment};
 pub use table::table_text;

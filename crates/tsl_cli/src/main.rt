@@ -2,13 +2,16 @@
 //! output and the exit status, which is proved to be that of the run (`exit_code`).
 #![tactic(auto)]
 
-ghost use Rattle.std.specs.Prelude.{◌≡◌};
+ghost use Rattle.std.specs.Prelude.{◌≡◌, ◌<◌};
 ghost use Rattle.tsl_cli.specs.Codes.{code_of};
 
-use std::io::ErrorKind;
+use std::io::{ErrorKind, Print};
+use std::marker::Brand;
 use std::process::ExitCode;
-use std::rt::Env;
+use std::rt::{Env, Files};
+use std::sync::ledger::{Blank, Ledger};
 use std::{env, io};
+use step_counter::Steps;
 use tsl_io::{FileInputs, StdSink};
 use tsl_run::{Status, run};
 
@@ -31,14 +34,29 @@ fn exit_code(ended: Result<Status, ErrorKind>) -> u8
     }
 }
 
+/// The run of the words over files, into standard output. A counter of transfers is on the ledger of this blank; it takes no code.
+fn ended<R: Files + Print + AllocGlobal, L: Ledger>(
+    rt: &R,
+    words: &[String],
+    blank: Blank,
+) -> Status
+    requires name { blank.name ≡ L.name }
+    requires parts { blank.parts ≡ L.parts }
+    requires some { 0 < blank.parts }
+{
+    let mut steps: Steps<L> = Steps::new(blank);
+    run(
+        rt.alloc(),
+        words,
+        &mut FileInputs::new(rt),
+        &mut StdSink::new(rt),
+        &mut steps,
+    )
+}
+
 fn main(rt: HostRuntime) -> ExitCode {
     let ended = match arguments(&rt) {
-        Ok(words) => Ok(run(
-            rt.alloc(),
-            &words,
-            &mut FileInputs::new(&rt),
-            &mut StdSink::new(&rt),
-        )),
+        Ok(words) => Ok(ended::<HostRuntime, Brand>(&rt, &words, Blank::new(1))),
         Err(error) => Err(error.kind()),
     };
     ExitCode::from(exit_code(ended))

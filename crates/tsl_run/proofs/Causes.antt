@@ -1,10 +1,10 @@
 -- The cause of each outcome, whatever the inputs hold.
-use Rattle.std.proofs.Common.{◌≡◌, ℕ, All, List, [], ◌∷◌, ◌++◌, Option, Some, None, IsTrue, refl, sym, subst, arith}
+use Rattle.std.proofs.Common.{◌≡◌, ℕ, All, List, [], ◌∷◌, ◌++◌, Option, Some, None, IsTrue, append_assoc, refl, sym, subst, arith}
 use Rattle.std.specs.Prelude.{Contains, Result, Ok, Err}
 use Rattle.std.proofs.lemmas.List.Elements.{All-cons, All-contains, All-nil, Contains-append_left, Contains-append_right}
 use Rattle.tsl_io.specs.InputState.{InputState}
 use Rattle.command_words.specs.Code.{Code, CodePart}
-use Rattle.command_words.specs.Requests.{AnalyseRequest, CallRequest, EmulateRequest, ListRequest, Request, call, emulate, analyse, list}
+use Rattle.command_words.specs.Requests.{AnalyseRequest, CallRequest, CheckRequest, ClaimsRequest, ConvertRequest, EmulateRequest, ListRequest, Request, SliceRequest, call, emulate, analyse, check, convert, list, slice, claims}
 use Rattle.command_words.specs.SpecNames.{SpecName, input, power_pc, risc_v}
 use Rattle.function_calls.specs.Calls as calls
 use Rattle.function_calls.specs.Calls.{call_end, spent, value, value_line}
@@ -18,28 +18,33 @@ use Rattle.spec_types.specs.Specification.{Spec}
 use Rattle.state_text.specs.declared.entry_error.EntryError.{EntryError}
 use Rattle.state_text.specs.Reading.{Entry, read}
 use Rattle.tsl_values.specs.States.{State}
-use Rattle.run_steps.specs.Outcome.{Outcome, Refusal, bad_words, not_built, cannot_read, too_long, spec_refused, code_refused, entry_refused, calls_spent, undecodable_at, too_many_targets}
+use Rattle.run_steps.specs.Outcome.{Outcome, Refusal, bad_words, not_built, cannot_read, too_long, spec_refused, code_refused, entry_refused, calls_spent, undecodable_at, too_many_targets, table_refused, claims_refused, rejected}
 use Rattle.run_steps.specs.Reading as reading
 use Rattle.run_steps.specs.Reading.{Capped, CouldNotRead, Gave}
 use Rattle.run_steps.specs.Sources.{IsSpecification, SourceOf, Specifies, source_cap, source_inputs}
 use Rattle.run_steps.specs.Steps.{Then, refused, goes_on}
-use Rattle.run_analyse.specs.Entry.{Enters, EntryOf}
-use Rattle.posed_problems.specs.Problems.{problem_of}
-use Rattle.run_analyse.specs.Steps.{AnalyseSteps, AnalysisOf}
-use Rattle.run_analyse.proofs.Chain as analysis
 use Rattle.run_emulate.specs.Code.{CodeOf, Images, Joins, SegmentsOf, code_cap, imaged, order_of, part_inputs}
 use Rattle.run_emulate.specs.Entry.{StartOf, StartsFrom, entered, entry_cap, state_in}
 use Rattle.run_emulate.specs.Machines.{MachineOf}
 use Rattle.run_emulate.specs.Running.{Runs}
 use Rattle.run_emulate.specs.Steps.{EmulateSteps, ListSteps}
 use Rattle.run_emulate.proofs.Chains.{AfterCode, AfterMachine, AfterStart, Lists, ListsOf, Rest}
-use Rattle.tsl_run.specs.Possible.{Analyses, Answers, IsAnalysed}
+use Rattle.run_tables.specs.Steps.{AnalyseSteps, AnalysisOf, CheckOf, CheckSteps, ClaimsOf, ClaimsSteps, ConversionOf, ConvertSteps, SliceOf, SliceSteps, analyse_inputs, check_inputs}
+use Rattle.run_tables.proofs.Chains.{both_behind, claims_behind, table_behind}
+use Rattle.analysis_domains.proofs.Verdicts.{MayStop}
+use Rattle.run_tables.proofs.Stops.{analysis_stops, check_stops, claims_stop, conversion_stops, slice_stops}
+use Rattle.slice_text.specs.Asked.{asked}
+use Rattle.slice_text.specs.declared.asked.Asked.{Asked}
+use Rattle.table_inputs.specs.Cells.{CellOf, some_cell}
+use Rattle.table_inputs.specs.Entry.{Enters, EntryOf}
+use Rattle.table_inputs.specs.Inputs.{Coded, CodedOf, Posed, PosedOf, PosedWith, Sought, SoughtOf, claims_cap, coded_inputs, posed_inputs, table_cap}
+use Rattle.table_inputs.proofs.Chains.{code_behind, entry_behind, entry_with, posed_and_cell, sought_behind}
+use Rattle.tsl_run.specs.Possible.{Answers, MayBeBad, MayComeTo}
 use Rattle.tsl_run.specs.Steps.{CallSteps, Steps, answered}
-use Rattle.tsl_run.specs.Words.{capped_in, has_code, has_entry, names_in, names_of}
+use Rattle.tsl_run.specs.Words.{IsUnbuilt, capped_in, has_code, has_entry, names_in, names_of}
 use Rattle.tsl_run.proofs.Chain.{Called, Ended}
 use Rattle.tsl_run.proofs.Giving.{is_accepted}
 use Rattle.tsl_run.proofs.Others.{only}
-use Rattle.tsl_run.proofs.Stops.{MayStop, stops}
 
 -- ---- names
 
@@ -71,16 +76,19 @@ module _ {A B : Type 0} (first : Result A Refusal → Type 0) (next : A → Resu
 
 module _ (old new : InputState) (what : Option Request) where
   abbrev pub Cause : Refusal → Type 0
-  Cause bad_words = Unit {0}
-  Cause not_built = Unit {0}
+  Cause bad_words = MayBeBad what
+  Cause not_built = IsUnbuilt what
   Cause (cannot_read name) = Contains (names_in what) name × CouldNotRead old new name
   Cause (too_long name) = Contains (names_in what) name
   Cause (spec_refused fault) = Unit {0}
   Cause (code_refused fault) = IsTrue (has_code what)
   Cause (entry_refused fault) = IsTrue (has_entry what)
   Cause calls_spent = Unit {0}
-  Cause (undecodable_at at word) = Analyses what (Err (undecodable_at at word))
-  Cause (too_many_targets at shown) = Analyses what (Err (too_many_targets at shown))
+  Cause (undecodable_at at word) = MayComeTo what (Err (undecodable_at at word))
+  Cause (too_many_targets at shown) = MayComeTo what (Err (too_many_targets at shown))
+  Cause (table_refused fault) = MayComeTo what (Err (table_refused fault))
+  Cause (claims_refused fault) = MayComeTo what (Err (claims_refused fault))
+  Cause (rejected rejection) = MayComeTo what (Err (rejected rejection))
 
   abbrev KnowsCause : {A : Type 0} → Result A Refusal → Type 0
   KnowsCause found = Knows Cause Anything found
@@ -107,8 +115,8 @@ module _ (old new : InputState) (what : Option Request) where
 
   specified_known : (wanted : Use) (source : List ℕ) (found : Result Spec Refusal) → Specifies wanted source found → KnowsCause found
   specified_known wanted source (Ok spec) p = tt
-  specified_known wanted source (Err bad_words) p = tt
-  specified_known wanted source (Err not_built) p = tt
+  specified_known wanted source (Err bad_words) p = absurd p
+  specified_known wanted source (Err not_built) p = absurd p
   specified_known wanted source (Err (cannot_read name)) p = absurd p
   specified_known wanted source (Err (too_long name)) p = absurd p
   specified_known wanted source (Err (spec_refused fault)) p = tt
@@ -117,6 +125,9 @@ module _ (old new : InputState) (what : Option Request) where
   specified_known wanted source (Err calls_spent) p = tt
   specified_known wanted source (Err (undecodable_at at word)) p = absurd p
   specified_known wanted source (Err (too_many_targets at shown)) p = absurd p
+  specified_known wanted source (Err (table_refused fault)) p = absurd p
+  specified_known wanted source (Err (claims_refused fault)) p = absurd p
+  specified_known wanted source (Err (rejected rejection)) p = absurd p
 
   machine_known : (spec : SpecName) → Among (source_inputs spec) → (found : Result Spec Refusal) → MachineOf (Gave old new) spec found → KnowsCause found
   machine_known spec among found steps =
@@ -163,20 +174,87 @@ module _ (old new : InputState) (what : Option Request) where
   entry_known has spec name among found steps =
       both_know (Gave old new entry_cap name) (Enters spec) Cause Anything (reading_known entry_cap name (among (name, entry_cap) (only (name, entry_cap)))) (λ bytes gave found further. enters_known has spec bytes found further) found steps
 
+  coded_known : IsTrue (has_code what) → (spec : SpecName) (code : Code) → Among (coded_inputs spec code) → (found : Result Coded Refusal) → CodedOf (Gave old new) spec code found → KnowsCause found
+  coded_known has spec code among found steps =
+      let sources = source_inputs spec in
+      let parts = part_inputs code.parts in
+      both_know (MachineOf (Gave old new) spec) (λ s. code_behind code s (Gave old new)) Cause Anything (machine_known spec (first_among sources parts among)) (λ s specified.
+      both_know (CodeOf (Gave old new) code) (λ image found. found ≡ Ok (record { spec = s; image = image })) Cause Anything (code_known has code (behind_among sources parts among)) (λ image imaged found is.
+      subst (λ (f : Result Coded Refusal). KnowsCause f) (sym is) tt)) found steps
+
+  posed_known : IsTrue (has_code what) → IsTrue (has_entry what) → (spec : SpecName) (code : Code) (entry : List ℕ) → Among (posed_inputs spec code entry) → (found : Result Posed Refusal) → PosedOf (Gave old new) spec code entry found → KnowsCause found
+  posed_known has enters spec code entry among found steps =
+      let coded = coded_inputs spec code in
+      let rest = (entry, entry_cap) ∷ [] in
+      both_know (CodedOf (Gave old new) spec code) (λ c. entry_behind entry c (Gave old new)) Cause Anything (coded_known has spec code (first_among coded rest among)) (λ c is_coded.
+      both_know (EntryOf (Gave old new) c.spec entry) (λ e found. found ≡ Ok (record { spec = c.spec; image = c.image; entry = e })) Cause Anything (entry_known enters c.spec entry (behind_among coded rest among)) (λ e entered found is.
+      subst (λ (f : Result Posed Refusal). KnowsCause f) (sym is) tt)) found steps
+
+  posed_with_known : IsTrue (has_code what) → IsTrue (has_entry what) → (spec : Spec) (code : Code) (entry : List ℕ) → Among (part_inputs code.parts ++ (entry, entry_cap) ∷ []) → (found : Result Posed Refusal)
+      → PosedWith (Gave old new) spec code entry found → KnowsCause found
+  posed_with_known has enters spec code entry among found steps =
+      let parts = part_inputs code.parts in
+      let rest = (entry, entry_cap) ∷ [] in
+      both_know (CodeOf (Gave old new) code) (λ image. entry_with code entry spec image (Gave old new)) Cause Anything (code_known has code (first_among parts rest among)) (λ image imaged.
+      both_know (EntryOf (Gave old new) spec entry) (λ e found. found ≡ Ok (record { spec = spec; image = image; entry = e })) Cause Anything (entry_known enters spec entry (behind_among parts rest among)) (λ e entered found is.
+      subst (λ (f : Result Posed Refusal). KnowsCause f) (sym is) tt)) found steps
+
+  -- a cell, where the words may be bad if the states have none
+  cell_known : (spec : Spec) (cell : List ℕ) → ((s : Spec) → asked s cell ≡ None → MayBeBad what) → (found : Result Asked Refusal) → CellOf spec cell found → KnowsCause found
+  cell_known spec cell bad found is = subst (λ (f : Result Asked Refusal). KnowsCause f) (sym is) (by (asked spec cell) refl)
+    where
+      by : (cells : Option Asked) → asked spec cell ≡ cells → KnowsCause (some_cell cells)
+      by None none = bad spec none
+      by (Some one) there = tt
+
+  sought_known : IsTrue (has_code what) → IsTrue (has_entry what) → (spec : SpecName) (cell : List ℕ) (code : Code) (entry : List ℕ) → ((s : Spec) → asked s cell ≡ None → MayBeBad what) → Among (posed_inputs spec code entry)
+      → (found : Result Sought Refusal) → SoughtOf (Gave old new) spec cell code entry found → KnowsCause found
+  sought_known has enters spec cell code entry bad among found steps =
+      let sources = source_inputs spec in
+      let parts = part_inputs code.parts in
+      let rest = (entry, entry_cap) ∷ [] in
+      let behind : Among (parts ++ rest) = behind_among sources (parts ++ rest) (subst (λ (xs : List Capped). Among xs) (append_assoc sources parts rest) among) in
+      both_know (MachineOf (Gave old new) spec) (λ s. sought_behind cell code entry s (Gave old new)) Cause Anything (machine_known spec (first_among sources parts (first_among (sources ++ parts) rest among))) (λ s specified.
+      both_know (CellOf s cell) (λ a. posed_and_cell cell code entry s a (Gave old new)) Cause Anything (cell_known s cell bad) (λ a is_asked.
+      both_know (PosedWith (Gave old new) s code entry) (λ posed found. found ≡ Ok (record { posed = posed; asked = a })) Cause Anything (posed_with_known has enters s code entry behind) (λ posed is_posed found is.
+      subst (λ (f : Result Sought Refusal). KnowsCause f) (sym is) tt))) found steps
+
+  -- a table, of whose bytes something is made
+  table_known : (name : List ℕ) (made : List ℕ → Outcome → Type 0) → Among ((name, table_cap) ∷ []) → ((bytes : List ℕ) (outcome : Outcome) → made bytes outcome → Knows Cause (Answers what) outcome)
+      → (outcome : Outcome) → table_behind name made (Gave old new) outcome → Knows Cause (Answers what) outcome
+  table_known name made among by_bytes outcome steps =
+      both_know (Gave old new table_cap name) made Cause (Answers what) (reading_known table_cap name (among (name, table_cap) (only (name, table_cap)))) (λ bytes gave found further. by_bytes bytes found further) outcome steps
+
+  -- a table and claims, of whose bytes something is made
+  claims_known : (table second : List ℕ) (made : List ℕ → List ℕ → Outcome → Type 0) → Among ((table, table_cap) ∷ []) → Among ((second, claims_cap) ∷ [])
+      → ((bytes others : List ℕ) (outcome : Outcome) → made bytes others outcome → Knows Cause (Answers what) outcome) → (outcome : Outcome) → both_behind table second made (Gave old new) outcome → Knows Cause (Answers what) outcome
+  claims_known table second made among further by_bytes outcome steps =
+      both_know (Gave old new table_cap table) (λ bytes. claims_behind second (made bytes) (Gave old new)) Cause (Answers what) (reading_known table_cap table (among (table, table_cap) (only (table, table_cap)))) (λ bytes gave.
+      both_know (Gave old new claims_cap second) (made bytes) Cause (Answers what) (reading_known claims_cap second (further (second, claims_cap) (only (second, claims_cap)))) (λ others given found is. by_bytes bytes others found is)) outcome steps
+
+  -- what may stop work on a table has its cause in that work
+  stop_known : (refusal : Refusal) → MayStop refusal → MayComeTo what (Err refusal) → Cause refusal
+  stop_known (undecodable_at at word) may is = is
+  stop_known (too_many_targets at shown) may is = is
+  stop_known (table_refused fault) may is = is
+  stop_known (claims_refused fault) may is = is
+  stop_known (rejected rejection) may is = is
+  stop_known _ may is = absurd may
+
 -- ---- the commands
 
 module _ (old new : InputState) where
   abbrev pub Caused : Option Request → Outcome → Type 0
   Caused what outcome = Knows (Cause old new what) (Answers what) outcome
 
-  unbuilt_known : (what : Option Request) (outcome : Outcome) → outcome ≡ Err not_built → Caused what outcome
-  unbuilt_known what outcome is = subst (λ (o : Outcome). Caused what o) (sym is) tt
+  unbuilt_known : (what : Option Request) (outcome : Outcome) → IsUnbuilt what → outcome ≡ Err not_built → Caused what outcome
+  unbuilt_known what outcome unbuilt is = subst (λ (o : Outcome). Caused what o) (sym is) unbuilt
 
   ended_known : (request : CallRequest) (source : List ℕ) (spec : Spec) → IsSpecification Library source spec
       → (end : calls.End) → call_end spec request.calls request.fun request.numbers ≡ end → Caused (Some (call request)) (answered end)
   ended_known request source spec specified (value v) is =
       record { value = v; written = values_are_written spec request.calls request.fun request.numbers v (is_accepted Library source spec specified) is; line = refl }
-  ended_known request source spec specified calls.bad_words is = tt
+  ended_known request source spec specified calls.bad_words is = (spec, is)
   ended_known request source spec specified spent is = tt
 
   call_known : (request : CallRequest) (outcome : Outcome) → CallSteps (Gave old new) request outcome → Caused (Some (call request)) outcome
@@ -204,29 +282,79 @@ module _ (old new : InputState) where
       (start_known old new what refl spec request.entry (behind_among old new what (sources ++ parts) entry (λ x named. named))) (λ start started found further.
       run_known request spec image start found further))) outcome steps
 
-  stop_known : (request : AnalyseRequest) (refusal : Refusal) → MayStop refusal → IsAnalysed request (Err refusal) → Cause old new (Some (analyse request)) refusal
-  stop_known request (undecodable_at at word) may is = is
-  stop_known request (too_many_targets at shown) may is = is
-  stop_known request _ may is = absurd may
-
-  analysed_known : (request : AnalyseRequest) (spec : Spec) (image : Image) (entry : Entry) (outcome : Outcome) → AnalysisOf request.base request.limit spec image entry outcome → Caused (Some (analyse request)) outcome
-  analysed_known request spec image entry (Ok answer) is = record { spec = spec; image = image; entry = entry; analysed = is }
-  analysed_known request spec image entry (Err refusal) is =
-      stop_known request refusal (stops image (problem_of spec is.machine image entry request.limit) request.base refusal is.analysed) (record { spec = spec; image = image; entry = entry; analysed = is })
+  analysed_known : (request : AnalyseRequest) (posed : Posed) (outcome : Outcome) → AnalysisOf request.base request.limit posed outcome → Caused (Some (analyse request)) outcome
+  analysed_known request posed (Ok answer) is = record { posed = posed; analysed = is }
+  analysed_known request posed (Err refusal) is =
+      stop_known old new (Some (analyse request)) refusal (analysis_stops request.base request.limit posed refusal is) (record { posed = posed; analysed = is })
 
   analyse_known : (request : AnalyseRequest) (outcome : Outcome) → AnalyseSteps (Gave old new) request outcome → Caused (Some (analyse request)) outcome
   analyse_known request outcome steps =
       let what = Some (analyse request) in
-      let sources = source_inputs request.spec in
-      let parts = part_inputs request.code.parts in
-      let entry = (request.entry, entry_cap) ∷ [] in
-      both_know (MachineOf (Gave old new) request.spec) (analysis.AfterMachine (Gave old new) request) (Cause old new what) (Answers what)
-      (machine_known old new what request.spec (first_among old new what sources parts (first_among old new what (sources ++ parts) entry (λ x named. named)))) (λ spec specified.
-      both_know (CodeOf (Gave old new) request.code) (analysis.AfterCode (Gave old new) request spec) (Cause old new what) (Answers what)
-      (code_known old new what refl request.code (behind_among old new what sources parts (first_among old new what (sources ++ parts) entry (λ x named. named)))) (λ image is_image.
-      both_know (EntryOf (Gave old new) spec request.entry) (analysis.AfterEntry (Gave old new) request spec image) (Cause old new what) (Answers what)
-      (entry_known old new what refl spec request.entry (behind_among old new what (sources ++ parts) entry (λ x named. named))) (λ entry entered found is.
-      analysed_known request spec image entry found is))) outcome steps
+      both_know (PosedOf (Gave old new) request.spec request.code request.entry) (AnalysisOf request.base request.limit) (Cause old new what) (Answers what)
+      (posed_known old new what refl refl request.spec request.code request.entry (λ x named. named)) (λ posed is_posed found is. analysed_known request posed found is) outcome steps
+
+  checked_known : (request : CheckRequest) (posed : Posed) (bytes : List ℕ) (outcome : Outcome) → CheckOf request.analysis.base request.analysis.limit posed bytes outcome → Caused (Some (check request)) outcome
+  checked_known request posed bytes (Ok answer) is = record { posed = posed; bytes = bytes; checked = is }
+  checked_known request posed bytes (Err refusal) is =
+      stop_known old new (Some (check request)) refusal (check_stops request.analysis.base request.analysis.limit posed bytes refusal is) (record { posed = posed; bytes = bytes; checked = is })
+
+  check_known : (request : CheckRequest) (outcome : Outcome) → CheckSteps (Gave old new) request outcome → Caused (Some (check request)) outcome
+  check_known request outcome steps =
+      let what = Some (check request) in
+      let wanted = request.analysis in
+      let posed = analyse_inputs wanted in
+      let table = (request.table, table_cap) ∷ [] in
+      both_know (PosedOf (Gave old new) wanted.spec wanted.code wanted.entry) (λ p. table_behind request.table (CheckOf wanted.base wanted.limit p) (Gave old new)) (Cause old new what) (Answers what)
+      (posed_known old new what refl refl wanted.spec wanted.code wanted.entry (first_among old new what posed table (λ x named. named))) (λ p is_posed found further.
+      table_known old new what request.table (CheckOf wanted.base wanted.limit p) (behind_among old new what posed table (λ x named. named)) (checked_known request p) found further) outcome steps
+
+  converted_known : (request : ConvertRequest) (coded : Coded) (bytes : List ℕ) (outcome : Outcome) → ConversionOf request.base coded bytes outcome → Caused (Some (convert request)) outcome
+  converted_known request coded bytes (Ok answer) is = record { coded = coded; bytes = bytes; converted = is }
+  converted_known request coded bytes (Err refusal) is =
+      stop_known old new (Some (convert request)) refusal (conversion_stops request.base coded bytes refusal is) (record { coded = coded; bytes = bytes; converted = is })
+
+  convert_known : (request : ConvertRequest) (outcome : Outcome) → ConvertSteps (Gave old new) request outcome → Caused (Some (convert request)) outcome
+  convert_known request outcome steps =
+      let what = Some (convert request) in
+      let coded = coded_inputs request.spec request.code in
+      let table = (request.table, table_cap) ∷ [] in
+      both_know (CodedOf (Gave old new) request.spec request.code) (λ c. table_behind request.table (ConversionOf request.base c) (Gave old new)) (Cause old new what) (Answers what)
+      (coded_known old new what refl request.spec request.code (first_among old new what coded table (λ x named. named))) (λ c is_coded found further.
+      table_known old new what request.table (ConversionOf request.base c) (behind_among old new what coded table (λ x named. named)) (converted_known request c) found further) outcome steps
+
+  sliced_known : (request : SliceRequest) (sought : Sought) (bytes : List ℕ) (outcome : Outcome) → SliceOf request.check.analysis.base request.check.analysis.limit sought request.address bytes outcome → Caused (Some (slice request)) outcome
+  sliced_known request sought bytes (Ok answer) is = record { sought = sought; bytes = bytes; sliced = is }
+  sliced_known request sought bytes (Err refusal) is =
+      stop_known old new (Some (slice request)) refusal (slice_stops request.check.analysis.base request.check.analysis.limit sought request.address bytes refusal is) (record { sought = sought; bytes = bytes; sliced = is })
+
+  slice_known : (request : SliceRequest) (outcome : Outcome) → SliceSteps (Gave old new) request outcome → Caused (Some (slice request)) outcome
+  slice_known request outcome steps =
+      let what = Some (slice request) in
+      let wanted = request.check.analysis in
+      let posed = analyse_inputs wanted in
+      let table = (request.check.table, table_cap) ∷ [] in
+      let made = λ (s : Sought). SliceOf wanted.base wanted.limit s request.address in
+      both_know (SoughtOf (Gave old new) wanted.spec request.cell wanted.code wanted.entry) (λ s. table_behind request.check.table (made s) (Gave old new)) (Cause old new what) (Answers what)
+      (sought_known old new what refl refl wanted.spec request.cell wanted.code wanted.entry (λ s none. (s, none)) (first_among old new what posed table (λ x named. named))) (λ s is_sought found further.
+      table_known old new what request.check.table (made s) (behind_among old new what posed table (λ x named. named)) (sliced_known request s) found further) outcome steps
+
+  claimed_known : (request : ClaimsRequest) (posed : Posed) (table_bytes claims_bytes : List ℕ) (outcome : Outcome) → ClaimsOf request.check.analysis.base request.check.analysis.limit posed table_bytes claims_bytes outcome → Caused (Some (claims request)) outcome
+  claimed_known request posed table found (Ok answer) is = record { posed = posed; table_bytes = table; claims_bytes = found; claimed = is }
+  claimed_known request posed table found (Err refusal) is =
+      stop_known old new (Some (claims request)) refusal (claims_stop request.check.analysis.base request.check.analysis.limit posed table found refusal is) (record { posed = posed; table_bytes = table; claims_bytes = found; claimed = is })
+
+  claim_known : (request : ClaimsRequest) (outcome : Outcome) → ClaimsSteps (Gave old new) request outcome → Caused (Some (claims request)) outcome
+  claim_known request outcome steps =
+      let what = Some (claims request) in
+      let wanted = request.check.analysis in
+      let posed = analyse_inputs wanted in
+      let table = (request.check.table, table_cap) ∷ [] in
+      let rest = (request.claims, claims_cap) ∷ [] in
+      let front = first_among old new what (check_inputs request.check) rest (λ x named. named) in
+      both_know (PosedOf (Gave old new) wanted.spec wanted.code wanted.entry) (λ p. both_behind request.check.table request.claims (ClaimsOf wanted.base wanted.limit p) (Gave old new)) (Cause old new what) (Answers what)
+      (posed_known old new what refl refl wanted.spec wanted.code wanted.entry (first_among old new what posed table front)) (λ p is_posed found further.
+      claims_known old new what request.check.table request.claims (ClaimsOf wanted.base wanted.limit p) (behind_among old new what posed table front) (behind_among old new what (check_inputs request.check) rest (λ x named. named))
+      (claimed_known request p) found further) outcome steps
 
   list_known : (request : ListRequest) (outcome : Outcome) → ListSteps (Gave old new) request outcome → Caused (Some (list request)) outcome
   list_known request outcome steps =
@@ -244,5 +372,9 @@ module _ (old new : InputState) where
   asked_known (Some (call request)) outcome steps = call_known request outcome steps
   asked_known (Some (emulate request)) outcome steps = emulate_known request outcome steps
   asked_known (Some (analyse request)) outcome steps = analyse_known request outcome steps
+  asked_known (Some (check request)) outcome steps = check_known request outcome steps
+  asked_known (Some (convert request)) outcome steps = convert_known request outcome steps
   asked_known (Some (list request)) outcome steps = list_known request outcome steps
-  asked_known (Some other) outcome is = unbuilt_known (Some other) outcome is
+  asked_known (Some (slice request)) outcome steps = slice_known request outcome steps
+  asked_known (Some (claims request)) outcome steps = claim_known request outcome steps
+  asked_known (Some other) outcome is = unbuilt_known (Some other) outcome refl is

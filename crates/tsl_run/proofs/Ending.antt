@@ -9,13 +9,14 @@ use Rattle.tsl_io.specs.SinkState.{SinkState, Appends, AppendsFront}
 use Rattle.run_steps.specs.declared.status.Status.{Status}
 use Rattle.run_steps.specs.declared.status.Status.TheVariants as s
 use Rattle.run_steps.specs.Outcome as answers
-use Rattle.run_steps.specs.Outcome.{Outcome, Refusal, bad_words, not_built, cannot_read, too_long, spec_refused, code_refused, entry_refused, calls_spent, undecodable_at, too_many_targets, line_of, status_of}
+use Rattle.run_steps.specs.Outcome.{Outcome, Refusal, bad_words, not_built, cannot_read, too_long, spec_refused, code_refused, entry_refused, calls_spent, undecodable_at, too_many_targets, table_refused, claims_refused, rejected, line_of, status_of}
 use Rattle.run_steps.specs.Reading as owing
 use Rattle.run_steps.specs.Reading.{CouldNotRead, Gave, Holds}
 use Rattle.run_steps.specs.Statuses.{IsAnswer}
 use Rattle.run_steps.proofs.Steps.{Fails}
-use Rattle.command_words.specs.Requests.{AnalyseRequest, Request, call, emulate, analyse, list}
+use Rattle.command_words.specs.Requests.{AnalyseRequest, CheckRequest, ClaimsRequest, Request, SliceRequest, call, emulate, analyse, check, convert, list, slice, claims}
 use Rattle.command_words.specs.Words.{asked}
+use Rattle.analysis_domains.specs.Checks.{accepted_line}
 use Rattle.tsl_run.specs.Follows.{Due, EndsAsOwed, EndsWith, FinishesAsOwed, IsCut, Unread, owed, unread}
 use Rattle.tsl_run.specs.Laws.{EndsFollow}
 use Rattle.tsl_run.specs.Output as output
@@ -24,12 +25,12 @@ use Rattle.tsl_run.specs.Owed.{ComesTo, IsOwed, Owes}
 use Rattle.tsl_run.specs.Possible as possible
 use Rattle.tsl_run.specs.Possible.{IsLineOf, IsPossible}
 use Rattle.tsl_run.specs.Steps.{Steps}
-use Rattle.tsl_run.specs.Tables.{IsTableFor}
+use Rattle.tsl_run.specs.Tables.{AreClaimsFor, IsAcceptedFor, IsSliceFor, IsTableFor}
 use Rattle.tsl_run.specs.Words.{IsUnbuilt, capped_in, input_names, names_in}
 use Rattle.tsl_run.proofs.Causes.{Caused, asked_known, is_named}
 use Rattle.tsl_run.proofs.Exists.{some_answer}
 use Rattle.tsl_run.proofs.Others.{asked_either}
-use Rattle.tsl_run.proofs.Tables.{owed_table}
+use Rattle.tsl_run.proofs.Tables.{owed_acceptance, owed_claims, owed_slice, owed_table}
 use Rattle.tsl_run.proofs.Unique.{one_answer}
 
 -- ---- the cause of each outcome
@@ -40,8 +41,8 @@ module _ (words : List (List ℕ)) (old new : InputState) where
 
   possible_outcome : (what : Option Request) (outcome : Outcome) → Caused old new what outcome → IsPossible what outcome
   possible_outcome what (Ok answer) cause = possible.answered cause
-  possible_outcome what (Err bad_words) cause = possible.bad_words
-  possible_outcome what (Err not_built) cause = possible.not_built
+  possible_outcome what (Err bad_words) cause = possible.bad_words cause
+  possible_outcome what (Err not_built) cause = possible.not_built cause
   possible_outcome what (Err (cannot_read name)) cause = possible.cannot_read cause.0
   possible_outcome what (Err (too_long name)) cause = possible.too_long cause
   possible_outcome what (Err (spec_refused fault)) cause = possible.spec_refused
@@ -50,6 +51,9 @@ module _ (words : List (List ℕ)) (old new : InputState) where
   possible_outcome what (Err calls_spent) cause = possible.calls_spent
   possible_outcome what (Err (undecodable_at at word)) cause = possible.undecodable_at cause
   possible_outcome what (Err (too_many_targets at shown)) cause = possible.too_many_targets cause
+  possible_outcome what (Err (table_refused fault)) cause = possible.table_refused cause
+  possible_outcome what (Err (claims_refused fault)) cause = possible.claims_refused cause
+  possible_outcome what (Err (rejected rejection)) cause = possible.rejected cause
 
   line_of_outcome : (outcome : Outcome) → ComesTo words old new outcome → IsLineOf words (status_of outcome) (line_of outcome)
   line_of_outcome outcome comes = record { outcome = outcome; possible = possible_outcome (asked words) outcome (caused outcome comes); has_status = refl; has_line = refl }
@@ -70,6 +74,9 @@ module _ (words : List (List ℕ)) (old new : InputState) where
   unread_outcome (Err calls_spent) comes is = absurd (cc)
   unread_outcome (Err (undecodable_at at word)) comes is = absurd (cc)
   unread_outcome (Err (too_many_targets at shown)) comes is = absurd (cc)
+  unread_outcome (Err (table_refused fault)) comes is = absurd (cc)
+  unread_outcome (Err (claims_refused fault)) comes is = absurd (cc)
+  unread_outcome (Err (rejected rejection)) comes is = absurd (cc)
 
 -- ---- what is owed
 
@@ -143,6 +150,9 @@ module _ (words : List (List ℕ)) (old new : InputState) (told : IsTrue old.tel
   due_outcome (Err calls_spent) comes = owed (λ e. cc) (owes_outcome (Err calls_spent) (comes_owed (Err calls_spent) comes (λ e. cc)))
   due_outcome (Err (undecodable_at at word)) comes = owed (λ e. cc) (owes_outcome (Err (undecodable_at at word)) (comes_owed (Err (undecodable_at at word)) comes (λ e. cc)))
   due_outcome (Err (too_many_targets at shown)) comes = owed (λ e. cc) (owes_outcome (Err (too_many_targets at shown)) (comes_owed (Err (too_many_targets at shown)) comes (λ e. cc)))
+  due_outcome (Err (table_refused fault)) comes = owed (λ e. cc) (owes_outcome (Err (table_refused fault)) (comes_owed (Err (table_refused fault)) comes (λ e. cc)))
+  due_outcome (Err (claims_refused fault)) comes = owed (λ e. cc) (owes_outcome (Err (claims_refused fault)) (comes_owed (Err (claims_refused fault)) comes (λ e. cc)))
+  due_outcome (Err (rejected rejection)) comes = owed (λ e. cc) (owes_outcome (Err (rejected rejection)) (comes_owed (Err (rejected rejection)) comes (λ e. cc)))
 
   -- where an input fails only because there is nothing to read, what comes is owed
   module _ (none : (name : List ℕ) → Contains (input_names words) name → CouldNotRead old new name → old.held name ≡ None) where
@@ -165,6 +175,9 @@ no_write_fault (Err (entry_refused fault)) is = cc
 no_write_fault (Err calls_spent) is = cc
 no_write_fault (Err (undecodable_at at word)) is = cc
 no_write_fault (Err (too_many_targets at shown)) is = cc
+no_write_fault (Err (table_refused fault)) is = cc
+no_write_fault (Err (claims_refused fault)) is = cc
+no_write_fault (Err (rejected rejection)) is = cc
 
 no_ok : (refusal : Refusal) → status_of (Err refusal) ≡ s.Ok → ⊥
 no_ok bad_words is = cc
@@ -177,6 +190,9 @@ no_ok (entry_refused fault) is = cc
 no_ok calls_spent is = cc
 no_ok (undecodable_at at word) is = cc
 no_ok (too_many_targets at shown) is = cc
+no_ok (table_refused fault) is = cc
+no_ok (claims_refused fault) is = cc
+no_ok (rejected rejection) is = cc
 
 no_answer : (status other : Status) → status ≡ other → IsAnswer status → IsAnswer other
 no_answer status other is answer = subst IsAnswer is answer
@@ -195,7 +211,11 @@ not_built_by old new None unbuilt outcome is = absurd unbuilt
 not_built_by old new (Some (call request)) unbuilt outcome steps = absurd (cc)
 not_built_by old new (Some (emulate request)) unbuilt outcome steps = absurd (cc)
 not_built_by old new (Some (analyse request)) unbuilt outcome steps = absurd (cc)
+not_built_by old new (Some (check request)) unbuilt outcome steps = absurd (cc)
+not_built_by old new (Some (convert request)) unbuilt outcome steps = absurd (cc)
 not_built_by old new (Some (list request)) unbuilt outcome steps = absurd (cc)
+not_built_by old new (Some (slice request)) unbuilt outcome steps = absurd (cc)
+not_built_by old new (Some (claims request)) unbuilt outcome steps = absurd (cc)
 not_built_by old new (Some _) unbuilt outcome is = is
 
 asks_not_built : (words : List (List ℕ)) (old new : InputState) (outcome : Outcome) → IsUnbuilt (asked words) → ComesTo words old new outcome → outcome ≡ Err not_built
@@ -282,20 +302,41 @@ module _ (words : List (List ℕ)) (old new : InputState) (sink_old sink_new : S
     ]
   ]
 
-  -- where an analysis ends well
-  by_table : IsTrue old.tells → (request : AnalyseRequest) → asked words ≡ Some (analyse request) → result ≡ s.Ok → End
-      → (text : List ℕ) × IsTableFor old.held request text × Appends sink_old sink_new text
-  by_table told request asks ok (output.written outcome comes is appends) = of_text outcome comes (sym is ∙ ok) appends
+  -- where a run ends well, its outcome is a text
+  of_ok : IsTrue old.tells → result ≡ s.Ok → End → (bytes : List ℕ) × IsOwed words old.held (Ok (answers.text bytes)) × Appends sink_old sink_new bytes
+  of_ok told ok (output.written outcome comes is appends) = of_text outcome comes (sym is ∙ ok) appends
     where
       of_text : (outcome : Outcome) → ComesTo words old new outcome → status_of outcome ≡ s.Ok → Appends sink_old sink_new (line_of outcome)
-          → (text : List ℕ) × IsTableFor old.held request text × Appends sink_old sink_new text
-      of_text (Ok (answers.text bytes)) comes is appends =
-          (bytes, owed_table words old.held request bytes asks (comes_owed words old new told (Ok (answers.text bytes)) comes (λ e. cc)), appends)
+          → (bytes : List ℕ) × IsOwed words old.held (Ok (answers.text bytes)) × Appends sink_old sink_new bytes
+      of_text (Ok (answers.text bytes)) comes is appends = (bytes, comes_owed words old new told (Ok (answers.text bytes)) comes (λ e. cc), appends)
       of_text (Ok (answers.undecodable bytes)) comes is appends = absurd (cc)
       of_text (Ok (answers.calls_ended bytes)) comes is appends = absurd (cc)
       of_text (Err refusal) comes is appends = absurd (no_ok refusal is)
-  by_table told request asks ok (output.cut outcome comes is no_room front) = absurd (let wrong : s.Ok ≡ s.WriteFault = sym ok ∙ is in cc)
-  by_table told request asks ok (output.no_memory is) = absurd (let wrong : s.Ok ≡ s.NoMemory = sym ok ∙ is in cc)
+  of_ok told ok (output.cut outcome comes is no_room front) = absurd (let wrong : s.Ok ≡ s.WriteFault = sym ok ∙ is in cc)
+  of_ok told ok (output.no_memory is) = absurd (let wrong : s.Ok ≡ s.NoMemory = sym ok ∙ is in cc)
+
+  -- an analysis
+  by_table : IsTrue old.tells → (request : AnalyseRequest) → asked words ≡ Some (analyse request) → result ≡ s.Ok → End
+      → (text : List ℕ) × IsTableFor old.held request text × Appends sink_old sink_new text
+  by_table told request asks ok end = let found = of_ok told ok end in (found.0, owed_table words old.held request found.0 asks found.1, found.2)
+
+  -- a check
+  by_accepted : IsTrue old.tells → (request : CheckRequest) → asked words ≡ Some (check request) → result ≡ s.Ok → End
+      → IsAcceptedFor old.held request × Appends sink_old sink_new accepted_line
+  by_accepted told request asks ok end =
+      let found = of_ok told ok end in
+      let accepted = owed_acceptance words old.held request found.0 asks found.1 in
+      (accepted.0, as_text found.0 accepted_line accepted.1 found.2)
+
+  -- a slice
+  by_slice : IsTrue old.tells → (request : SliceRequest) → asked words ≡ Some (slice request) → result ≡ s.Ok → End
+      → (text : List ℕ) × IsSliceFor old.held request text × Appends sink_old sink_new text
+  by_slice told request asks ok end = let found = of_ok told ok end in (found.0, owed_slice words old.held request found.0 asks found.1, found.2)
+
+  -- claims
+  by_claims : IsTrue old.tells → (request : ClaimsRequest) → asked words ≡ Some (claims request) → result ≡ s.Ok → End
+      → (text : List ℕ) × AreClaimsFor old.held request text × Appends sink_old sink_new text
+  by_claims told request asks ok end = let found = of_ok told ok end in (found.0, owed_claims words old.held request found.0 asks found.1, found.2)
 
   unsure_names : All (λ name. IsTrue (old.sure name)) (input_names words) → (name : List ℕ) → Contains (input_names words) name → CouldNotRead old new name → ⊥
   unsure_names sure name named cause =
@@ -305,6 +346,9 @@ pub ends_follow : EndsFollow
 ends_follow words old new sink_old sink_new result end write_fault = record {
   answered = λ told answer. by_answered words old new sink_old sink_new result told answer end;
   table = λ told request asks ok. by_table words old new sink_old sink_new result told request asks ok end;
+  accepted = λ told request asks ok. by_accepted words old new sink_old sink_new result told request asks ok end;
+  sliced = λ told request asks ok. by_slice words old new sink_old sink_new result told request asks ok end;
+  claimed = λ told request asks ok. by_claims words old new sink_old sink_new result told request asks ok end;
   owed = λ told status text owes. by_owed words old new sink_old sink_new result told status text owes end;
   bad_words = λ asks. by_known words old new sink_old sink_new result (Err bad_words) (λ outcome comes. asks_bad words old new outcome asks comes) end;
   not_built = λ asks. by_known words old new sink_old sink_new result (Err not_built) (λ outcome comes. asks_not_built words old new outcome asks comes) end;

@@ -6,7 +6,6 @@ pub mod Exists
 pub mod Giving
 pub mod Others
 pub mod Parts
-pub mod Stops
 pub mod Tables
 pub mod Unique
 pub mod Whole

@@ -1,9 +1,9 @@
 -- Steps over inputs that give what others give, or fail.
-use Rattle.std.proofs.Common.{◌⊎◌, inl, ℕ, List, [], ◌∷◌, ◌++◌, Option, Some, None, refl, arith}
-use Rattle.std.specs.Prelude.{Contains, Result}
+use Rattle.std.proofs.Common.{◌≡◌, ◌⊎◌, inl, ℕ, List, [], ◌∷◌, ◌++◌, Option, Some, None, append_assoc, refl, subst, arith}
+use Rattle.std.specs.Prelude.{Contains, Result, Ok}
 use Rattle.std.proofs.lemmas.List.Elements.{Contains-append_left, Contains-append_right}
 use Rattle.command_words.specs.Code.{Code, CodePart}
-use Rattle.command_words.specs.Requests.{AnalyseRequest, CallRequest, EmulateRequest, ListRequest, Request, call, emulate, analyse, list}
+use Rattle.command_words.specs.Requests.{AnalyseRequest, CallRequest, CheckRequest, ClaimsRequest, ConvertRequest, EmulateRequest, ListRequest, Request, SliceRequest, call, emulate, analyse, check, convert, list, slice, claims}
 use Rattle.command_words.specs.SpecNames.{SpecName, input, power_pc, risc_v}
 use Rattle.insn_decode.specs.Image.{Image, Segment}
 use Rattle.spec_types.specs.declared.spec.Use.TheVariants.{Machine}
@@ -14,14 +14,17 @@ use Rattle.run_steps.specs.Outcome.{Outcome, Refusal}
 use Rattle.run_steps.specs.Reading.{Capped, Reading}
 use Rattle.run_steps.specs.Sources.{SourceOf, Specifies, source_cap, source_inputs}
 use Rattle.run_steps.proofs.Steps.{Fails, either}
-use Rattle.run_analyse.specs.Entry.{Enters, EntryOf}
-use Rattle.run_analyse.specs.Steps.{AnalyseSteps, analyse_inputs}
-use Rattle.run_analyse.proofs.Chain as analysis
 use Rattle.run_emulate.specs.Code.{CodeOf, Images, Joins, SegmentsOf, code_cap, order_of, part_inputs}
 use Rattle.run_emulate.specs.Entry.{StartOf, StartsFrom, entry_cap}
 use Rattle.run_emulate.specs.Machines.{MachineOf}
 use Rattle.run_emulate.specs.Steps.{EmulateSteps, ListSteps, emulate_inputs, list_inputs}
 use Rattle.run_emulate.proofs.Chains.{AfterCode, AfterMachine, AfterStart, Lists, ListsOf, Rest}
+use Rattle.run_tables.specs.Steps.{AnalyseSteps, AnalysisOf, CheckOf, CheckSteps, ClaimsOf, ClaimsSteps, ConversionOf, ConvertSteps, SliceOf, SliceSteps, analyse_inputs, check_inputs, claims_inputs, convert_inputs, slice_inputs}
+use Rattle.run_tables.proofs.Chains.{both_behind, claims_behind, table_behind}
+use Rattle.table_inputs.specs.Cells.{CellOf}
+use Rattle.table_inputs.specs.Entry.{Enters, EntryOf}
+use Rattle.table_inputs.specs.Inputs.{Coded, CodedOf, Posed, PosedOf, PosedWith, Sought, SoughtOf, claims_cap, coded_inputs, posed_inputs, table_cap}
+use Rattle.table_inputs.proofs.Chains.{code_behind, entry_behind, entry_with, posed_and_cell, sought_behind}
 use Rattle.tsl_run.specs.Steps.{CallSteps, Steps}
 use Rattle.tsl_run.specs.Words.{capped_in}
 use Rattle.tsl_run.proofs.Chain.{Called}
@@ -87,16 +90,91 @@ module _ (reads other : Reading) (fault : Refusal → Type 0) where
   entry_either spec name by found steps =
       either (reads entry_cap name) (other entry_cap name) (Enters spec) (Enters spec) fault (by entry_cap name (only (name, entry_cap))) (λ bytes found further. inl further) found steps
 
+  coded_either : (spec : SpecName) (code : Code) → Either (coded_inputs spec code) → (found : Result Coded Refusal) → CodedOf reads spec code found → CodedOf other spec code found ⊎ Fails fault found
+  coded_either spec code by found steps =
+      let sources = source_inputs spec in
+      let parts = part_inputs code.parts in
+      either (MachineOf reads spec) (MachineOf other spec) (λ s. code_behind code s reads) (λ s. code_behind code s other) fault (machine_either spec (first sources parts by)) (λ s.
+      either (CodeOf reads code) (CodeOf other code) (λ image found. found ≡ Ok (record { spec = s; image = image })) (λ image found. found ≡ Ok (record { spec = s; image = image })) fault (code_either code (behind sources parts by))
+      (λ image found further. inl further)) found steps
+
+  posed_either : (spec : SpecName) (code : Code) (entry : List ℕ) → Either (posed_inputs spec code entry) → (found : Result Posed Refusal) → PosedOf reads spec code entry found → PosedOf other spec code entry found ⊎ Fails fault found
+  posed_either spec code entry by found steps =
+      let coded = coded_inputs spec code in
+      let rest = (entry, entry_cap) ∷ [] in
+      either (CodedOf reads spec code) (CodedOf other spec code) (λ c. entry_behind entry c reads) (λ c. entry_behind entry c other) fault (coded_either spec code (first coded rest by)) (λ c.
+      either (EntryOf reads c.spec entry) (EntryOf other c.spec entry) (λ e found. found ≡ Ok (record { spec = c.spec; image = c.image; entry = e })) (λ e found. found ≡ Ok (record { spec = c.spec; image = c.image; entry = e })) fault
+      (entry_either c.spec entry (behind coded rest by)) (λ e found further. inl further)) found steps
+
+  posed_with_either : (spec : Spec) (code : Code) (entry : List ℕ) → Either (part_inputs code.parts ++ (entry, entry_cap) ∷ []) → (found : Result Posed Refusal) → PosedWith reads spec code entry found → PosedWith other spec code entry found ⊎ Fails fault found
+  posed_with_either spec code entry by found steps =
+      let parts = part_inputs code.parts in
+      let rest = (entry, entry_cap) ∷ [] in
+      either (CodeOf reads code) (CodeOf other code) (λ image. entry_with code entry spec image reads) (λ image. entry_with code entry spec image other) fault (code_either code (first parts rest by)) (λ image.
+      either (EntryOf reads spec entry) (EntryOf other spec entry) (λ e found. found ≡ Ok (record { spec = spec; image = image; entry = e })) (λ e found. found ≡ Ok (record { spec = spec; image = image; entry = e })) fault
+      (entry_either spec entry (behind parts rest by)) (λ e found further. inl further)) found steps
+
+  sought_either : (spec : SpecName) (cell : List ℕ) (code : Code) (entry : List ℕ) → Either (posed_inputs spec code entry) → (found : Result Sought Refusal) → SoughtOf reads spec cell code entry found → SoughtOf other spec cell code entry found ⊎ Fails fault found
+  sought_either spec cell code entry by found steps =
+      let sources = source_inputs spec in
+      let parts = part_inputs code.parts in
+      let rest = (entry, entry_cap) ∷ [] in
+      let further : Either (parts ++ rest) = behind sources (parts ++ rest) (subst (λ (xs : List Capped). Either xs) (append_assoc sources parts rest) by) in
+      either (MachineOf reads spec) (MachineOf other spec) (λ s. sought_behind cell code entry s reads) (λ s. sought_behind cell code entry s other) fault (machine_either spec (first sources parts (first (sources ++ parts) rest by))) (λ s.
+      either (CellOf s cell) (CellOf s cell) (λ a. posed_and_cell cell code entry s a reads) (λ a. posed_and_cell cell code entry s a other) fault (λ found is. inl is) (λ a.
+      either (PosedWith reads s code entry) (PosedWith other s code entry) (λ posed found. found ≡ Ok (record { posed = posed; asked = a })) (λ posed found. found ≡ Ok (record { posed = posed; asked = a })) fault
+      (posed_with_either s code entry further) (λ posed found is. inl is))) found steps
+
+  -- a table, of whose bytes something is made
+  table_either : (name : List ℕ) (made : List ℕ → Outcome → Type 0) → Either ((name, table_cap) ∷ []) → (outcome : Outcome) → table_behind name made reads outcome → table_behind name made other outcome ⊎ Fails fault outcome
+  table_either name made by outcome steps = either (reads table_cap name) (other table_cap name) made made fault (by table_cap name (only (name, table_cap))) (λ bytes found further. inl further) outcome steps
+
+  -- and claims behind it
+  claims_after_either : (table second : List ℕ) (made : List ℕ → List ℕ → Outcome → Type 0) → Either ((table, table_cap) ∷ []) → Either ((second, claims_cap) ∷ [])
+      → (outcome : Outcome) → both_behind table second made reads outcome → both_behind table second made other outcome ⊎ Fails fault outcome
+  claims_after_either table second made by further outcome steps =
+      either (reads table_cap table) (other table_cap table) (λ bytes. claims_behind second (made bytes) reads) (λ bytes. claims_behind second (made bytes) other) fault (by table_cap table (only (table, table_cap))) (λ bytes.
+      either (reads claims_cap second) (other claims_cap second) (made bytes) (made bytes) fault (further claims_cap second (only (second, claims_cap))) (λ others found is. inl is)) outcome steps
+
   analyse_either : (request : AnalyseRequest) → Either (analyse_inputs request) → (outcome : Outcome) → AnalyseSteps reads request outcome → AnalyseSteps other request outcome ⊎ Fails fault outcome
   analyse_either request by outcome steps =
-      let sources = source_inputs request.spec in
-      let parts = part_inputs request.code.parts in
-      let entry = (request.entry, entry_cap) ∷ [] in
-      let front = first (sources ++ parts) entry by in
-      either (MachineOf reads request.spec) (MachineOf other request.spec) (analysis.AfterMachine reads request) (analysis.AfterMachine other request) fault (machine_either request.spec (first sources parts front)) (λ spec.
-      either (CodeOf reads request.code) (CodeOf other request.code) (analysis.AfterCode reads request spec) (analysis.AfterCode other request spec) fault (code_either request.code (behind sources parts front)) (λ image.
-      either (EntryOf reads spec request.entry) (EntryOf other spec request.entry) (analysis.AfterEntry reads request spec image) (analysis.AfterEntry other request spec image) fault (entry_either spec request.entry (behind (sources ++ parts) entry by))
-      (λ entry found further. inl further))) outcome steps
+      either (PosedOf reads request.spec request.code request.entry) (PosedOf other request.spec request.code request.entry) (AnalysisOf request.base request.limit) (AnalysisOf request.base request.limit) fault
+      (posed_either request.spec request.code request.entry by) (λ posed found further. inl further) outcome steps
+
+  check_either : (request : CheckRequest) → Either (check_inputs request) → (outcome : Outcome) → CheckSteps reads request outcome → CheckSteps other request outcome ⊎ Fails fault outcome
+  check_either request by outcome steps =
+      let wanted = request.analysis in
+      let posed = analyse_inputs wanted in
+      let table = (request.table, table_cap) ∷ [] in
+      either (PosedOf reads wanted.spec wanted.code wanted.entry) (PosedOf other wanted.spec wanted.code wanted.entry) (λ p. table_behind request.table (CheckOf wanted.base wanted.limit p) reads) (λ p. table_behind request.table (CheckOf wanted.base wanted.limit p) other) fault
+      (posed_either wanted.spec wanted.code wanted.entry (first posed table by)) (λ p. table_either request.table (CheckOf wanted.base wanted.limit p) (behind posed table by)) outcome steps
+
+  convert_either : (request : ConvertRequest) → Either (convert_inputs request) → (outcome : Outcome) → ConvertSteps reads request outcome → ConvertSteps other request outcome ⊎ Fails fault outcome
+  convert_either request by outcome steps =
+      let coded = coded_inputs request.spec request.code in
+      let table = (request.table, table_cap) ∷ [] in
+      either (CodedOf reads request.spec request.code) (CodedOf other request.spec request.code) (λ c. table_behind request.table (ConversionOf request.base c) reads) (λ c. table_behind request.table (ConversionOf request.base c) other) fault
+      (coded_either request.spec request.code (first coded table by)) (λ c. table_either request.table (ConversionOf request.base c) (behind coded table by)) outcome steps
+
+  slice_either : (request : SliceRequest) → Either (slice_inputs request) → (outcome : Outcome) → SliceSteps reads request outcome → SliceSteps other request outcome ⊎ Fails fault outcome
+  slice_either request by outcome steps =
+      let wanted = request.check.analysis in
+      let posed = analyse_inputs wanted in
+      let table = (request.check.table, table_cap) ∷ [] in
+      let made = λ (s : Sought). SliceOf wanted.base wanted.limit s request.address in
+      either (SoughtOf reads wanted.spec request.cell wanted.code wanted.entry) (SoughtOf other wanted.spec request.cell wanted.code wanted.entry) (λ s. table_behind request.check.table (made s) reads) (λ s. table_behind request.check.table (made s) other) fault
+      (sought_either wanted.spec request.cell wanted.code wanted.entry (first posed table by)) (λ s. table_either request.check.table (made s) (behind posed table by)) outcome steps
+
+  claims_either : (request : ClaimsRequest) → Either (claims_inputs request) → (outcome : Outcome) → ClaimsSteps reads request outcome → ClaimsSteps other request outcome ⊎ Fails fault outcome
+  claims_either request by outcome steps =
+      let wanted = request.check.analysis in
+      let posed = analyse_inputs wanted in
+      let table = (request.check.table, table_cap) ∷ [] in
+      let rest = (request.claims, claims_cap) ∷ [] in
+      let front = first (check_inputs request.check) rest by in
+      let made = λ (p : Posed). ClaimsOf wanted.base wanted.limit p in
+      either (PosedOf reads wanted.spec wanted.code wanted.entry) (PosedOf other wanted.spec wanted.code wanted.entry) (λ p. both_behind request.check.table request.claims (made p) reads) (λ p. both_behind request.check.table request.claims (made p) other) fault
+      (posed_either wanted.spec wanted.code wanted.entry (first posed table front)) (λ p. claims_after_either request.check.table request.claims (made p) (behind posed table front) (behind (check_inputs request.check) rest by)) outcome steps
 
   list_either : (request : ListRequest) → Either (list_inputs request) → (outcome : Outcome) → ListSteps reads request outcome → ListSteps other request outcome ⊎ Fails fault outcome
   list_either request by outcome steps =
@@ -111,5 +189,9 @@ module _ (reads other : Reading) (fault : Refusal → Type 0) where
   asked_either (Some (call request)) by outcome steps = call_either request by outcome steps
   asked_either (Some (emulate request)) by outcome steps = emulate_either request by outcome steps
   asked_either (Some (analyse request)) by outcome steps = analyse_either request by outcome steps
+  asked_either (Some (check request)) by outcome steps = check_either request by outcome steps
+  asked_either (Some (convert request)) by outcome steps = convert_either request by outcome steps
   asked_either (Some (list request)) by outcome steps = list_either request by outcome steps
+  asked_either (Some (slice request)) by outcome steps = slice_either request by outcome steps
+  asked_either (Some (claims request)) by outcome steps = claims_either request by outcome steps
   asked_either (Some _) by outcome is = inl is

@@ -1,24 +1,30 @@
 -- The code that words ask for has few parts.
 use Rattle.std.proofs.Common.{◌≡◌, ℕ, ◌≤◌, List, [], ◌∷◌, Option, Some, None, length, map, refl, sym, ◌∙◌, ap, subst, arith, leb-true}
-use Rattle.std.specs.Prelude.{if◌then◌else◌, nat_le, option_and_then, option_map, suc}
+use Rattle.std.specs.Prelude.{IsTrue, if◌then◌else◌, nat_le, option_and_then, option_map, suc}
 use Rattle.std.specs.List.{slice_split}
 use Rattle.std.proofs.lemmas.List.{length-map}
 use Rattle.command_words.specs.declared.commands.CommandName.{CommandName}
 use Rattle.command_words.specs.declared.commands.CommandName.TheVariants as c
 use Rattle.command_words.specs.declared.code_word.CodePart as code-part
 use Rattle.command_words.specs.declared.requests.AnalyseRequest as code-analyse
+use Rattle.command_words.specs.declared.requests.CheckRequest as code-check
+use Rattle.command_words.specs.declared.requests.ConvertRequest as code-convert
 use Rattle.command_words.specs.declared.requests.EmulateRequest as code-emulate
 use Rattle.command_words.specs.declared.requests.ListRequest as code-list
+use Rattle.command_words.specs.declared.requests.ClaimsRequest as code-claims
+use Rattle.command_words.specs.declared.requests.SliceRequest as code-slice
+use Rattle.command_words.specs.Bases.{is_stamped}
 use Rattle.command_words.specs.Code.{Code, CodePart, code_parts, is_comma, part_at, part_in, parts_from, parts_in}
 use Rattle.command_words.specs.CommandLine.{Given, given_in}
 use Rattle.command_words.specs.Commands.{command_named}
+use Rattle.command_words.specs.Numbers.{address_in}
 use Rattle.command_words.specs.OptionValues.{address_of, base_of, calls_of, limit_of, order_of, steps_of}
-use Rattle.command_words.specs.Requests.{AnalyseRequest, EmulateRequest, ListRequest, Request, call, emulate, analyse, check, convert, list, slice, claims, stress}
+use Rattle.command_words.specs.Requests.{AnalyseRequest, CheckRequest, ClaimsRequest, ConvertRequest, EmulateRequest, ListRequest, Request, SliceRequest, call, emulate, analyse, check, convert, list, slice, claims, stress}
 use Rattle.command_words.specs.SpecNames.{spec_in}
 use Rattle.command_words.specs.Views as view
 use Rattle.command_words.specs.Views.{part_of}
 use Rattle.command_words.specs.Words as w
-use Rattle.command_words.specs.Words.{analyse_of, analysis_of, asked, asked_by, code_of, emulate_of, list_of, request_of, takes_all}
+use Rattle.command_words.specs.Words.{analyse_of, analysis_of, asked, asked_by, check_from, check_of, claims_of, code_of, convert_of, emulate_of, list_of, request_of, slice_from, slice_of, takes_all}
 use Rattle.function_calls.proofs.Typing.{both_given as bound, if_given as guarded}
 
 -- ---- steps that give something
@@ -66,11 +72,15 @@ few_in_code given word code is =
 
 -- ---- requests
 
--- its code has few parts
+-- its code has few parts; and a slice is over a base that tells stamps
 abbrev pub IsFew : Request → Type 0
 IsFew (emulate request) = length request.code.parts ≤ 16
 IsFew (analyse request) = length request.code.parts ≤ 16
+IsFew (check request) = length request.analysis.code.parts ≤ 16
+IsFew (convert request) = length request.code.parts ≤ 16
 IsFew (list request) = length request.code.parts ≤ 16
+IsFew (slice request) = (length request.check.analysis.code.parts ≤ 16) × IsTrue (is_stamped request.check.analysis.base)
+IsFew (claims request) = length request.check.analysis.code.parts ≤ 16
 IsFew _ = Unit {0}
 
 few_in_emulate : (given : Given) (words : List (List ℕ)) (request : EmulateRequest) → emulate_of given words ≡ Some request → length request.code.parts ≤ 16
@@ -105,6 +115,36 @@ few_in_analyse given (spec ∷ []) request is = absurd (cc)
 few_in_analyse given (spec ∷ word ∷ []) request is = absurd (cc)
 few_in_analyse given (spec ∷ word ∷ entry ∷ more ∷ rest) request is = absurd (cc)
 
+few_in_check_from : (given : Given) (spec word entry table : List ℕ) (request : CheckRequest) → check_from given spec word entry table ≡ Some request → length request.analysis.code.parts ≤ 16
+unfolding check_from
+few_in_check_from given spec word entry table request is =
+    let analysis = bound (analysis_of given spec word entry) (λ analysis. Some (record { analysis = analysis; table = table })) request is in
+    let made : Some (record { analysis = analysis.0; table = table }) ≡ Some request = analysis.2 in
+    let same : record { analysis = analysis.0; table = table } ≡ request = cc in
+    subst (λ (r : CheckRequest). length r.analysis.code.parts ≤ 16) same (few_in_analysis given spec word entry analysis.0 analysis.1)
+
+few_in_check : (given : Given) (words : List (List ℕ)) (request : CheckRequest) → check_of given words ≡ Some request → length request.analysis.code.parts ≤ 16
+unfolding check_of
+few_in_check given (spec ∷ word ∷ entry ∷ table ∷ []) request is = few_in_check_from given spec word entry table request is
+few_in_check given [] request is = absurd (cc)
+few_in_check given (spec ∷ []) request is = absurd (cc)
+few_in_check given (spec ∷ word ∷ []) request is = absurd (cc)
+few_in_check given (spec ∷ word ∷ entry ∷ []) request is = absurd (cc)
+few_in_check given (spec ∷ word ∷ entry ∷ table ∷ more ∷ rest) request is = absurd (cc)
+
+few_in_convert : (given : Given) (words : List (List ℕ)) (request : ConvertRequest) → convert_of given words ≡ Some request → length request.code.parts ≤ 16
+unfolding convert_of
+few_in_convert given (spec ∷ word ∷ table ∷ []) request is =
+    let code = bound (code_of given word) (λ code. option_and_then (λ base. Some (record { spec = spec_in spec; code = code; table = table; base = base })) (base_of given)) request is in
+    let base = bound (base_of given) (λ base. Some (record { spec = spec_in spec; code = code.0; table = table; base = base })) request code.2 in
+    let made : Some (record { spec = spec_in spec; code = code.0; table = table; base = base.0 }) ≡ Some request = base.2 in
+    let same : record { spec = spec_in spec; code = code.0; table = table; base = base.0 } ≡ request = cc in
+    subst (λ (r : ConvertRequest). length r.code.parts ≤ 16) same (few_in_code given word code.0 code.1)
+few_in_convert given [] request is = absurd (cc)
+few_in_convert given (spec ∷ []) request is = absurd (cc)
+few_in_convert given (spec ∷ word ∷ []) request is = absurd (cc)
+few_in_convert given (spec ∷ word ∷ table ∷ more ∷ rest) request is = absurd (cc)
+
 few_in_list : (given : Given) (words : List (List ℕ)) (request : ListRequest) → list_of given words ≡ Some request → length request.code.parts ≤ 16
 unfolding list_of
 few_in_list given (spec ∷ word ∷ []) request is =
@@ -116,15 +156,51 @@ few_in_list given [] request is = absurd (cc)
 few_in_list given (spec ∷ []) request is = absurd (cc)
 few_in_list given (spec ∷ word ∷ more ∷ rest) request is = absurd (cc)
 
+few_in_slice_from : (given : Given) (table : CheckRequest) (place cell : List ℕ) (request : SliceRequest) → length table.analysis.code.parts ≤ 16 → slice_from table place cell ≡ Some request → IsFew (slice request)
+unfolding slice_from
+few_in_slice_from given table place cell request few is =
+    let address = bound (address_in place) (λ a. if is_stamped table.analysis.base then Some (record { check = table; address = a; cell = cell }) else None) request is in
+    let stamped = guarded (is_stamped table.analysis.base) (Some (record { check = table; address = address.0; cell = cell })) request address.2 in
+    let made : Some (record { check = table; address = address.0; cell = cell }) ≡ Some request = stamped.1 in
+    let same : record { check = table; address = address.0; cell = cell } ≡ request = cc in
+    subst (λ (r : SliceRequest). IsFew (slice r)) same (few, stamped.0)
+
+few_in_slice : (given : Given) (words : List (List ℕ)) (request : SliceRequest) → slice_of given words ≡ Some request → IsFew (slice request)
+unfolding slice_of
+few_in_slice given (spec ∷ word ∷ entry ∷ table ∷ place ∷ cell ∷ []) request is =
+    let table_of = bound (check_from given spec word entry table) (λ t. slice_from t place cell) request is in
+    few_in_slice_from given table_of.0 place cell request (few_in_check_from given spec word entry table table_of.0 table_of.1) table_of.2
+few_in_slice given [] request is = absurd (cc)
+few_in_slice given (spec ∷ []) request is = absurd (cc)
+few_in_slice given (spec ∷ word ∷ []) request is = absurd (cc)
+few_in_slice given (spec ∷ word ∷ entry ∷ []) request is = absurd (cc)
+few_in_slice given (spec ∷ word ∷ entry ∷ table ∷ []) request is = absurd (cc)
+few_in_slice given (spec ∷ word ∷ entry ∷ table ∷ place ∷ []) request is = absurd (cc)
+few_in_slice given (spec ∷ word ∷ entry ∷ table ∷ place ∷ cell ∷ more ∷ rest) request is = absurd (cc)
+
+few_in_claims : (given : Given) (words : List (List ℕ)) (request : ClaimsRequest) → claims_of given words ≡ Some request → length request.check.analysis.code.parts ≤ 16
+unfolding claims_of
+few_in_claims given (spec ∷ word ∷ entry ∷ table ∷ name ∷ []) request is =
+    let table_of = bound (check_from given spec word entry table) (λ t. Some (record { check = t; claims = name })) request is in
+    let made : Some (record { check = table_of.0; claims = name }) ≡ Some request = table_of.2 in
+    let same : record { check = table_of.0; claims = name } ≡ request = cc in
+    subst (λ (r : ClaimsRequest). length r.check.analysis.code.parts ≤ 16) same (few_in_check_from given spec word entry table table_of.0 table_of.1)
+few_in_claims given [] request is = absurd (cc)
+few_in_claims given (spec ∷ []) request is = absurd (cc)
+few_in_claims given (spec ∷ word ∷ []) request is = absurd (cc)
+few_in_claims given (spec ∷ word ∷ entry ∷ []) request is = absurd (cc)
+few_in_claims given (spec ∷ word ∷ entry ∷ table ∷ []) request is = absurd (cc)
+few_in_claims given (spec ∷ word ∷ entry ∷ table ∷ name ∷ more ∷ rest) request is = absurd (cc)
+
 few_by : (command : CommandName) (given : Given) (request : Request) → request_of command given ≡ Some request → IsFew request
 few_by c.Call given request is = let m = mapped call (w.call_of given given.words) request is in subst IsFew m.2 tt
 few_by c.Emulate given request is = let m = mapped emulate (emulate_of given given.words) request is in subst IsFew m.2 (few_in_emulate given given.words m.0 m.1)
 few_by c.Analyse given request is = let m = mapped analyse (analyse_of given given.words) request is in subst IsFew m.2 (few_in_analyse given given.words m.0 m.1)
-few_by c.Check given request is = let m = mapped check (w.check_of given given.words) request is in subst IsFew m.2 tt
-few_by c.Convert given request is = let m = mapped convert (w.convert_of given given.words) request is in subst IsFew m.2 tt
+few_by c.Check given request is = let m = mapped check (check_of given given.words) request is in subst IsFew m.2 (few_in_check given given.words m.0 m.1)
+few_by c.Convert given request is = let m = mapped convert (convert_of given given.words) request is in subst IsFew m.2 (few_in_convert given given.words m.0 m.1)
 few_by c.List given request is = let m = mapped list (list_of given given.words) request is in subst IsFew m.2 (few_in_list given given.words m.0 m.1)
-few_by c.Slice given request is = let m = mapped slice (w.slice_of given given.words) request is in subst IsFew m.2 tt
-few_by c.Claims given request is = let m = mapped claims (w.claims_of given given.words) request is in subst IsFew m.2 tt
+few_by c.Slice given request is = let m = mapped slice (slice_of given given.words) request is in subst IsFew m.2 (few_in_slice given given.words m.0 m.1)
+few_by c.Claims given request is = let m = mapped claims (claims_of given given.words) request is in subst IsFew m.2 (few_in_claims given given.words m.0 m.1)
 few_by c.Stress given request is = let m = mapped stress (w.stress_of given given.words) request is in subst IsFew m.2 tt
 
 few_given : (given : Given) (request : Request) → asked_by given ≡ Some request → IsFew request
@@ -165,5 +241,21 @@ few_emulated words request is = few_of request.code.parts.items (few_asked words
 pub few_analysed : (words : List (List ℕ)) (request : code-analyse.AnalyseRequest) → asked words ≡ Some (analyse (view.analyse_of request)) → length request.code.parts.items ≤ 16
 few_analysed words request is = few_of request.code.parts.items (few_asked words (analyse (view.analyse_of request)) is)
 
+pub few_checked : (words : List (List ℕ)) (request : code-check.CheckRequest) → asked words ≡ Some (check (view.check_of request)) → length request.analysis.code.parts.items ≤ 16
+few_checked words request is = few_of request.analysis.code.parts.items (few_asked words (check (view.check_of request)) is)
+
+pub few_converted : (words : List (List ℕ)) (request : code-convert.ConvertRequest) → asked words ≡ Some (convert (view.convert_of request)) → length request.code.parts.items ≤ 16
+few_converted words request is = few_of request.code.parts.items (few_asked words (convert (view.convert_of request)) is)
+
 pub few_listed : (words : List (List ℕ)) (request : code-list.ListRequest) → asked words ≡ Some (list (view.list_of request)) → length request.code.parts.items ≤ 16
 few_listed words request is = few_of request.code.parts.items (few_asked words (list (view.list_of request)) is)
+
+pub few_sliced : (words : List (List ℕ)) (request : code-slice.SliceRequest) → asked words ≡ Some (slice (view.slice_of request)) → length request.check.analysis.code.parts.items ≤ 16
+few_sliced words request is = few_of request.check.analysis.code.parts.items (few_asked words (slice (view.slice_of request)) is).0
+
+pub few_claimed : (words : List (List ℕ)) (request : code-claims.ClaimsRequest) → asked words ≡ Some (claims (view.claims_of request)) → length request.check.analysis.code.parts.items ≤ 16
+few_claimed words request is = few_of request.check.analysis.code.parts.items (few_asked words (claims (view.claims_of request)) is)
+
+-- a slice that words ask for is over a base that tells stamps
+pub stamped_slice : (words : List (List ℕ)) (request : SliceRequest) → asked words ≡ Some (slice request) → IsTrue (is_stamped request.check.analysis.base)
+stamped_slice words request is = (few_asked words (slice request) is).1

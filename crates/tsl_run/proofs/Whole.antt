@@ -6,12 +6,16 @@ use Rattle.tsl_io.specs.Faults.{RoseByOne}
 use Rattle.tsl_io.specs.FileList.{is_held}
 use Rattle.tsl_io.specs.InputState.{InputState}
 use Rattle.tsl_io.specs.SinkState.{SinkState, Appends}
+use Rattle.command_words.specs.Requests.{AnalyseRequest, CheckRequest, ClaimsRequest, SliceRequest, analyse, check, claims, slice}
+use Rattle.command_words.specs.Words.{asked}
+use Rattle.analysis_domains.specs.Checks.{accepted_line}
 use Rattle.run_steps.specs.declared.status.Status.{Status}
 use Rattle.run_steps.specs.declared.status.Status.TheVariants as s
 use Rattle.tsl_run.specs.Output.{Ends}
 use Rattle.run_steps.specs.Reading.{Held}
 use Rattle.tsl_run.specs.Follows.{Follows}
 use Rattle.tsl_run.specs.Owed.{Owes, OwesAlone, OwesLonger}
+use Rattle.tsl_run.specs.Tables.{AreClaimsFor, IsAcceptedFor, IsSliceFor, IsTableFor}
 use Rattle.tsl_run.specs.Words.{input_names}
 use Rattle.tsl_run.proofs.Ending.{ends_follow}
 use Rattle.tsl_run.proofs.Exact.{exact_answers}
@@ -60,3 +64,27 @@ module _ (words : List (List ℕ)) (old new : InputState) (sink_old sink_new : S
           | inl finished ↦ (finished.0, all_of text finished.1)
           | inr none ↦ absurd (memory none)
         ]
+
+    -- a table is the copy
+    pub tables : (request : AnalyseRequest) → asked words ≡ Some (analyse request) → result ≡ s.Ok → IsTableFor held request copy
+    tables request asks ok =
+        let found = follows.table told request asks ok in
+        subst (λ (h : Held). IsTableFor h request copy) holds (subst (λ (text : List ℕ). IsTableFor old.held request text) (sym (all_of found.0 found.2)) found.1)
+
+    -- and what says that a table is accepted
+    pub acceptances : (request : CheckRequest) → asked words ≡ Some (check request) → result ≡ s.Ok → IsAcceptedFor held request × (copy ≡ accepted_line)
+    acceptances request asks ok =
+        let found = follows.accepted told request asks ok in
+        (subst (λ (h : Held). IsAcceptedFor h request) holds found.0, all_of accepted_line found.1)
+
+    -- the slice is the copy
+    pub slices : (request : SliceRequest) → asked words ≡ Some (slice request) → result ≡ s.Ok → IsSliceFor held request copy
+    slices request asks ok =
+        let found = follows.sliced told request asks ok in
+        subst (λ (h : Held). IsSliceFor h request copy) holds (subst (λ (text : List ℕ). IsSliceFor old.held request text) (sym (all_of found.0 found.2)) found.1)
+
+    -- and the answers to claims
+    pub answers : (request : ClaimsRequest) → asked words ≡ Some (claims request) → result ≡ s.Ok → AreClaimsFor held request copy
+    answers request asks ok =
+        let found = follows.claimed told request asks ok in
+        subst (λ (h : Held). AreClaimsFor h request copy) holds (subst (λ (text : List ℕ). AreClaimsFor old.held request text) (sym (all_of found.0 found.2)) found.1)

@@ -6,14 +6,15 @@ use Rattle.tsl_io.specs.InputState.{InputState}
 use Rattle.tsl_io.specs.SinkState.{SinkState, Appends, AppendsFront}
 use Rattle.run_steps.specs.declared.status.Status.{Status}
 use Rattle.run_steps.specs.declared.status.Status.TheVariants as s
+use Rattle.analysis_domains.specs.Checks.{accepted_line}
 use Rattle.run_steps.specs.Lines.{bad_words_line, cannot_read_line, not_built_line}
 use Rattle.run_steps.specs.Reading.{CouldNotRead}
 use Rattle.tsl_run.specs.Owed.{Owes}
 use Rattle.tsl_run.specs.Possible.{IsLineOf}
 use Rattle.run_steps.specs.Statuses.{IsAnswer}
-use Rattle.command_words.specs.Requests.{AnalyseRequest, analyse}
+use Rattle.command_words.specs.Requests.{AnalyseRequest, CheckRequest, ClaimsRequest, SliceRequest, analyse, check, claims, slice}
 use Rattle.command_words.specs.Words.{asked}
-use Rattle.tsl_run.specs.Tables.{IsTableFor}
+use Rattle.tsl_run.specs.Tables.{AreClaimsFor, IsAcceptedFor, IsSliceFor, IsTableFor}
 use Rattle.tsl_run.specs.Words.{input_names, IsUnbuilt}
 
 -- An input of the words could not be read, as the text says.
@@ -63,6 +64,17 @@ module _ (words : List (List ℕ)) (old new : InputState) (sink_old sink_new : S
     -- (specs/Tables names the definition of this, `IsTrueOfRuns`.)
     pub table : IsTrue old.tells → (request : AnalyseRequest) → asked words ≡ Some (analyse request) → result ≡ s.Ok
         → (text : List ℕ) × IsTableFor old.held request text × Appends sink_old sink_new text
+    -- Over inputs that tell: a check that ends well was of a table that is true of every run of the machine, in the same sense, and says so.
+    pub accepted : IsTrue old.tells → (request : CheckRequest) → asked words ≡ Some (check request) → result ≡ s.Ok
+        → IsAcceptedFor old.held request × Appends sink_old sink_new accepted_line
+    -- Over inputs that tell: a slice that ends well was of a table that is true of every run, and holds every chain of every read that it is of: what
+    -- it leaves out no chain reaches. (specs/Tables)
+    pub sliced : IsTrue old.tells → (request : SliceRequest) → asked words ≡ Some (slice request) → result ≡ s.Ok
+        → (text : List ℕ) × IsSliceFor old.held request text × Appends sink_old sink_new text
+    -- Over inputs that tell: claims that end well were on a table that is true of every run, and each that is answered with yes is true of every
+    -- state that a run has at its address. (specs/Tables)
+    pub claimed : IsTrue old.tells → (request : ClaimsRequest) → asked words ≡ Some (claims request) → result ≡ s.Ok
+        → (text : List ℕ) × AreClaimsFor old.held request text × Appends sink_old sink_new text
     -- Words that ask for nothing, or for what is not built, are refused.
     pub bad_words : asked words ≡ None → EndsWith s.BadWords bad_words_line
     pub not_built : IsUnbuilt (asked words) → EndsWith s.NotBuilt not_built_line

@@ -7,3 +7,4 @@ pub mod Possible
 pub mod Steps
 pub mod Tables
 pub mod Words
+pub mod Work

@@ -1,24 +1,29 @@
 -- The outcomes that words may have, whatever the inputs hold.
 use Rattle.std.specs.Prelude.{◌≡◌, ℕ, List, Option, Some, None, Ok, Err, Contains, IsTrue}
-use Rattle.command_words.specs.Requests.{AnalyseRequest, EmulateRequest, Request, call, emulate, analyse, list}
+use Rattle.command_words.specs.Requests.{AnalyseRequest, CallRequest, CheckRequest, ClaimsRequest, ConvertRequest, EmulateRequest, Request, SliceRequest, call, emulate, analyse, check, convert, list, slice, claims}
 use Rattle.command_words.specs.Words.{asked}
-use Rattle.function_calls.specs.Calls.{value_line}
+use Rattle.claim_faults.specs.declared.claim_error.ClaimError.{ClaimError}
+use Rattle.function_calls.specs.Calls as calls
+use Rattle.function_calls.specs.Calls.{call_end, value_line}
 use Rattle.function_calls.specs.Laws.{IsWritten}
 use Rattle.insn_decode.specs.declared.image_error.ImageError.{ImageError}
 use Rattle.insn_decode.specs.Image.{Image}
 use Rattle.insn_decode.specs.Listing.{listing}
 use Rattle.spec_types.specs.Specification.{Spec}
 use Rattle.state_text.specs.declared.entry_error.EntryError.{EntryError}
-use Rattle.state_text.specs.Reading.{Entry}
 use Rattle.tsl_values.specs.States.{State}
 use Rattle.tsl_values.specs.Values.{Val}
+use Rattle.table_faults.specs.declared.table_error.TableError.{TableError}
+use Rattle.run_steps.specs.declared.rejection.Rejection.{Rejection}
 use Rattle.run_steps.specs.declared.spec_fault.SpecFault.{SpecFault}
 use Rattle.run_steps.specs.declared.status.Status.{Status}
 use Rattle.run_steps.specs.Outcome as o
 use Rattle.run_steps.specs.Outcome.{Answer, Outcome, line_of, status_of, text}
-use Rattle.run_analyse.specs.Steps.{AnalysisOf}
 use Rattle.run_emulate.specs.Running.{IsRunOf}
-use Rattle.tsl_run.specs.Words.{has_code, has_entry, names_in}
+use Rattle.run_tables.specs.Steps.{AnalysisOf, CheckOf, ClaimsOf, ConversionOf, SliceOf}
+use Rattle.slice_text.specs.Asked as cells
+use Rattle.table_inputs.specs.Inputs.{Coded, Posed, Sought}
+use Rattle.tsl_run.specs.Words.{IsUnbuilt, has_code, has_entry, names_in}
 
 -- The answer is the line of a value.
 pub record IsValue (answer : Answer) : Type 0 where
@@ -35,10 +40,33 @@ pub record IsRun (request : EmulateRequest) (answer : Answer) : Type 0 where
 
 -- The outcome is that of an analysis of a machine.
 pub record IsAnalysed (request : AnalyseRequest) (outcome : Outcome) : Type 0 where
-  pub spec : Spec
-  pub image : Image
-  pub entry : Entry
-  pub analysed : AnalysisOf request.base request.limit spec image entry outcome
+  pub posed : Posed
+  pub analysed : AnalysisOf request.base request.limit posed outcome
+
+-- It is that of the check of a text.
+pub record IsChecked (request : CheckRequest) (outcome : Outcome) : Type 0 where
+  pub posed : Posed
+  pub bytes : List ℕ
+  pub checked : CheckOf request.analysis.base request.analysis.limit posed bytes outcome
+
+-- It is that of a text that is written anew.
+pub record IsConverted (request : ConvertRequest) (outcome : Outcome) : Type 0 where
+  pub coded : Coded
+  pub bytes : List ℕ
+  pub converted : ConversionOf request.base coded bytes outcome
+
+-- It is that of the slice of a text.
+pub record IsSliced (request : SliceRequest) (outcome : Outcome) : Type 0 where
+  pub sought : Sought
+  pub bytes : List ℕ
+  pub sliced : SliceOf request.check.analysis.base request.check.analysis.limit sought request.address bytes outcome
+
+-- It is that of claims, which are a text, on another.
+pub record AreClaimed (request : ClaimsRequest) (outcome : Outcome) : Type 0 where
+  pub posed : Posed
+  pub table_bytes : List ℕ
+  pub claims_bytes : List ℕ
+  pub claimed : ClaimsOf request.check.analysis.base request.check.analysis.limit posed table_bytes claims_bytes outcome
 
 -- It is a listing of code.
 pub record IsListing (answer : Answer) : Type 0 where
@@ -52,28 +80,54 @@ Answers None answer = ⊥
 Answers (Some (call request)) answer = IsValue answer
 Answers (Some (emulate request)) answer = IsRun request answer
 Answers (Some (analyse request)) answer = IsAnalysed request (Ok answer)
+Answers (Some (check request)) answer = IsChecked request (Ok answer)
+Answers (Some (convert request)) answer = IsConverted request (Ok answer)
 Answers (Some (list request)) answer = IsListing answer
+Answers (Some (slice request)) answer = IsSliced request (Ok answer)
+Answers (Some (claims request)) answer = AreClaimed request (Ok answer)
 Answers (Some _) answer = ⊥
 
--- An analysis is asked for, and may have this outcome.
-abbrev pub Analyses : Option Request → Outcome → Type 0
-Analyses None outcome = ⊥
-Analyses (Some (analyse request)) outcome = IsAnalysed request outcome
-Analyses (Some _) outcome = ⊥
+-- Work on a table is asked for, and may come to this.
+abbrev pub MayComeTo : Option Request → Outcome → Type 0
+MayComeTo None outcome = ⊥
+MayComeTo (Some (analyse request)) outcome = IsAnalysed request outcome
+MayComeTo (Some (check request)) outcome = IsChecked request outcome
+MayComeTo (Some (convert request)) outcome = IsConverted request outcome
+MayComeTo (Some (slice request)) outcome = IsSliced request outcome
+MayComeTo (Some (claims request)) outcome = AreClaimed request outcome
+MayComeTo (Some _) outcome = ⊥
+
+-- A function of a specification does not take the numbers of a call.
+abbrev pub TakesNoSuch : CallRequest → Type 0
+TakesNoSuch request = (spec : Spec) × (call_end spec request.calls request.fun request.numbers ≡ calls.bad_words)
+
+-- The states of a specification do not have the cell of a slice.
+abbrev pub HasNoSuch : SliceRequest → Type 0
+HasNoSuch request = (spec : Spec) × (cells.asked spec request.cell ≡ None)
+
+-- The words may be bad: they ask for nothing, or what they ask for is not there.
+abbrev pub MayBeBad : Option Request → Type 0
+MayBeBad None = Unit {0}
+MayBeBad (Some (call request)) = TakesNoSuch request
+MayBeBad (Some (slice request)) = HasNoSuch request
+MayBeBad (Some _) = ⊥
 
 -- an outcome of what is asked for
 pub data IsPossible (what : Option Request) : Outcome → Type 0 where
   answered : {answer : Answer} → Answers what answer → IsPossible what (Ok answer)
-  bad_words : IsPossible what (Err o.bad_words)
-  not_built : IsPossible what (Err o.not_built)
+  bad_words : MayBeBad what → IsPossible what (Err o.bad_words)
+  not_built : IsUnbuilt what → IsPossible what (Err o.not_built)
   cannot_read : {name : List ℕ} → Contains (names_in what) name → IsPossible what (Err (o.cannot_read name))
   too_long : {name : List ℕ} → Contains (names_in what) name → IsPossible what (Err (o.too_long name))
   spec_refused : {fault : SpecFault} → IsPossible what (Err (o.spec_refused fault))
   code_refused : {fault : ImageError} → IsTrue (has_code what) → IsPossible what (Err (o.code_refused fault))
   entry_refused : {fault : EntryError} → IsTrue (has_entry what) → IsPossible what (Err (o.entry_refused fault))
   calls_spent : IsPossible what (Err o.calls_spent)
-  undecodable_at : {at word : ℕ} → Analyses what (Err (o.undecodable_at at word)) → IsPossible what (Err (o.undecodable_at at word))
-  too_many_targets : {at : ℕ} {shown : List ℕ} → Analyses what (Err (o.too_many_targets at shown)) → IsPossible what (Err (o.too_many_targets at shown))
+  undecodable_at : {at word : ℕ} → MayComeTo what (Err (o.undecodable_at at word)) → IsPossible what (Err (o.undecodable_at at word))
+  too_many_targets : {at : ℕ} {shown : List ℕ} → MayComeTo what (Err (o.too_many_targets at shown)) → IsPossible what (Err (o.too_many_targets at shown))
+  table_refused : {fault : TableError} → MayComeTo what (Err (o.table_refused fault)) → IsPossible what (Err (o.table_refused fault))
+  claims_refused : {fault : ClaimError} → MayComeTo what (Err (o.claims_refused fault)) → IsPossible what (Err (o.claims_refused fault))
+  rejected : {rejection : Rejection} → MayComeTo what (Err (o.rejected rejection)) → IsPossible what (Err (o.rejected rejection))
 
 -- A text is a line of this status for these words.
 pub record IsLineOf (words : List (List ℕ)) (status : Status) (text : List ℕ) : Type 0 where

@@ -1,6 +1,6 @@
 -- The steps of a run, one after another.
 use Rattle.std.specs.Prelude.{◌≡◌, Option, Some, None, Ok, Err}
-use Rattle.command_words.specs.Requests.{CallRequest, Request, call, emulate, analyse, list}
+use Rattle.command_words.specs.Requests.{CallRequest, Request, call, emulate, analyse, check, convert, list, slice, claims}
 use Rattle.spec_types.specs.declared.spec.Use.TheVariants.{Library}
 use Rattle.function_calls.specs.Calls as calls
 use Rattle.function_calls.specs.Calls.{End, call_end, value, value_line, spent}
@@ -8,8 +8,8 @@ use Rattle.run_steps.specs.Outcome.{Outcome, bad_words, calls_spent, not_built, 
 use Rattle.run_steps.specs.Reading.{Reading}
 use Rattle.run_steps.specs.Sources.{SourceOf, Specifies}
 use Rattle.run_steps.specs.Steps.{Then}
-use Rattle.run_analyse.specs.Steps.{AnalyseSteps}
 use Rattle.run_emulate.specs.Steps.{EmulateSteps, ListSteps}
+use Rattle.run_tables.specs.Steps.{AnalyseSteps, CheckSteps, ClaimsSteps, ConvertSteps, SliceSteps}
 
 -- what is answered for the end of a call
 abbrev pub answered : End → Outcome
@@ -30,5 +30,9 @@ Steps reads None outcome = outcome ≡ Err bad_words
 Steps reads (Some (call request)) outcome = CallSteps reads request outcome
 Steps reads (Some (emulate request)) outcome = EmulateSteps reads request outcome
 Steps reads (Some (analyse request)) outcome = AnalyseSteps reads request outcome
+Steps reads (Some (check request)) outcome = CheckSteps reads request outcome
+Steps reads (Some (convert request)) outcome = ConvertSteps reads request outcome
 Steps reads (Some (list request)) outcome = ListSteps reads request outcome
+Steps reads (Some (slice request)) outcome = SliceSteps reads request outcome
+Steps reads (Some (claims request)) outcome = ClaimsSteps reads request outcome
 Steps reads (Some _) outcome = outcome ≡ Err not_built

@@ -1,15 +1,10 @@
--- The tables that analyses write.
-use Rattle.std.specs.Prelude.{ℕ, List, Ok}
-use Rattle.command_words.specs.Requests.{AnalyseRequest}
-use Rattle.insn_decode.specs.Image.{Image}
-use Rattle.spec_types.specs.Specification.{Spec}
-use Rattle.state_text.specs.Reading.{Entry}
+-- The tables that analyses write, those that checks accept, and what slices and claims tell of them.
+use Rattle.std.specs.Prelude.{◌≡◌, ℕ, List, Some, Ok}
+use Rattle.command_words.specs.Requests.{AnalyseRequest, CheckRequest, ClaimsRequest, SliceRequest}
 use Rattle.run_steps.specs.Outcome.{text}
 use Rattle.run_steps.specs.Reading.{Held, Holds}
-use Rattle.run_analyse.specs.Entry.{EntryOf}
-use Rattle.run_analyse.specs.Steps.{AnalysisOf}
-use Rattle.run_emulate.specs.Code.{CodeOf}
-use Rattle.run_emulate.specs.Machines.{MachineOf}
+use Rattle.run_tables.specs.Steps.{AcceptedBy, AnalysisOf, ClaimedBy, SlicedBy}
+use Rattle.table_inputs.specs.Inputs.{Posed, PosedOf, Sought, SoughtOf}
 
 -- The bytes are the text of the table of an analysis: of the machine, the code and the entry that the names of a request hold.
 --
@@ -17,10 +12,44 @@ use Rattle.run_emulate.specs.Machines.{MachineOf}
 -- describes every state that the meaning puts there, and where the base tells stamps each use list holds every definition that a read sees. This is `is_true` of
 -- `IsTable` (analysis_domains specs/Analyses), to which `analysed` comes; `IsTrueOfRuns` (transfer_laws specs/Runs) says it in full.
 pub record IsTableFor (held : Held) (request : AnalyseRequest) (bytes : List ℕ) : Type 0 where
-  pub spec : Spec
-  pub image : Image
-  pub entry : Entry
-  pub is_spec : MachineOf (Holds held) request.spec (Ok spec)
-  pub is_image : CodeOf (Holds held) request.code (Ok image)
-  pub is_entry : EntryOf (Holds held) spec request.entry (Ok entry)
-  pub analysed : AnalysisOf request.base request.limit spec image entry (Ok (text bytes))
+  pub posed : Posed
+  pub is_posed : PosedOf (Holds held) request.spec request.code request.entry (Ok posed)
+  pub analysed : AnalysisOf request.base request.limit posed (Ok (text bytes))
+
+-- The table of a request holds the text of a table that is accepted for the machine, the code and the entry that the other names hold.
+--
+-- So that table is closed, and true of every run of that machine just as a table of an analysis is: this is `is_true` of `IsAccepted`
+-- (analysis_domains specs/Checks), to which `accepted` comes.
+pub record IsAcceptedFor (held : Held) (request : CheckRequest) : Type 0 where
+  pub posed : Posed
+  pub bytes : List ℕ
+  pub is_posed : PosedOf (Holds held) request.analysis.spec request.analysis.code request.analysis.entry (Ok posed)
+  pub is_held : held request.table ≡ Some bytes
+  pub accepted : AcceptedBy request.analysis.base request.analysis.limit posed bytes
+
+-- The text is that of the slice of a table that is accepted: of the table that a request names, for the machine, the code and the entry that the other
+-- names hold, and for the reads of the cell by the instruction at the address that the words give.
+--
+-- So it holds every chain of every such read, in every run of that machine, on that code, from every state that the entry describes: it has the address
+-- of each step of the chain, and the line `entry` where the chain begins with a cell that no step put. This is `chains` of `HoldsChains`
+-- (analysis_domains specs/Slices), to which `sliced` comes.
+pub record IsSliceFor (held : Held) (request : SliceRequest) (text : List ℕ) : Type 0 where
+  pub sought : Sought
+  pub bytes : List ℕ
+  pub is_sought : SoughtOf (Holds held) request.check.analysis.spec request.cell request.check.analysis.code request.check.analysis.entry (Ok sought)
+  pub is_held : held request.check.table ≡ Some bytes
+  pub sliced : SlicedBy request.check.analysis.base request.check.analysis.limit sought request.address bytes text
+
+-- The text has a line, yes or open, for each claim that a request names, on a table that is accepted: the one that it names, for the machine, the code and
+-- the entry that the other names hold.
+--
+-- So each claim whose line is yes is true of every state that a run of that machine, on that code, has at its address, from every state that the entry
+-- describes. This is `hold` of `HoldsClaims` (analysis_domains specs/Claims), to which `claimed` comes.
+pub record AreClaimsFor (held : Held) (request : ClaimsRequest) (text : List ℕ) : Type 0 where
+  pub posed : Posed
+  pub table_bytes : List ℕ
+  pub claims_bytes : List ℕ
+  pub is_posed : PosedOf (Holds held) request.check.analysis.spec request.check.analysis.code request.check.analysis.entry (Ok posed)
+  pub is_held : held request.check.table ≡ Some table_bytes
+  pub are_held : held request.claims ≡ Some claims_bytes
+  pub claimed : ClaimedBy request.check.analysis.base request.check.analysis.limit posed table_bytes claims_bytes text

@@ -1,21 +1,25 @@
 -- What the words ask for of this program, and the inputs that they name.
 use Rattle.std.specs.Prelude.{◌≡◌, ℕ, Bool, true, false, not, List, [], map, Option, Some, None}
-use Rattle.command_words.specs.Requests.{Request, call, emulate, analyse, list}
+use Rattle.command_words.specs.Requests.{Request, call, emulate, analyse, check, convert, list, slice, claims}
 use Rattle.command_words.specs.Words.{asked}
 use Rattle.analysis_domains.specs.Named.{has_relations}
 use Rattle.run_steps.specs.declared.status.Status.{Status}
 use Rattle.run_steps.specs.declared.status.Status.TheVariants as s
 use Rattle.run_steps.specs.Reading.{Capped}
 use Rattle.run_steps.specs.Sources.{source_inputs}
-use Rattle.run_analyse.specs.Steps.{analyse_inputs}
 use Rattle.run_emulate.specs.Steps.{emulate_inputs, list_inputs}
+use Rattle.run_tables.specs.Steps.{analyse_inputs, check_inputs, claims_inputs, convert_inputs, slice_inputs}
 
 -- what is asked for is built
 abbrev pub is_built : Request → Bool
 is_built (call request) = true
 is_built (emulate request) = true
 is_built (analyse request) = true
+is_built (check request) = true
+is_built (convert request) = true
 is_built (list request) = true
+is_built (slice request) = true
+is_built (claims request) = true
 is_built _ = false
 
 -- Words ask for something that is not built.
@@ -29,7 +33,11 @@ capped_in None = []
 capped_in (Some (call request)) = source_inputs request.spec
 capped_in (Some (emulate request)) = emulate_inputs request
 capped_in (Some (analyse request)) = analyse_inputs request
+capped_in (Some (check request)) = check_inputs request
+capped_in (Some (convert request)) = convert_inputs request
 capped_in (Some (list request)) = list_inputs request
+capped_in (Some (slice request)) = slice_inputs request
+capped_in (Some (claims request)) = claims_inputs request
 capped_in (Some _) = []
 
 -- their names
@@ -50,7 +58,11 @@ abbrev pub has_code : Option Request → Bool
 has_code None = false
 has_code (Some (emulate request)) = true
 has_code (Some (analyse request)) = true
+has_code (Some (check request)) = true
+has_code (Some (convert request)) = true
 has_code (Some (list request)) = true
+has_code (Some (slice request)) = true
+has_code (Some (claims request)) = true
 has_code (Some _) = false
 
 -- and an entry
@@ -58,10 +70,14 @@ abbrev pub has_entry : Option Request → Bool
 has_entry None = false
 has_entry (Some (emulate request)) = true
 has_entry (Some (analyse request)) = true
+has_entry (Some (check request)) = true
+has_entry (Some (slice request)) = true
+has_entry (Some (claims request)) = true
 has_entry (Some _) = false
 
--- One text at most is owed with this status: it is not the table of an analysis over relations, which has several.
+-- One text at most is owed with this status: it is not a table over relations, which has several.
 abbrev pub has_one_text : Option Request → Status → Bool
 has_one_text None status = true
 has_one_text (Some (analyse request)) s.Ok = not (has_relations request.base)
+has_one_text (Some (convert request)) s.Ok = not (has_relations request.base)
 has_one_text (Some _) status = true

@@ -14,21 +14,25 @@ ghost use Rattle.tsl_run.specs.Steps.{answered, CallSteps};
 ghost use Rattle.command_words.specs.Views.{call_of, texts};
 ghost use Rattle.command_words.specs.Words.{asked};
 ghost use Rattle.tsl_run.specs.Words.{IsUnbuilt, capped_inputs};
+ghost use Rattle.tsl_run.specs.Work.{RunWork};
 
 use command_words::{CallRequest, Request, read_words};
 use function_calls::{CallEnd, call_by_words, value_line};
-use run_analyse::analysed;
 use run_emulate::{emulated, listed};
 use run_steps::{Answer, Halt, Outcome, Refusal, source_of, specified};
+use run_tables::{analysed, checked, claimed, converted, sliced};
 use std::alloc::{AllocError, Global};
+use std::sync::ledger::Ledger;
+use step_counter::Steps;
 use tsl_io::Inputs;
 use tsl_types::Use;
 
 /// What the words come to over these inputs.
-pub fn come_to<'a, I: Inputs>(
+pub fn come_to<'a, I: Inputs, L: Ledger>(
     alloc: Global,
     words: &'a [String],
     inputs: &mut I,
+    steps: &mut Steps<L>,
 ) -> Result<Outcome<'a>, AllocError>
     ensures kept { InputsKept (I.state inputs.old) (I.state inputs.new) }
     ensures comes { IfOk result (λ outcome.
@@ -40,8 +44,9 @@ pub fn come_to<'a, I: Inputs>(
         → IsTakenFrom (capped_inputs (texts words.now)) (I.state inputs.old) (I.state inputs.new)) }
     ensures bad_words { asked (texts words.now) ≡ None → inputs.new ≡ inputs.old }
     ensures not_built { IsUnbuilt (asked (texts words.now)) → inputs.new ≡ inputs.old }
+    ensures work { RunWork (Gave (I.state inputs.old) (I.state inputs.new)) (asked (texts words.now)) steps.old steps.new }
 {
-    match answer(alloc, words, inputs) {
+    match answer::<I, L>(alloc, words, inputs, steps) {
         Ok(answer) => Ok(Outcome::Answered(answer)),
         Err(Halt::Refused(refusal)) => Ok(Outcome::Refused(refusal)),
         Err(Halt::NoMemory) => Err(AllocError),
@@ -49,10 +54,11 @@ pub fn come_to<'a, I: Inputs>(
 }
 
 /// The answer that the words ask for.
-fn answer<'a, I: Inputs>(
+fn answer<'a, I: Inputs, L: Ledger>(
     alloc: Global,
     words: &'a [String],
     inputs: &mut I,
+    steps: &mut Steps<L>,
 ) -> Result<Answer, Halt<'a>>
     ensures kept { InputsKept (I.state inputs.old) (I.state inputs.new) }
     ensures gives { Gives (ComesTo (texts words.now) (I.state inputs.old) (I.state inputs.new))
@@ -65,13 +71,18 @@ fn answer<'a, I: Inputs>(
     // Words that ask for nothing, or for what is not built, are refused before any input is opened.
     ensures bad_words { asked (texts words.now) ≡ None → inputs.new ≡ inputs.old }
     ensures not_built { IsUnbuilt (asked (texts words.now)) → inputs.new ≡ inputs.old }
+    ensures work { RunWork (Gave (I.state inputs.old) (I.state inputs.new)) (asked (texts words.now)) steps.old steps.new }
 {
     match read_words(alloc, words)? {
         Request::Call(request) => answer_call(alloc, inputs, &request),
         Request::Emulate(request) => emulated(alloc, inputs, &request),
-        Request::Analyse(request) => analysed(alloc, inputs, &request),
+        Request::Analyse(request) => analysed::<I, L>(alloc, inputs, &request, steps),
+        Request::Check(request) => checked::<I, L>(alloc, inputs, &request, steps),
+        Request::Convert(request) => converted::<I, L>(alloc, inputs, &request, steps),
         Request::List(request) => listed(alloc, inputs, &request),
-        _ => Err(Halt::Refused(Refusal::NotBuilt)),
+        Request::Slice(request) => sliced::<I, L>(alloc, inputs, &request, steps),
+        Request::Claims(request) => claimed::<I, L>(alloc, inputs, &request, steps),
+        Request::Stress(_) => Err(Halt::Refused(Refusal::NotBuilt)),
     }
 }
 

@@ -1,13 +1,17 @@
 //! A run over files in memory, into memory.
 
-ghost use Rattle.std.specs.Prelude.{◌≡◌, ◌≤◌, ◌⊎◌, IfOk, List, ℕ, length};
+ghost use Rattle.std.specs.Prelude.{◌≡◌, ◌≤◌, ◌⊎◌, IfOk, List, Some, ℕ, length};
 ghost use Rattle.tsl_io.specs.FileList.{first_file};
 ghost use Rattle.run_steps.specs.declared.status.Status.{Status};
 ghost use Rattle.run_steps.specs.declared.status.Status.TheVariants as Statuses;
-ghost use Rattle.tsl_run.specs.Owed.{Owes, OwesAlone, OwesLonger};
+ghost use Rattle.analysis_domains.specs.Checks.{accepted_line};
+ghost use Rattle.command_words.specs.Requests.{AnalyseRequest, CheckRequest, ClaimsRequest, SliceRequest, analyse, check, claims, slice};
 ghost use Rattle.command_words.specs.Views.{texts};
+ghost use Rattle.command_words.specs.Words.{asked};
+ghost use Rattle.tsl_run.specs.Owed.{Owes, OwesAlone, OwesLonger};
+ghost use Rattle.tsl_run.specs.Tables.{AreClaimsFor, IsAcceptedFor, IsSliceFor, IsTableFor};
 
-use crate::run;
+use crate::uncounted::run_uncounted;
 use run_steps::Status;
 use std::alloc::{AllocError, Global};
 use tsl_io::{SureInputs, SureSink};
@@ -36,10 +40,30 @@ pub fn run_in_memory(
         → OwesAlone (texts words.now) (first_file files.items) status text
         → length text ≤ 67_108_864
         → IfOk result (λ ended. (ended.status ≡ status) × (ended.text.items ≡ text)) }
+
+    // Where an analysis ends well, its text is that of a table which is true of every run of the machine.
+    ensures table { (request : AnalyseRequest) → asked (texts words.now) ≡ Some (analyse request)
+        → IfOk result (λ ended. ended.status ≡ Statuses.Ok
+        → IsTableFor (first_file files.items) request ended.text.items) }
+
+    // Where a check ends well, the table that it was asked for is true of every run of the machine, and the text says that it is accepted.
+    ensures accepted { (request : CheckRequest) → asked (texts words.now) ≡ Some (check request)
+        → IfOk result (λ ended. ended.status ≡ Statuses.Ok
+        → IsAcceptedFor (first_file files.items) request × (ended.text.items ≡ accepted_line)) }
+
+    // Where a slice ends well, its text is that of a slice which holds every chain of every read that it is of.
+    ensures sliced { (request : SliceRequest) → asked (texts words.now) ≡ Some (slice request)
+        → IfOk result (λ ended. ended.status ≡ Statuses.Ok
+        → IsSliceFor (first_file files.items) request ended.text.items) }
+
+    // Where claims end well, each that the text answers with yes is true of every state that a run has at its address.
+    ensures claimed { (request : ClaimsRequest) → asked (texts words.now) ≡ Some (claims request)
+        → IfOk result (λ ended. ended.status ≡ Statuses.Ok
+        → AreClaimsFor (first_file files.items) request ended.text.items) }
 {
     let mut inputs = SureInputs::new(alloc, files)?;
     let mut sink = SureSink::new(alloc)?;
-    match run(alloc, words, &mut inputs, &mut sink) {
+    match run_uncounted(alloc, words, &mut inputs, &mut sink) {
         Status::NoMemory => Err(AllocError),
         status => Ok(Ended {
             status,

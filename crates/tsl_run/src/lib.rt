@@ -6,7 +6,7 @@
 //!
 //! `answer` shows the chain from words to answer. It is the chain of the definition, specs/Steps: each step gives something to the
 //! next one, or refuses, and then that is what the run comes to. The chain of `call` is here; those of `emulate` and `list` are
-//! those of `run_emulate`, and that of `analyse` is that of `run_analyse`. Over the bytes that the names hold (`Holds`) what these
+//! those of `run_emulate`, and those of `analyse`, `check`, `convert`, `slice` and `claims` are those of `run_tables`. Over the bytes that the names hold (`Holds`) what these
 //! steps come to is *owed* (`Owes`): one outcome, but that a table over affine relations has several texts. Over inputs that may
 //! fail (`Gave`) they come to something that is owed, or that an input could not be read; the code gives just that (`Gives`, for
 //! each of its steps), and so the whole is proved step by step.
@@ -20,7 +20,10 @@
 //! What is promised of analyses is the clause `table` of that law. Where the words ask for `analyse` and the run ends with `Ok`, what was written is
 //! the text of a table for the machine, the code and the entry that the inputs hold (specs/Tables). That table is true of every run of
 //! the machine: the element at each address describes every state that the meaning puts there, and each use list holds every
-//! definition that a read sees.
+//! definition that a read sees. The clause `accepted` promises the same of checks: where the words ask for `check` and the run ends with `Ok`, the
+//! table that was asked for is true of every run. The clauses `sliced` and `claimed` promise what such a table tells: where the words ask for `slice`
+//! and the run ends with `Ok`, what was written is a slice that holds every chain of every read that it is of; where they ask for `claims`, each
+//! claim that is answered with `yes` is true of every state that a run has at its address.
 #![tactic(auto)]
 
 ghost use Rattle.std.specs.Prelude.{◌≡◌, ◌≢◌, ◌⊎◌, IsTrue, List, None, ℕ};
@@ -29,30 +32,36 @@ ghost use Rattle.tsl_io.specs.InputState.{InputsKept};
 ghost use Rattle.tsl_io.specs.SinkState.{Appends, SinkKept};
 ghost use Rattle.tsl_run.specs.Output.{Ends};
 ghost use Rattle.tsl_run.specs.Owed.{Owes};
-ghost use Rattle.run_steps.specs.Reading.{IsTakenFrom};
+ghost use Rattle.run_steps.specs.Reading.{Gave, IsTakenFrom};
 ghost use Rattle.run_steps.specs.Statuses.{IsAnswer};
 ghost use Rattle.command_words.specs.Views.{texts};
 ghost use Rattle.command_words.specs.Words.{asked};
 ghost use Rattle.tsl_run.specs.Words.{IsUnbuilt, capped_inputs};
+ghost use Rattle.tsl_run.specs.Work.{RunWork};
 
 mod answer;
 mod in_memory;
 pub mod laws;
+mod uncounted;
 
 use answer::come_to;
 pub use in_memory::{Ended, run_in_memory};
 pub use run_steps::Status;
 use std::alloc::Global;
+use std::sync::ledger::Ledger;
+use step_counter::Steps;
 use tsl_io::{Inputs, Sink, WriteFault, write_whole};
+pub use uncounted::run_uncounted;
 
 /// Answers what the words ask for: the one text that it writes is known before it is written.
 ///
 /// What else follows of a run is the law `laws::ends_follow`.
-pub fn run<I: Inputs, S: Sink>(
+pub fn run<I: Inputs, S: Sink, L: Ledger>(
     alloc: Global,
     words: &[String],
     inputs: &mut I,
     sink: &mut S,
+    steps: &mut Steps<L>,
 ) -> Status
     // What stays of the inputs and of the sink.
     ensures inputs_kept { InputsKept (I.state inputs.old) (I.state inputs.new) }
@@ -85,10 +94,13 @@ pub fn run<I: Inputs, S: Sink>(
         ⊎ (IsTrue (I.state inputs.new).is_open
         → IsTakenFrom (capped_inputs (texts words.now)) (I.state inputs.old) (I.state inputs.new)) }
 
+    // How many transfers it makes: an analysis at most N(H + 4) + N, of N code words and elements of the height H; a check, a slice and claims at most N.
+    ensures work { RunWork (Gave (I.state inputs.old) (I.state inputs.new)) (asked (texts words.now)) steps.old steps.new }
+
     // Where memory runs out nothing is written.
     ensures no_memory { result ≡ Status.NoMemory → sink.new ≡ sink.old }
 {
-    let Ok(outcome) = come_to(alloc, words, inputs) else {
+    let Ok(outcome) = come_to::<I, L>(alloc, words, inputs, steps) else {
         return Status::NoMemory;
     };
     let status = outcome.status();

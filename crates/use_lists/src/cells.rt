@@ -65,7 +65,7 @@ pub(crate) fn is_same_cell(x: &Use, y: &Use) -> bool
 }
 
 /// Whether the cell of the first use comes before that of the second.
-pub(crate) fn is_cell_before(fields: &[Field], x: &Use, y: &Use) -> bool
+pub fn is_cell_before(fields: &[Field], x: &Use, y: &Use) -> bool
     ensures { result ≡ is_cell_before fields.now (seen x.now) (seen y.now) }
 {
     if x.map == y.map {

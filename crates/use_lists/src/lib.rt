@@ -15,6 +15,7 @@ mod cells;
 mod merge;
 mod stamps;
 
+pub use cells::is_cell_before;
 pub use merge::merged_uses;
 
 #[cfg(test)]

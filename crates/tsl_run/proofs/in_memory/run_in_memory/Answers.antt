@@ -1,15 +1,39 @@
 use Rattle.std.proofs.Common.{◌∙◌}
-use Rattle.tsl_run.proofs.Whole.{exactly, whole}
+use Rattle.tsl_run.proofs.Whole.{acceptances, answers, exactly, slices, tables, whole}
 use Rattle.tsl_run.proofs.in_memory.run_in_memory.Goals as goal
 
 pub returns-clause-owed : goal.returns-clause-owed
 returns-clause-owed c =
     whole _ _ _ _ _ _ _ c.in_ok-inputs.ensures.tells c.in_ok-inputs.ensures.held c.in_ok-inputs.ensures.sure c.in_ok-sink.ensures.tells c.in_ok-sink.ensures.written
-    c.run.ensures.ends c.run.ensures.write_fault (let not = c.in_default.not-NoMemory in λ is. not is)
+    c.run_uncounted.ensures.ends c.run_uncounted.ensures.write_fault (let not = c.in_default.not-NoMemory in λ is. not is)
     _ _ (c.in_ok-to_vec-in_default.ensures.items_if_clones_equal (λ x y same. same) ∙ c.bytes.ensures) c.in_ok-sink.ensures.room
 
 pub returns-clause-exact : goal.returns-clause-exact
 returns-clause-exact c status text alone fits =
     exactly _ _ _ _ _ _ _ c.in_ok-inputs.ensures.tells c.in_ok-inputs.ensures.held c.in_ok-inputs.ensures.sure c.in_ok-sink.ensures.tells c.in_ok-sink.ensures.written
-    c.run.ensures.ends c.run.ensures.write_fault (let not = c.in_default.not-NoMemory in λ is. not is)
+    c.run_uncounted.ensures.ends c.run_uncounted.ensures.write_fault (let not = c.in_default.not-NoMemory in λ is. not is)
     _ _ (c.in_ok-to_vec-in_default.ensures.items_if_clones_equal (λ x y same. same) ∙ c.bytes.ensures) c.in_ok-sink.ensures.room status text alone fits
+
+pub returns-clause-table : goal.returns-clause-table
+returns-clause-table c request asks ok =
+    tables _ _ _ _ _ _ _ c.in_ok-inputs.ensures.tells c.in_ok-inputs.ensures.held c.in_ok-inputs.ensures.sure c.in_ok-sink.ensures.tells c.in_ok-sink.ensures.written
+    c.run_uncounted.ensures.ends c.run_uncounted.ensures.write_fault (let not = c.in_default.not-NoMemory in λ is. not is)
+    _ _ (c.in_ok-to_vec-in_default.ensures.items_if_clones_equal (λ x y same. same) ∙ c.bytes.ensures) c.in_ok-sink.ensures.room request asks ok
+
+pub returns-clause-accepted : goal.returns-clause-accepted
+returns-clause-accepted c request asks ok =
+    acceptances _ _ _ _ _ _ _ c.in_ok-inputs.ensures.tells c.in_ok-inputs.ensures.held c.in_ok-inputs.ensures.sure c.in_ok-sink.ensures.tells c.in_ok-sink.ensures.written
+    c.run_uncounted.ensures.ends c.run_uncounted.ensures.write_fault (let not = c.in_default.not-NoMemory in λ is. not is)
+    _ _ (c.in_ok-to_vec-in_default.ensures.items_if_clones_equal (λ x y same. same) ∙ c.bytes.ensures) c.in_ok-sink.ensures.room request asks ok
+
+pub returns-clause-sliced : goal.returns-clause-sliced
+returns-clause-sliced c request asks ok =
+    slices _ _ _ _ _ _ _ c.in_ok-inputs.ensures.tells c.in_ok-inputs.ensures.held c.in_ok-inputs.ensures.sure c.in_ok-sink.ensures.tells c.in_ok-sink.ensures.written
+    c.run_uncounted.ensures.ends c.run_uncounted.ensures.write_fault (let not = c.in_default.not-NoMemory in λ is. not is)
+    _ _ (c.in_ok-to_vec-in_default.ensures.items_if_clones_equal (λ x y same. same) ∙ c.bytes.ensures) c.in_ok-sink.ensures.room request asks ok
+
+pub returns-clause-claimed : goal.returns-clause-claimed
+returns-clause-claimed c request asks ok =
+    answers _ _ _ _ _ _ _ c.in_ok-inputs.ensures.tells c.in_ok-inputs.ensures.held c.in_ok-inputs.ensures.sure c.in_ok-sink.ensures.tells c.in_ok-sink.ensures.written
+    c.run_uncounted.ensures.ends c.run_uncounted.ensures.write_fault (let not = c.in_default.not-NoMemory in λ is. not is)
+    _ _ (c.in_ok-to_vec-in_default.ensures.items_if_clones_equal (λ x y same. same) ∙ c.bytes.ensures) c.in_ok-sink.ensures.room request asks ok

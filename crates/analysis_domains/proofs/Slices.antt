@@ -1,0 +1,159 @@
+-- Slices have one outcome, and hold chains.
+use Rattle.std.proofs.Common.{◌≡◌, ◌∙◌, ◌⊎◌, ℕ, Bool, true, IsTrue, List, Option, Some, None, inl, inr, refl, sym, ap, subst}
+use Rattle.std.specs.Prelude.{Ok, Err}
+use Rattle.base_trait.specs.Lists.{IsAmong}
+use Rattle.base_trait.specs.Uses.{Seen}
+use Rattle.base_trait.specs.declared.uses.Stamped.{Stamped}
+use Rattle.command_words.specs.declared.bases.BaseName.{BaseName}
+use Rattle.command_words.specs.declared.bases.BaseName.TheVariants as b
+use Rattle.command_words.specs.Bases.{base_text, is_stamped}
+use Rattle.insn_decode.specs.Image.{Image}
+use Rattle.domain_laws.specs.States.{StateType, state_type}
+use Rattle.fixed_point.specs.Table.{Listing, Listings, TableFits}
+use Rattle.fixed_point.specs.Verdicts.{verdict_of}
+use Rattle.fixed_point.specs.declared.verdict.Verdict.TheVariants as v
+use Rattle.fixed_point.proofs.Bounded.{code_among}
+use Rattle.slice_laws.specs.Slices.{IsSlice, IsSliceFrom, asked_uses, is_from, listed_uses, uses_in}
+use Rattle.slice_laws.proofs.One.{slices_are_one as slices_are_of_one}
+use Rattle.slice_laws.proofs.Slices.{slices_hold_chains}
+use Rattle.slice_laws.proofs.There.{slices_are_there}
+use Rattle.slice_text.specs.declared.asked.Asked.{Asked}
+use Rattle.slice_text.specs.Writing.{slice_text}
+use Rattle.table_faults.specs.declared.table_error.TableError.{TableError}
+use Rattle.table_reader.specs.Tables.{IsErrorIn, IsTableIn}
+use Rattle.table_readings.specs.Readings.{AreAlike, AreAlikeAt}
+use Rattle.table_readings.proofs.Errors.{errors_are_one, tables_are_alike, tables_have_no_error, tables_or_errors}
+use Rattle.transfer_laws.specs.Problem.{IsWellPosed, Problem}
+use Rattle.run_steps.specs.Outcome.{Answer, Outcome, table_refused, text}
+use Rattle.analysis_domains.specs.Analyses.{analysis}
+use Rattle.analysis_domains.specs.Checks.{IsJudged}
+use Rattle.analysis_domains.specs.Closed.{ByVerdict}
+use Rattle.analysis_domains.specs.Domains.{DomainOf}
+use Rattle.analysis_domains.specs.Laws.{HasWordsOf, SlicesAreOne, SlicesHaveSome}
+use Rattle.analysis_domains.specs.Named.{SliceHolds, Sliced, domain_of}
+use Rattle.analysis_domains.specs.Slices.{HoldsChains, IsSliceText, Slices, judged, refused}
+use Rattle.analysis_domains.proofs.Bases.{known, known_is_lawful}
+use Rattle.analysis_domains.proofs.Closed.{is_closed, verdicts_are_one, verdicts_have_some}
+use Rattle.analysis_domains.proofs.Lawful.{IsLawful}
+use Rattle.analysis_domains.proofs.Readings.{is_judged, one_verdict}
+
+module _ {E W N C : Type 0} (domain : DomainOf E W N C) (p : Problem) (image : Image) (base bytes : List ℕ) (at : ℕ) (asked : Asked) where
+  module _ (lawful : IsLawful domain p.spec) (posed : IsWellPosed p) where
+    -- ---- there is one at most
+    alike_uses : (x y : Option (Listing E)) → AreAlikeAt domain.elements x y → uses_in x ≡ uses_in y
+    alike_uses None None alike = refl
+    alike_uses None (Some c) alike = absurd alike
+    alike_uses (Some b) None alike = absurd alike
+    alike_uses (Some b) (Some c) alike = alike.uses
+
+    one_text : (t u : Listings E) → AreAlike domain.elements t u → (found other : List ℕ) → IsSliceText p.spec t at asked found → IsSliceText p.spec u at asked other → found ≡ other
+    one_text t u alike found other h k =
+        let same : listed_uses t ≡ listed_uses u = λ i a. alike_uses (t a) (u a) (alike a) i in
+        let slice = subst (λ uses. IsSliceFrom uses (asked_uses uses at asked.map asked.key) h.told h.addresses) same h.slice in
+        let one = slices_are_of_one (listed_uses u) (asked_uses (listed_uses u) at asked.map asked.key) h.told k.told h.addresses k.addresses slice k.slice in
+        h.written ∙ ap (λ told. slice_text p.spec at asked told h.addresses) one.0 ∙ ap (slice_text p.spec at asked k.told) one.1 ∙ sym k.written
+
+    pub sliced_one : (found other : Outcome) → Slices domain p image base bytes at asked found → Slices domain p image base bytes at asked other → found ≡ other
+    sliced_one found other (refused {error = e} h) (refused {error = f} k) =
+        ap (λ (x : TableError). Err (table_refused x)) (errors_are_one domain.Reads domain.elements p.spec lawful.reads base image bytes e f h k)
+    sliced_one found other (refused {error = e} h) (judged u k by) = absurd (tables_have_no_error domain.Reads domain.elements p.spec lawful.reads base image bytes u e k.is_table h)
+    sliced_one found other (judged t h by) (refused {error = f} k) = absurd (tables_have_no_error domain.Reads domain.elements p.spec lawful.reads base image bytes t f h.is_table k)
+    sliced_one found other (judged t h by) (judged u k also) =
+        verdicts_are_one domain.word_text (IsSliceText p.spec t at asked) (IsSliceText p.spec u at asked)
+        (one_text t u (tables_are_alike domain.Reads domain.elements p.spec lawful.reads base image bytes t u h.is_table k.is_table))
+        (verdict_of (analysis domain p) t) (verdict_of (analysis domain p) u) found other (one_verdict domain p lawful posed image base bytes t u h k) by also
+
+    -- ---- there is one
+    listed_code : (t : Listings E) → TableFits (analysis domain p) t → (a : ℕ) (s : Stamped) → IsTrue (is_from (listed_uses t a) s) → IsAmong a p.addresses
+    listed_code t fits a s has = by_block (t a) refl has
+      where
+        by_block : (o : Option (Listing E)) → t a ≡ o → IsTrue (is_from (uses_in o) s) → IsAmong a p.addresses
+        by_block None e h = cc
+        by_block (Some block) e h = code_among p.addresses a (fits a block e).0
+
+    has_text : (t : Listings E) → TableFits (analysis domain p) t → (found : List ℕ) × IsSliceText p.spec t at asked found
+    has_text t fits =
+        let found = slices_are_there (listed_uses t) (asked_uses (listed_uses t) at asked.map asked.key) p.addresses (listed_code t fits) in
+        (slice_text p.spec at asked found.0 found.1, record { told = found.0; addresses = found.1; slice = found.2; written = refl })
+
+    by_reading : HasWordsOf image p → ((t : Listings E) × IsTableIn domain.Reads p.spec base image bytes t) ⊎ ((error : TableError) × IsErrorIn domain.Reads p.spec base image bytes error)
+        → (found : Outcome) × Slices domain p image base bytes at asked found
+    by_reading words (inl (t, is)) =
+        let own = is_judged domain p lawful posed image base bytes words t is in
+        let found = verdicts_have_some domain.word_text (IsSliceText p.spec t at asked) (verdict_of (analysis domain p) t) (λ closed. has_text t own.fits) in
+        (found.0, judged t own found.1)
+    by_reading words (inr (e, is)) = (Err (table_refused e), refused is)
+
+    pub sliced_some : HasWordsOf image p → (found : Outcome) × Slices domain p image base bytes at asked found
+    sliced_some words = by_reading words (tables_or_errors domain.Reads domain.elements p.spec lawful.reads base image bytes)
+
+  -- ---- what it says of runs
+  -- Where the outcome is an answer, it is a slice that holds chains.
+  SaysHolds : Outcome → Type 0
+  SaysHolds (Ok answer) = (written : List ℕ) × (answer ≡ text written) × HoldsChains domain p image base bytes at asked written
+  SaysHolds (Err refusal) = Unit {0}
+
+  module _ (stamped : IsTrue domain.base.notes.stamped) where
+    holding : (t : Listings E) → (is : IsJudged domain p image base bytes t) → verdict_of (analysis domain p) t ≡ v.Accepted → (written : List ℕ) → IsSliceText p.spec t at asked written
+        → HoldsChains domain p image base bytes at asked written
+    holding t is closed written s = record {
+      accepted = record { table = t; is_table = is.is_table; fits = is.fits; closed = closed; is_true = is.is_true closed };
+      told = s.told;
+      addresses = s.addresses;
+      slice = s.slice;
+      written = s.written;
+      chains = slices_hold_chains domain.base domain.elements p t at asked.map asked.key s.told s.addresses (is.is_true closed) stamped s.slice;
+    }
+
+    by_outcome : (t : Listings E) → IsJudged domain p image base bytes t → (found : Outcome) → ByVerdict domain.word_text (IsSliceText p.spec t at asked) (verdict_of (analysis domain p) t) found → SaysHolds found
+    unfolding SaysHolds
+    by_outcome t is (Ok answer) by =
+        let found = is_closed domain.word_text (IsSliceText p.spec t at asked) answer (verdict_of (analysis domain p) t) by in
+        (found.1.0, found.1.1, holding t is found.0 found.1.0 found.1.2)
+    by_outcome t is (Err refusal) by = tt
+
+    sliced_holds : (found : Outcome) → Slices domain p image base bytes at asked found → SaysHolds found
+    unfolding SaysHolds
+    sliced_holds found (refused is) = tt
+    sliced_holds found (judged t is by) = by_outcome t is found by
+
+    pub answers_hold : (answer : Answer) → Slices domain p image base bytes at asked (Ok answer) → (written : List ℕ) × (answer ≡ text written) × HoldsChains domain p image base bytes at asked written
+    unfolding SaysHolds
+    answers_hold answer is = sliced_holds (Ok answer) is
+
+-- ---- over each base
+
+stamped_is : (t : StateType) (base : BaseName) → IsTrue (is_stamped base) → IsTrue (domain_of t base).domain.base.notes.stamped
+stamped_is t b.Const h = cc
+stamped_is t b.KSet h = cc
+stamped_is t b.Interval h = cc
+stamped_is t b.Affine h = cc
+stamped_is t b.DefUse h = refl
+stamped_is t b.ConstInterval h = cc
+stamped_is t b.KSetInterval h = cc
+stamped_is t b.KSetAffine h = cc
+stamped_is t b.KSetDefUse h = refl
+stamped_is t b.IntervalAffine h = cc
+stamped_is t b.IntervalDefUse h = refl
+stamped_is t b.AffineDefUse h = refl
+stamped_is t b.Bits h = cc
+stamped_is t b.KSetBits h = cc
+stamped_is t b.IntervalBits h = cc
+stamped_is t b.BitsDefUse h = refl
+
+pub slices_are_one : SlicesAreOne
+slices_are_one image p base bytes at asked found other posed h k =
+    let any = domain_of (state_type p.spec) base in
+    sliced_one any.domain p image (base_text base) bytes at asked (known_is_lawful base any.domain p.spec (known image p base posed)) posed found other h k
+
+pub slices_have_some : SlicesHaveSome
+slices_have_some image p base bytes at asked posed words =
+    let any = domain_of (state_type p.spec) base in
+    sliced_some any.domain p image (base_text base) bytes at asked (known_is_lawful base any.domain p.spec (known image p base posed)) posed words
+
+-- An answer over a base that tells stamps is a slice that holds chains.
+pub slices_hold : (image : Image) (p : Problem) (base : BaseName) (bytes : List ℕ) (at : ℕ) (asked : Asked) (answer : Answer) → IsTrue (is_stamped base) → Sliced image p base bytes at asked (Ok answer)
+    → (written : List ℕ) × (answer ≡ text written) × SliceHolds image p base bytes at asked written
+slices_hold image p base bytes at asked answer stamped is =
+    let t = state_type p.spec in
+    answers_hold (domain_of t base).domain p image (base_text base) bytes at asked (stamped_is t base stamped) answer is

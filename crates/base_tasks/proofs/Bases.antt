@@ -1,0 +1,37 @@
+-- What is given in the domain of a base is given over the base.
+use Rattle.std.proofs.Common.{◌≡◌, ◌≤◌, ◌+◌, ℕ, refl, sym, subst}
+use Rattle.std.specs.Prelude.{Result}
+use Rattle.command_words.specs.declared.bases.BaseName.{BaseName}
+use Rattle.command_words.specs.Bases.{base_text}
+use Rattle.insn_decode.specs.Image.{Image}
+use Rattle.spec_types.specs.Specification.{Spec}
+use Rattle.domain_laws.specs.States.{state_type}
+use Rattle.run_steps.specs.declared.outcome.Halt.{Halt}
+use Rattle.run_steps.specs.Outcome.{Answer}
+use Rattle.run_steps.specs.Outcomes.{Gives}
+use Rattle.analysis_domains.specs.Named.{Done, domain_of}
+use Rattle.analysis_domains.specs.Tasks.{Comes, spec_of}
+use Rattle.analysis_domains.specs.Work.{most_work, work_of}
+use Rattle.domain_tasks.specs.Read.{task_of}
+use Rattle.domain_tasks.specs.declared.task.Task.{Task}
+use Rattle.domain_tasks.specs.declared.task.Task.TheVariants.{Analyse, Check, Claims, Convert, Slice}
+
+module _ (spec : Spec) (image : Image) where
+  spec_is : (task : Task) → spec_of (task_of spec image task) ≡ spec
+  spec_is (Analyse start) = refl
+  spec_is (Check start table) = refl
+  spec_is (Convert table) = refl
+  spec_is (Slice start table at cell) = refl
+  spec_is (Claims start table list) = refl
+
+  -- the base is this one
+  pub over_it : {A : Type 0} (task : Task) (base it : BaseName) (seen : A → Answer) (r : Result A Halt) → base ≡ it
+      → Gives (Comes (domain_of (state_type spec) it).domain image (base_text base) (task_of spec image task)) seen r → Gives (Done image (task_of spec image task) base) seen r
+  over_it task base it seen r same given =
+      subst (λ s. Gives (Comes (domain_of (state_type s) base).domain image (base_text base) (task_of spec image task)) seen r) (sym (spec_is task))
+      (subst (λ b. Gives (Comes (domain_of (state_type spec) b).domain image (base_text base) (task_of spec image task)) seen r) (sym same) given)
+
+  pub work_over : (task : Task) (base it : BaseName) (old new : ℕ) → base ≡ it → new ≤ old + most_work (domain_of (state_type spec) it).domain (task_of spec image task) → new ≤ old + work_of (task_of spec image task) base
+  work_over task base it old new same few =
+      subst (λ s. new ≤ old + most_work (domain_of (state_type s) base).domain (task_of spec image task)) (sym (spec_is task))
+      (subst (λ b. new ≤ old + most_work (domain_of (state_type spec) b).domain (task_of spec image task)) (sym same) few)

@@ -1,0 +1,305 @@
+-- Domains of the code are domains of the definitions.
+use Rattle.std.proofs.Common.{◌≡◌, ◌⊎◌, ◌≤◌, ◌+◌, ℕ, List, [], ◌∷◌, Option, Some, None, arith, inl, inr, max, option_map, ap, refl, subst, sym, ◌∙◌}
+use Rattle.std.specs.BTreeMap.{get}
+use Rattle.std.specs.Ordering.{nat_cmp}
+use Rattle.std.specs.Prelude.{Bool, ◌&&◌, not, IsTrue, Result, Ok, Err}
+use Rattle.base_trait.specs.Algebra.{Algebra}
+use Rattle.base_trait.proofs.Tests.{and_parts}
+use Rattle.spec_types.specs.Specification.{Spec}
+use Rattle.insn_decode.specs.Image.{Image, addresses}
+use Rattle.value_laws.specs.Abs.{Parts}
+use Rattle.fixed_point.specs.Pairs.{paired as paired_elements}
+use Rattle.fixed_point.specs.Views.{listing, listings}
+use Rattle.fixed_point.specs.declared.table.Block.{Block}
+use Rattle.fixed_point.specs.declared.table.Table.{Table}
+use Rattle.domain_laws.specs.States.{StateType, has_states, same_states, state_type}
+use Rattle.cell_laws.specs.Calls as cell
+use Rattle.cell_laws.specs.Calls.{cell_calls}
+use Rattle.cell_laws.specs.Cells.{cells}
+use Rattle.cell_laws.proofs.Fields.{states_told}
+use Rattle.affine_rows.specs.Submodule.{Submodule}
+use Rattle.affine_base.specs.Meaning.{affine}
+use Rattle.affine_base.specs.declared.word.Word.{Word}
+use Rattle.affine_calls.specs.Calls as relation
+use Rattle.affine_calls.specs.Calls.{affine_calls, affine_elements}
+use Rattle.paired_base.specs.Meaning.{paired}
+use Rattle.pair_calls.specs.Domain.{may_pair, pair_meaning}
+use Rattle.tsl_values.specs.declared.entry.KeyAt.{KeyAt}
+use Rattle.transfer_laws.specs.Problem.{Problem}
+use Rattle.claim_laws.specs.Affine.{affine_tell}
+use Rattle.claim_laws.specs.Answers.{Telling}
+use Rattle.claim_laws.specs.Cells.{cells_tell}
+use Rattle.claim_laws.specs.Pairs.{pairs_tell}
+use Rattle.claim_text.specs.Answers.{answers}
+use Rattle.claim_text.specs.Reading.{has_word, read}
+use Rattle.slice_laws.proofs.One.{slices_are_of_uses}
+use Rattle.slice_text.specs.declared.asked.Asked.{Asked}
+use Rattle.tsl_claims.specs.Seen.{seen_by}
+use Rattle.base_text.specs.Readings.{Readings}
+use Rattle.base_text.specs.Texts.{Texts}
+use Rattle.base_text.specs.Words.{affine_text, pair_text}
+use Rattle.element_text.specs.Parts.{AffineText, CellsText, ElementText, PairText}
+use Rattle.text_lines.specs.Lines.{Lines}
+use Rattle.element_readers.specs.Reading.{AffineRead, CellsRead, ElementReading, PairRead, both, no_first, no_second}
+use Rattle.table_readings.proofs.Views.{error_seen, seen_listing, table_seen}
+use Rattle.table_text.specs.Tables.{AreBlocks, IsAt, IsTableText, none, onto}
+use Rattle.run_steps.specs.Outcome as o
+use Rattle.run_steps.specs.declared.outcome.Halt.{Halt}
+use Rattle.run_steps.specs.declared.outcome.Halt.TheVariants.{NoMemory, Refused}
+use Rattle.run_steps.specs.Outcomes.{Gives, refusal_of}
+use Rattle.run_steps.specs.Outcome.{Answer, Outcome, text, bad_words, not_built, cannot_read, too_long, spec_refused, code_refused, entry_refused, calls_spent, undecodable_at, too_many_targets, table_refused, claims_refused, rejected}
+use Rattle.table_reader.specs.Ends.{is_word_of}
+use Rattle.table_reader.specs.Tables.{IsTableIn}
+use Rattle.analysis_domains.specs.Analyses.{ComesTo}
+use Rattle.analysis_domains.specs.Checks as checks
+use Rattle.analysis_domains.specs.Checks.{Judges}
+use Rattle.analysis_domains.specs.Conversions as conversions
+use Rattle.analysis_domains.specs.Conversions.{Rewrites}
+use Rattle.analysis_domains.specs.Domains.{DomainOf, cells_of, pair_of, relations}
+use Rattle.analysis_domains.specs.Claims as claiming
+use Rattle.analysis_domains.specs.Claims.{Claims}
+use Rattle.analysis_domains.specs.Slices as slices
+use Rattle.analysis_domains.specs.Slices.{IsSliceText, Slices}
+use Rattle.analysis_domains.specs.Tasks.{Comes, Task, analyse, check, claims, convert, slice}
+use Rattle.analysis_domains.specs.Work.{most_work}
+use Rattle.analysis_domains.proofs.Closed.{verdicts_to}
+use Rattle.domain_tasks.specs.Own as given
+use Rattle.domain_tasks.specs.Own.{Own, OwnComesTo, OwnJudges, OwnRewrites, own_work}
+use Rattle.domain_tasks.specs.Claims as own_claims
+use Rattle.domain_tasks.specs.Claims.{OwnClaims}
+use Rattle.domain_tasks.specs.Comes.{OwnComes}
+use Rattle.domain_tasks.specs.Slices as own_slices
+use Rattle.domain_tasks.specs.Slices.{OwnSlices}
+use Rattle.base_tasks.proofs.Seen.{answers_seen, read_seen}
+
+-- ---- texts of tables
+
+module _ {X E : Type 0} (view : X → E) (spec : Spec) (IsOwn : X → List ℕ → Type 0) (Is : E → List ℕ → Type 0) (becomes : (x : X) (bytes : List ℕ) → IsOwn x bytes → Is (view x) bytes) where
+  at_seen : (at : ℕ) (found : Option (Block X)) (bytes : List ℕ) → IsAt IsOwn spec at (option_map (listing (λ x. x)) found) bytes → IsAt Is spec at (option_map (listing view) found) bytes
+  at_seen at None bytes is = is
+  at_seen at (Some b) bytes is = record { element = is.element; is_element = becomes b.elem is.element is.is_element; lines = is.lines }
+
+  blocks_seen : (t : Table X) (ats bytes : List ℕ) → AreBlocks IsOwn spec (listings (λ x. x) t) ats bytes → AreBlocks Is spec (listings view t) ats bytes
+  blocks_seen t [] bytes none = none
+  blocks_seen t (at ∷ ats) bytes (onto first rest is more) = onto first rest (at_seen at _ first is) (blocks_seen t ats rest more)
+
+  pub text_seen : (t : Table X) (image : Image) (base bytes : List ℕ) → IsTableText IsOwn spec image base (listings (λ x. x) t) bytes → IsTableText Is spec image base (listings view t) bytes
+  text_seen t image base bytes is = record { blocks = is.blocks; are_blocks = blocks_seen t (addresses image.segments) is.blocks is.are_blocks; lines = is.lines }
+
+-- ---- tables that are read
+
+module _ {X E : Type 0} (view : X → E) where
+  block_seen : (found : Option (Block X)) → option_map (listing view) found ≡ option_map (seen_listing view) (option_map (listing (λ x. x)) found)
+  block_seen None = refl
+  block_seen (Some b) = refl
+
+  pub listings_seen : (t : Table X) (a : ℕ) → listings view t a ≡ option_map (seen_listing view) (listings (λ x. x) t a)
+  listings_seen t a = block_seen (get nat_cmp t.blocks a)
+
+-- ---- ties
+
+-- the domain that the code's calls make, with these texts and readings, and what elements tell
+abbrev pub with_texts : {X E W N C : Type 0} → Own X E W N C → ElementText E → ElementReading E → Telling E → DomainOf E W N C
+with_texts own IsText Reads telling = record { base = own.base; cap = own.cap; elements = own.elements; meaning = own.meaning; IsText = IsText; Reads = Reads; word_text = own.word_text; telling = telling }
+
+-- It is a domain of the definitions. Texts of the code's elements are texts there, and so is what is read of lines, and what they tell of claims.
+pub record Tie {X E W N C : Type 0} (own : Own X E W N C) (K : Telling X) (domain : DomainOf E W N C) : Type 1 where
+  pub same : with_texts own domain.IsText domain.Reads domain.telling ≡ domain
+  pub text : (spec : Spec) (x : X) (bytes : List ℕ) → own.IsText spec x bytes → domain.IsText spec (own.view x) bytes
+  pub tells : K ≡ seen_by own.view domain.telling
+  pub reads : (spec : Spec) (is_word : ℕ → Bool) (ls : Lines) (r : Option X) (left : Lines) → own.Reads spec is_word ls r left → domain.Reads spec is_word ls (option_map own.view r) left
+
+module _ {X E W N C : Type 0} (own : Own X E W N C) (K : Telling X) (domain : DomainOf E W N C) (tie : Tie own K domain) (image : Image) (base : List ℕ) where
+  abbrev seen : DomainOf E W N C
+  seen = with_texts own domain.IsText domain.Reads domain.telling
+
+  analysis_comes : (p : Problem) (outcome : Outcome) → OwnComesTo own p image base outcome → ComesTo seen p image base outcome
+  analysis_comes p (Ok (text bytes)) t = record {
+    trace = t.trace;
+    table = listings own.view t.table;
+    legal = t.legal;
+    full = t.full;
+    few = t.few;
+    is_table = t.is_table;
+    fits = t.fits;
+    is_true = t.is_true;
+    text = text_seen own.view p.spec (own.IsText p.spec) (domain.IsText p.spec) (tie.text p.spec) t.table image base bytes t.text;
+  }
+  analysis_comes p (Ok (o.undecodable bytes)) never = absurd never
+  analysis_comes p (Ok (o.calls_ended bytes)) never = absurd never
+  analysis_comes p (Err bad_words) never = absurd never
+  analysis_comes p (Err not_built) never = absurd never
+  analysis_comes p (Err (cannot_read name)) never = absurd never
+  analysis_comes p (Err (too_long name)) never = absurd never
+  analysis_comes p (Err (spec_refused fault)) never = absurd never
+  analysis_comes p (Err (code_refused fault)) never = absurd never
+  analysis_comes p (Err (entry_refused fault)) never = absurd never
+  analysis_comes p (Err calls_spent) never = absurd never
+  analysis_comes p (Err (undecodable_at at word)) stop = stop
+  analysis_comes p (Err (too_many_targets at shown)) stop = stop
+  analysis_comes p (Err (table_refused fault)) never = absurd never
+  analysis_comes p (Err (claims_refused fault)) never = absurd never
+  analysis_comes p (Err (rejected rejection)) never = absurd never
+
+  -- a table of the code that was read
+  module _ (spec : Spec) where
+    abbrev to : (ls : Lines) (r : Option X) (left : Lines) → own.Reads spec (is_word_of image) ls r left → domain.Reads spec (is_word_of image) ls (option_map own.view r) left
+    to = tie.reads spec (is_word_of image)
+
+    table_read : (bytes : List ℕ) (t : Table X) → IsTableIn own.Reads spec base image bytes (listings (λ x. x) t) → IsTableIn domain.Reads spec base image bytes (listings own.view t)
+    table_read bytes t is = table_seen own.view own.Reads domain.Reads spec base image to bytes (listings (λ x. x) t) (listings own.view t) (listings_seen own.view t) is
+
+  check_comes : (p : Problem) (bytes : List ℕ) (outcome : Outcome) → OwnJudges own p image base bytes outcome → Judges seen p image base bytes outcome
+  check_comes p bytes outcome (given.refused {error = error} is) = checks.refused (error_seen own.view own.Reads domain.Reads p.spec base image (to p.spec) bytes error is)
+  check_comes p bytes outcome (given.judged table is) = checks.judged (listings own.view table) (record { is_table = table_read p.spec bytes table is.is_table; fits = is.fits; is_true = is.is_true })
+
+  conversion_comes : (spec : Spec) (bytes : List ℕ) (outcome : Outcome) → OwnRewrites own spec image base bytes outcome → Rewrites seen spec image base bytes outcome
+  conversion_comes spec bytes outcome (given.unread {error = error} is) = conversions.refused (error_seen own.view own.Reads domain.Reads spec base image (to spec) bytes error is)
+  conversion_comes spec bytes outcome (given.rewritten table new is written) =
+      conversions.rewritten (listings own.view table) new (table_read spec bytes table is) (text_seen own.view spec (own.IsText spec) (domain.IsText spec) (tie.text spec) table image base new written)
+
+  slice_comes : (p : Problem) (bytes : List ℕ) (at : ℕ) (cell : Asked) (outcome : Outcome) → OwnSlices own p image base bytes at cell outcome → Slices seen p image base bytes at cell outcome
+  slice_comes p bytes at cell outcome (own_slices.refused {error = error} is) = slices.refused (error_seen own.view own.Reads domain.Reads p.spec base image (to p.spec) bytes error is)
+  slice_comes p bytes at cell outcome (own_slices.judged table is by) =
+      slices.judged (listings own.view table) (record { is_table = table_read p.spec bytes table is.is_table; fits = is.fits; is_true = is.is_true })
+      (verdicts_to own.word_text (IsSliceText p.spec (listings (λ x. x) table) at cell) (IsSliceText p.spec (listings own.view table) at cell)
+      (λ bytes s. record { told = s.told; addresses = s.addresses; slice = slices_are_of_uses own.view table at cell.map cell.key s.told s.addresses s.slice; written = s.written }) _ outcome by)
+
+  claims_comes : (p : Problem) (bytes list : List ℕ) (outcome : Outcome) → OwnClaims own K p image base bytes list outcome → Claims seen p image base bytes list outcome
+  claims_comes p bytes list outcome (own_claims.refused {error = error} is) = claiming.refused (error_seen own.view own.Reads domain.Reads p.spec base image (to p.spec) bytes error is)
+  claims_comes p bytes list outcome (own_claims.unread {error = error} table is e) =
+      claiming.unread (listings own.view table) (table_read p.spec bytes table is) (sym (read_seen own.view domain.telling (has_word image) p.spec list) ∙ subst (λ k. read k (has_word image) p.spec list ≡ Err error) tie.tells e)
+  claims_comes p bytes list outcome (own_claims.judged table all is e by) =
+      claiming.judged (listings own.view table) all (record { is_table = table_read p.spec bytes table is.is_table; fits = is.fits; is_true = is.is_true })
+      (sym (read_seen own.view domain.telling (has_word image) p.spec list) ∙ subst (λ k. read k (has_word image) p.spec list ≡ Ok all) tie.tells e)
+      (verdicts_to own.word_text (λ lines. lines ≡ answers K (listings (λ x. x) table) all) (λ lines. lines ≡ answers domain.telling (listings own.view table) all)
+      (λ lines h. h ∙ ap (λ k. answers k (listings (λ x. x) table) all) tie.tells ∙ answers_seen own.view domain.telling table all) _ outcome by)
+
+  seen_comes : (task : Task) (outcome : Outcome) → OwnComes own K image base task outcome → Comes seen image base task outcome
+  seen_comes (analyse p) outcome is = analysis_comes p outcome is
+  seen_comes (check p bytes) outcome is = check_comes p bytes outcome is
+  seen_comes (convert spec bytes) outcome is = conversion_comes spec bytes outcome is
+  seen_comes (slice p bytes at cell) outcome is = slice_comes p bytes at cell outcome is
+  seen_comes (claims p bytes list) outcome is = claims_comes p bytes list outcome is
+
+  pub comes : (task : Task) (outcome : Outcome) → OwnComes own K image base task outcome → Comes domain image base task outcome
+  comes task outcome is = subst (λ d. Comes d image base task outcome) tie.same (seen_comes task outcome is)
+
+-- ---- the work
+
+module _ {X E W N C : Type 0} (own : Own X E W N C) (K : Telling X) (domain : DomainOf E W N C) (tie : Tie own K domain) where
+  seen_work : (task : Task) → own_work own task ≡ most_work (with_texts own domain.IsText domain.Reads domain.telling) task
+  seen_work (analyse p) = refl
+  seen_work (check p bytes) = refl
+  seen_work (convert spec bytes) = refl
+  seen_work (slice p bytes at cell) = refl
+  seen_work (claims p bytes list) = refl
+
+  work_is : (task : Task) → own_work own task ≡ most_work domain task
+  work_is task = seen_work task ∙ ap (λ d. most_work d task) tie.same
+
+-- ---- cells, relations, pairs
+
+module _ {X W N C : Type 0} (view : X → Parts W N) (B : Algebra W N C) (cap : ℕ) (name : List ℕ) (texts : Texts W N) (readings : Readings W N) where
+  abbrev pub own_cells : C → StateType → Own X (Parts W N) W N C
+  own_cells c t = record {
+    base = B;
+    cap = cap;
+    elements = cells B c cap t.fields;
+    meaning = cell_calls B c cap t;
+    view = view;
+    IsText = λ spec x. CellsText name texts spec (view x);
+    Reads = λ spec is_word ls r left. CellsRead readings cap name spec is_word ls (option_map view r) left;
+    word_text = texts.word;
+  }
+
+  -- what the code's elements tell
+  abbrev pub cells_told : C → Telling X
+  cells_told c = seen_by view (cells_tell B c)
+
+  pub cells_tie : (c shared : C) (t : StateType) (spec : Spec) → c ≡ shared → IsTrue (cell.is_for B t spec) → Tie (own_cells c t) (cells_told c) (cells_of (state_type spec) B shared cap name texts readings)
+  cells_tie c shared t spec one made =
+      let looks = (and_parts B.joins (not B.words.looks && (has_states spec && same_states t (state_type spec))) made).1 in
+      let states = (and_parts (not B.words.looks) (has_states spec && same_states t (state_type spec)) looks).1 in
+      let type = states_told t (state_type spec) (and_parts (has_states spec) (same_states t (state_type spec)) states).1 in
+      record {
+        same = ap (λ u. record (cells_of u B c cap name texts readings) { telling = cells_tell B shared }) type ∙ ap (λ x. record (cells_of (state_type spec) B x cap name texts readings) { telling = cells_tell B shared }) one;
+        tells = ap (λ x. seen_by view (cells_tell B x)) one;
+        text = λ spec x bytes is. is;
+        reads = λ spec is_word ls r left is. is;
+      }
+
+abbrev pub own_relations : StateType → Own Submodule Submodule Word (Unit {0}) (List (ℕ × KeyAt))
+own_relations t = record {
+  base = affine;
+  cap = 256;
+  elements = affine_elements t;
+  meaning = affine_calls t;
+  view = λ x. x;
+  IsText = AffineText;
+  Reads = AffineRead (relation.cell_count t);
+  word_text = affine_text;
+}
+
+-- seen as it is
+itself : {A : Type 0} (r : Option A) (P : Option A → Type 0) → P r → P (option_map (λ x. x) r)
+itself None P h = h
+itself (Some x) P h = h
+
+pub relations_tie : (t : StateType) (spec : Spec) → IsTrue (relation.is_for t spec) → Tie (own_relations t) (affine_tell t) (relations (state_type spec))
+relations_tie t spec made =
+    let type = states_told t (state_type spec) (and_parts (has_states spec) (same_states t (state_type spec)) made).1 in
+    record {
+      same = ap (λ u. record (relations u) { Reads = AffineRead (relation.cell_count (state_type spec)); telling = affine_tell (state_type spec) }) type;
+      tells = ap affine_tell type;
+      text = λ s x bytes is. is;
+      reads = λ s is_word ls r left is. subst (λ u. AffineRead (relation.cell_count u) s is_word ls (option_map (λ x. x) r) left) type (itself r (λ o. AffineRead (relation.cell_count t) s is_word ls o left) is);
+    }
+
+module _ {X Y E F V W M N C D : Type 0} (first : Own X E V M C) (second : Own Y F W N D) where
+  abbrev pub own_pair : Own (X × Y) (E × F) (V × W) (M × N) (C × D)
+  own_pair = record {
+    base = paired first.base second.base;
+    cap = max first.cap second.cap;
+    elements = paired_elements first.elements second.elements;
+    meaning = pair_meaning first.base second.base (max first.cap second.cap) first.meaning second.meaning;
+    view = λ x. (first.view x.0, second.view x.1);
+    IsText = PairText first.IsText second.IsText;
+    Reads = PairRead first.Reads second.Reads;
+    word_text = pair_text first.word_text second.word_text;
+  }
+
+  pair_read : (Seen : ElementReading E) (Later : ElementReading F) (spec : Spec) (is_word : ℕ → Bool)
+      → ((ls : Lines) (r : Option X) (left : Lines) → first.Reads spec is_word ls r left → Seen spec is_word ls (option_map first.view r) left)
+      → ((ls : Lines) (r : Option Y) (left : Lines) → second.Reads spec is_word ls r left → Later spec is_word ls (option_map second.view r) left)
+      → (ls : Lines) (r : Option (X × Y)) (others : Lines) → PairRead first.Reads second.Reads spec is_word ls r others
+      → PairRead Seen Later spec is_word ls (option_map (λ (z : X × Y). (first.view z.0, second.view z.1)) r) others
+  pair_read Seen Later spec is_word to also ls r others (no_first {rest = u} f) = no_first (to ls None u f)
+  pair_read Seen Later spec is_word to also ls r others (no_second {mid = m} {rest = u} x f s) = no_second (first.view x) (to ls (Some x) m f) (also m None u s)
+  pair_read Seen Later spec is_word to also ls r others (both {mid = m} {rest = u} x y f s) = both (first.view x) (second.view y) (to ls (Some x) m f) (also m (Some y) u s)
+
+  pub pair_tie : (K : Telling X) (L : Telling Y) (a : DomainOf E V M C) (b : DomainOf F W N D) → Tie first K a → Tie second L b → Tie own_pair (pairs_tell K L) (pair_of a b)
+  pair_tie K L a b left right = record {
+    same = ap (λ x. pair_of x (with_texts second b.IsText b.Reads b.telling)) left.same ∙ ap (λ y. pair_of a y) right.same;
+    tells = ap (λ k. pairs_tell k L) left.tells ∙ ap (λ l. pairs_tell (seen_by first.view a.telling) l) right.tells;
+    text = λ spec x bytes is. record { left = is.left; right = is.right; first = left.text spec x.0 is.left is.first; second = right.text spec x.1 is.right is.second; both = is.both };
+    reads = λ spec is_word ls r others is. pair_read a.Reads b.Reads spec is_word (left.reads spec is_word) (right.reads spec is_word) ls r others is;
+  }
+
+-- the sides of a pair are for the specification
+pub both_for : {V W M N C D : Type 0} (p q : Bool) (A : Algebra V M C) (B : Algebra W N D) → IsTrue (p && (q && may_pair A B)) → IsTrue p × IsTrue q
+both_for p q A B h = let parts = and_parts p (q && may_pair A B) h in (parts.0, (and_parts q (may_pair A B) parts.1).0)
+
+-- ---- what some value gives, the domain gives
+
+pub gives_comes : {A D X E W N C : Type 0} (Is : D → Type 0) (own : D → Own X E W N C) (K : D → Telling X) (domain : DomainOf E W N C) (tie : (d : D) → Is d → Tie (own d) (K d) domain) (image : Image) (base : List ℕ) (task : Task) (view : A → Answer) (r : Result A Halt)
+    → Gives (λ outcome. (d : D) × Is d × OwnComes (own d) (K d) image base task outcome) view r → Gives (Comes domain image base task) view r
+gives_comes Is own K domain tie image base task view (Ok found) given = comes (own given.0) (K given.0) domain (tie given.0 given.1) image base task (Ok (view found)) given.2
+gives_comes Is own K domain tie image base task view (Err NoMemory) given = tt
+gives_comes Is own K domain tie image base task view (Err (Refused refusal)) given = comes (own given.0) (K given.0) domain (tie given.0 given.1) image base task (Err (refusal_of refusal)) given.2
+
+-- Nothing was done, or at most what some value takes. (What is given besides says which domain of the code each value makes.)
+pub work_comes : {A D X E W N C : Type 0} (Is : D → Type 0) (own : D → Own X E W N C) (K : D → Telling X) (domain : DomainOf E W N C) (tie : (d : D) → Is d → Tie (own d) (K d) domain) (image : Image) (base : List ℕ) (task : Task) (view : A → Answer) (r : Result A Halt)
+    → Gives (λ outcome. (d : D) × Is d × OwnComes (own d) (K d) image base task outcome) view r → (old new : ℕ) → (new ≡ old) ⊎ ((d : D) × Is d × (new ≤ old + own_work (own d) task)) → new ≤ old + most_work domain task
+work_comes Is own K domain tie image base task view r given old new (inl same) = omega (arith, same)
+work_comes Is own K domain tie image base task view r given old new (inr h) = subst (λ n. new ≤ old + n) (work_is (own h.0) (K h.0) domain (tie h.0 h.1) task) h.2

@@ -1,0 +1,29 @@
+use Rattle.std.specs.Prelude.{IsTrue}
+use Rattle.command_words.specs.Bases.{base_text}
+use Rattle.spec_types.specs.Views.{specification}
+use Rattle.domain_tasks.specs.Read.{task_of}
+use Rattle.affine_calls.specs.Calls as relation
+use Rattle.claim_laws.specs.Affine.{affine_tell}
+use Rattle.run_steps.specs.Outcomes.{answer_of}
+use Rattle.base_tasks.proofs.Ties.{gives_comes, own_relations, relations_tie, work_comes}
+use Rattle.base_tasks.proofs.named.over_relations.Goals as goal
+
+pub returns-clause-gives : goal.returns-clause-gives
+returns-clause-gives g c =
+    let s = c.args.it.now in
+    let spec = specification s.spec.now in
+    gives_comes (λ d. IsTrue (relation.is_for d spec))
+    (λ d. own_relations d)
+    (λ d. affine_tell d) _
+    (λ d made. relations_tie d spec made)
+    s.image.now (base_text c.args.base) (task_of spec s.image.now s.task) answer_of c.in_domain.result c.in_domain.ensures.gives
+
+pub returns-clause-work : goal.returns-clause-work
+returns-clause-work g c =
+    let s = c.args.it.now in
+    let spec = specification s.spec.now in
+    work_comes (λ d. IsTrue (relation.is_for d spec))
+    (λ d. own_relations d)
+    (λ d. affine_tell d) _
+    (λ d made. relations_tie d spec made)
+    s.image.now (base_text c.args.base) (task_of spec s.image.now s.task) answer_of c.in_domain.result c.in_domain.ensures.gives c.args.steps.now c.in_domain.new.steps c.in_domain.ensures.work

@@ -1,0 +1,10 @@
+//! What is asked over a base that is named.
+//!
+//! Each of the sixteen bases stands for a domain, and the task is done there (`over_base`): the table of an analysis, the verdict on a table, a
+//! table written anew, a slice of one, or its answers to claims. What it comes to is what `analysis_domains` says of the base (`Done`, specs/Named): the domain of the code is
+//! one of the definitions (proofs/Ties).
+#![tactic(auto)]
+
+mod named;
+
+pub use named::over_base;

@@ -1,0 +1,5 @@
+pub mod Fitting
+pub mod Items
+pub mod Places
+pub mod ShortNumbers
+pub mod Words

@@ -1,0 +1,9 @@
+pub mod Answers
+pub mod Cells
+pub mod Laws
+pub mod Lines
+pub mod Meaning
+pub mod Numbers
+pub mod Reading
+pub mod Sums
+pub mod Views

@@ -1,0 +1,115 @@
+-- What is asked comes to with the elements of the code, which are seen as the plain ones of definitions.
+use Rattle.std.specs.Prelude.{◌≡◌, ℕ, false, List, [], Option, Ok, Err, codes, option_map}
+use Rattle.base_trait.specs.Algebra.{Algebra}
+use Rattle.claim_laws.specs.Answers.{Telling}
+use Rattle.tsl_values.specs.States.{State}
+use Rattle.insn_decode.specs.Image.{Image}
+use Rattle.fixed_point.specs.Elements.{Elements}
+use Rattle.fixed_point.specs.Play.{IsFull, IsLegal, play}
+use Rattle.fixed_point.specs.Table.{IsTableOf, TableFits}
+use Rattle.fixed_point.specs.Views.{listings}
+use Rattle.fixed_point.specs.declared.table.Table.{Table}
+use Rattle.domain_laws.specs.Domain.{Meaning}
+use Rattle.transfer_laws.specs.Problem.{Problem}
+use Rattle.transfer_laws.specs.Runs.{IsTrueOfRuns}
+use Rattle.element_text.specs.Parts.{ElementText}
+use Rattle.element_readers.specs.Reading.{ElementReading}
+use Rattle.table_faults.specs.declared.table_error.TableError.{TableError}
+use Rattle.table_reader.specs.Tables.{IsErrorIn, IsTableIn}
+use Rattle.fixed_point.specs.Verdicts.{verdict_of}
+use Rattle.fixed_point.specs.declared.verdict.Verdict.{Verdict}
+use Rattle.fixed_point.specs.declared.verdict.Verdict.TheVariants as v
+use Rattle.spec_types.specs.Specification.{Spec}
+use Rattle.analysis_domains.specs.Checks.{outcome_of}
+use Rattle.table_text.specs.Tables.{IsTableText}
+use Rattle.run_steps.specs.Outcome as o
+use Rattle.run_steps.specs.Outcome.{Outcome, table_refused, text}
+use Rattle.analysis_domains.specs.Analyses.{IsShort, IsStop, analysis}
+use Rattle.analysis_domains.specs.Domains.{DomainOf}
+use Rattle.analysis_domains.specs.Tasks.{Task}
+use Rattle.analysis_domains.specs.Work.{most_work}
+
+-- The elements X of the code, how they are seen, and the domain that their calls make.
+pub record Own (X E W N C : Type 0) : Type 1 where
+  pub base : Algebra W N C
+  pub cap : ℕ
+  pub elements : Elements E State
+  pub meaning : Meaning E W N C
+  pub view : X → E
+  pub IsText : ElementText X
+  pub Reads : ElementReading X
+  pub word_text : ℕ → W → List ℕ
+
+-- elements that tell nothing of claims
+abbrev pub silent : {E : Type 0} → Telling E
+silent = record {
+  takes_ranges = false;
+  takes_sums = false;
+  tracked = [];
+  in_range = λ x field key lo hi. false;
+  excludes = λ x field key v. false;
+  meets = λ x form. false;
+}
+
+module _ {X E W N C : Type 0} (own : Own X E W N C) where
+  -- The same as definitions have it: a text of a plain element is one of an element that is seen so. What is told of claims is left out.
+  abbrev pub as_defined : DomainOf E W N C
+  as_defined = record {
+    base = own.base;
+    cap = own.cap;
+    elements = own.elements;
+    meaning = own.meaning;
+    IsText = λ spec e t. (x : X) × (own.view x ≡ e) × own.IsText spec x t;
+    Reads = λ spec code ls r rest. (x : Option X) × (option_map own.view x ≡ r) × own.Reads spec code ls x rest;
+    word_text = own.word_text;
+    telling = silent;
+  }
+
+  module _ (p : Problem) where
+    -- A table of the code is that of the analysis, true of the runs, and the bytes are its text.
+    pub record IsOwnTable (image : Image) (base bytes : List ℕ) : Type 0 where
+      pub trace : List ℕ
+      pub table : Table X
+      pub legal : IsLegal (analysis as_defined p) trace
+      pub full : IsFull (play (analysis as_defined p) trace)
+      pub few : IsShort as_defined p trace
+      pub is_table : IsTableOf (analysis as_defined p) (listings own.view table) (play (analysis as_defined p) trace)
+      pub fits : TableFits (analysis as_defined p) (listings own.view table)
+      pub is_true : IsTrueOfRuns own.base own.elements p (listings own.view table)
+      pub text : IsTableText (own.IsText p.spec) p.spec image base (listings (λ x. x) table) bytes
+
+    abbrev pub OwnComesTo : Image → List ℕ → Outcome → Type 0
+    OwnComesTo image base (Ok (text bytes)) = IsOwnTable image base bytes
+    OwnComesTo image base (Ok (o.undecodable bytes)) = ⊥
+    OwnComesTo image base (Ok (o.calls_ended bytes)) = ⊥
+    OwnComesTo image base (Err refusal) = IsStop as_defined p refusal
+
+    -- ---- checks
+
+    -- This is the verdict on a table of the code, which fits. Where it is that the table is closed, that is true of the runs.
+    pub record IsOwnVerdict (table : Table X) (verdict : Verdict W) : Type 0 where
+      pub fits : TableFits (analysis as_defined p) (listings own.view table)
+      pub is : verdict ≡ verdict_of (analysis as_defined p) (listings own.view table)
+      pub is_true : verdict ≡ v.Accepted → IsTrueOfRuns own.base own.elements p (listings own.view table)
+
+    -- A table of the code is that of the text, fits, and is true of the runs where it is closed.
+    pub record IsOwnJudged (image : Image) (base bytes : List ℕ) (table : Table X) : Type 0 where
+      pub is_table : IsTableIn own.Reads p.spec base image bytes (listings (λ x. x) table)
+      pub fits : TableFits (analysis as_defined p) (listings own.view table)
+      pub is_true : verdict_of (analysis as_defined p) (listings own.view table) ≡ v.Accepted → IsTrueOfRuns own.base own.elements p (listings own.view table)
+
+    pub data OwnJudges (image : Image) (base bytes : List ℕ) : Outcome → Type 0 where
+      refused : {error : TableError} → IsErrorIn own.Reads p.spec base image bytes error → OwnJudges image base bytes (Err (table_refused error))
+      judged : (table : Table X) → IsOwnJudged image base bytes table → OwnJudges image base bytes (outcome_of own.word_text (verdict_of (analysis as_defined p) (listings own.view table)))
+
+  -- ---- conversions
+
+  pub data OwnRewrites (spec : Spec) (image : Image) (base bytes : List ℕ) : Outcome → Type 0 where
+    unread : {error : TableError} → IsErrorIn own.Reads spec base image bytes error → OwnRewrites spec image base bytes (Err (table_refused error))
+    rewritten : (table : Table X) (new : List ℕ) → IsTableIn own.Reads spec base image bytes (listings (λ x. x) table) → IsTableText (own.IsText spec) spec image base (listings (λ x. x) table) new
+        → OwnRewrites spec image base bytes (Ok (text new))
+
+  -- ---- how many transfers it takes at most
+
+  abbrev pub own_work : Task → ℕ
+  own_work = most_work as_defined

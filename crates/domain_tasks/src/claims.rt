@@ -1,0 +1,74 @@
+//! The answers of the table that a text is to the claims that another is, in a domain.
+
+ghost use Rattle.std.specs.Prelude.{◌≡◌, ◌<◌, ◌≤◌, ◌+◌, ◌-◌, ◌^◌, ℕ, IfOk, IsTrue, Some, length, map};
+ghost use Rattle.base_trait.specs.Lists.{Each};
+ghost use Rattle.command_words.specs.Bases.{base_text};
+ghost use Rattle.spec_types.specs.Views.{specification};
+ghost use Rattle.fixed_point.specs.Table.{Listing};
+ghost use Rattle.fixed_point.specs.Views.{listings};
+ghost use Rattle.domain_laws.specs.States.{state_type};
+ghost use Rattle.state_text.specs.Reading.{entry_of};
+ghost use Rattle.claim_laws.specs.Laws.{IsClaim};
+ghost use Rattle.tsl_claims.specs.Tables.{claim as plain_claim};
+ghost use Rattle.claim_text.specs.Answers.{answers};
+ghost use Rattle.run_steps.specs.Outcomes.{Gives, answer_of};
+ghost use Rattle.domain_tasks.specs.Claims.{OwnClaims};
+ghost use Rattle.analysis_domains.specs.Tasks as asked;
+ghost use Rattle.domain_tasks.specs.Own.{own_work};
+ghost use Rattle.domain_tasks.specs.Read.{IsRead, IsTextOf, problem_at};
+
+use crate::task::{Start, Subject};
+use crate::verdict::{closed, verdict_in};
+use analysis_domains::NamedDomain;
+use claim_text::{answers_text, read_claims};
+use command_words::BaseName;
+use fixed_point::Table;
+use run_steps::{Answer, Halt};
+use spec_types::Spec;
+use std::alloc::{AllocError as NoMemory, Global};
+use std::sync::ledger::Ledger;
+use step_counter::Steps;
+use table_reader::read_table;
+use tsl_claims::Claim;
+
+/// The answers of a table to claims.
+fn answered<D: NamedDomain>(
+    alloc: Global,
+    domain: &D,
+    spec: &Spec,
+    table: &Table<D::Elem>,
+    claims: &[Claim],
+) -> Result<Answer, NoMemory>
+    requires made { IsTrue (D.is_for domain.now (specification spec.now)) }
+    requires fits { (at : ℕ) (b : Listing D.Elem) → listings (λ e. e) table.now at ≡ Some b → (D.elements domain.now).fits (D.view b.elem) }
+    requires claims { Each (IsClaim (D.telling domain.now) (state_type (specification spec.now)).fields) (map plain_claim claims.now) }
+    ensures { IfOk result (λ answer. IsTextOf (λ text. text ≡ answers (D.telling domain.now) (listings (λ x. x) table.now) (map plain_claim claims.now)) (answer_of answer)) }
+{
+    Ok(Answer::Text(answers_text::<D>(alloc, domain, spec, table, claims)?.into_bytes()))
+}
+
+/// What the claims of a text come to in a domain that was made for the specification.
+pub(crate) fn claimed_in<'a, 'b, D: NamedDomain, L: Ledger>(
+    alloc: Global,
+    domain: &D,
+    it: &Subject<'a>,
+    start: &Start<'a>,
+    base: BaseName,
+    bytes: &[u8],
+    list: &[u8],
+    steps: &mut Steps<L>,
+) -> Result<Answer, Halt<'b>>
+    requires joins { IsTrue D.B.algebra.joins }
+    requires made { IsTrue (D.is_for domain.now (specification it.now.spec.now)) }
+    requires read { IsRead (specification it.now.spec.now) start.now.machine (entry_of start.now.entry.now) }
+    requires short { length bytes.now < 2 ^ 32 }
+    requires few { length list.now < 2 ^ 32 - 1 }
+    ensures gives { Gives (OwnClaims (record { base = D.B.algebra; cap = D.B.CAP; elements = D.elements domain.now; meaning = D.meaning domain.now; view = D.view; IsText = D.IsText; Reads = D.Reads domain.now; word_text = D.word_text }) (D.telling domain.now) (problem_at (specification it.now.spec.now) it.now.image.now start.now) it.now.image.now (base_text base) bytes.now list.now) answer_of result }
+    ensures work { steps.new ≤ steps.old + own_work (record { base = D.B.algebra; cap = D.B.CAP; elements = D.elements domain.now; meaning = D.meaning domain.now; view = D.view; IsText = D.IsText; Reads = D.Reads domain.now; word_text = D.word_text }) (asked.claims (problem_at (specification it.now.spec.now) it.now.image.now start.now) bytes.now list.now) }
+{
+    let table = read_table::<D>(alloc, domain, it.spec, it.image, base, bytes)?;
+    let claims = read_claims::<D>(alloc, domain, it.spec, it.image, list)?;
+    let verdict = verdict_in::<D, L>(alloc, domain, it, start, &table, steps)?;
+    closed::<D>(alloc, &verdict)?;
+    Ok(answered::<D>(alloc, domain, it.spec, &table, &claims)?)
+}

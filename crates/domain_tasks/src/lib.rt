@@ -1,0 +1,23 @@
+//! What is asked in a domain: the table of an analysis, the verdict on a table, a table written anew, a slice of one, or its answers to claims.
+//!
+//! The task is done in a domain that is made for the specification (src/over): the code is analysed and its table is written (src/table); the
+//! text of a table is read and checked (src/check), or read and written in format 2 (src/convert). Of a table that is read and accepted, a slice is
+//! written (src/slice), or an answer to each claim of another text (src/claims). A table that is written by an analysis, and one that is
+//! accepted, is true of every run of the machine.
+//!
+//! The definitions of `analysis_domains` speak of plain elements, and the code of its own. specs/Own says what a task comes to with those of the
+//! code. That this is what the definitions say, `base_tasks` shows for each base.
+#![tactic(auto)]
+
+mod check;
+mod claims;
+mod convert;
+mod over;
+mod prepared;
+mod slice;
+mod table;
+mod task;
+mod verdict;
+
+pub use over::in_domain;
+pub use task::{Start, Subject, Task};

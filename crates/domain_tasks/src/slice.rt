@@ -1,0 +1,66 @@
+//! The slice of the table that a text is, in a domain.
+
+ghost use Rattle.std.specs.Prelude.{◌≡◌, ◌<◌, ◌≤◌, ◌+◌, ◌^◌, IfOk, IsTrue, length};
+ghost use Rattle.command_words.specs.Bases.{base_text};
+ghost use Rattle.spec_types.specs.Views.{specification};
+ghost use Rattle.fixed_point.specs.Views.{listings};
+ghost use Rattle.state_text.specs.Reading.{entry_of};
+ghost use Rattle.run_steps.specs.Outcomes.{Gives, answer_of};
+ghost use Rattle.analysis_domains.specs.Slices.{IsSliceText};
+ghost use Rattle.analysis_domains.specs.Tasks as asked;
+ghost use Rattle.domain_tasks.specs.Own.{own_work};
+ghost use Rattle.domain_tasks.specs.Read.{IsRead, IsTextOf, problem_at};
+ghost use Rattle.domain_tasks.specs.Slices.{OwnSlices};
+
+use crate::task::{Start, Subject};
+use crate::verdict::{closed, verdict_in};
+use analysis_domains::NamedDomain;
+use command_words::BaseName;
+use fixed_point::Table;
+use run_steps::{Answer, Halt};
+use slice_text::{Asked, slice_text};
+use spec_types::Spec;
+use std::alloc::{AllocError as NoMemory, Global};
+use std::sync::ledger::Ledger;
+use step_counter::Steps;
+use table_reader::read_table;
+use tsl_slice::slice;
+
+/// The text of the slice of a table, for the reads of a cell by the instruction at an address.
+fn sliced<E>(
+    alloc: Global,
+    spec: &Spec,
+    table: &Table<E>,
+    at: u32,
+    cell: Asked,
+) -> Result<Answer, NoMemory>
+    ensures { IfOk result (λ answer. IsTextOf (IsSliceText (specification spec.now) (listings (λ x. x) table.now) at cell) (answer_of answer)) }
+{
+    let found = slice(alloc, table, at, cell.map, cell.key)?;
+    Ok(Answer::Text(slice_text(alloc, spec, at, cell, &found)?.into_bytes()))
+}
+
+/// What the slice of a text comes to in a domain that was made for the specification.
+pub(crate) fn sliced_in<'a, 'b, D: NamedDomain, L: Ledger>(
+    alloc: Global,
+    domain: &D,
+    it: &Subject<'a>,
+    start: &Start<'a>,
+    base: BaseName,
+    bytes: &[u8],
+    at: u32,
+    cell: Asked,
+    steps: &mut Steps<L>,
+) -> Result<Answer, Halt<'b>>
+    requires joins { IsTrue D.B.algebra.joins }
+    requires made { IsTrue (D.is_for domain.now (specification it.now.spec.now)) }
+    requires read { IsRead (specification it.now.spec.now) start.now.machine (entry_of start.now.entry.now) }
+    requires short { length bytes.now < 2 ^ 32 }
+    ensures gives { Gives (OwnSlices (record { base = D.B.algebra; cap = D.B.CAP; elements = D.elements domain.now; meaning = D.meaning domain.now; view = D.view; IsText = D.IsText; Reads = D.Reads domain.now; word_text = D.word_text }) (problem_at (specification it.now.spec.now) it.now.image.now start.now) it.now.image.now (base_text base) bytes.now at cell) answer_of result }
+    ensures work { steps.new ≤ steps.old + own_work (record { base = D.B.algebra; cap = D.B.CAP; elements = D.elements domain.now; meaning = D.meaning domain.now; view = D.view; IsText = D.IsText; Reads = D.Reads domain.now; word_text = D.word_text }) (asked.slice (problem_at (specification it.now.spec.now) it.now.image.now start.now) bytes.now at cell) }
+{
+    let table = read_table::<D>(alloc, domain, it.spec, it.image, base, bytes)?;
+    let verdict = verdict_in::<D, L>(alloc, domain, it, start, &table, steps)?;
+    closed::<D>(alloc, &verdict)?;
+    Ok(sliced(alloc, it.spec, &table, at, cell)?)
+}

@@ -1,0 +1,131 @@
+//! The table of an analysis, in a domain.
+
+ghost use Rattle.std.specs.Prelude.{◌≡◌, ◌≤◌, ◌+◌, IfOk, IsTrue};
+ghost use Rattle.std.specs.String.{string_bytes};
+ghost use Rattle.command_words.specs.Bases.{base_text};
+ghost use Rattle.spec_types.specs.Views.{specification};
+ghost use Rattle.fixed_point.specs.Views.{listings};
+ghost use Rattle.state_text.specs.Reading.{entry_of};
+ghost use Rattle.transfer.specs.Analysis.{problem};
+ghost use Rattle.table_text.specs.Tables.{IsTableText};
+ghost use Rattle.run_steps.specs.Outcomes.{Gives, answer_of};
+ghost use Rattle.analysis_domains.specs.Tasks as asked;
+ghost use Rattle.domain_tasks.specs.Own.{OwnComesTo, own_work};
+ghost use Rattle.domain_tasks.specs.Read.{IsRead, Refuses, IsTextOf, problem_at};
+
+use crate::prepared::prepare;
+use crate::task::{Start, Subject};
+use analysis_domains::NamedDomain;
+use base_trait::Base;
+use command_words::BaseName;
+use fixed_point::{Analyser, Table};
+use image_tables::analyse;
+use insn_decode::Image;
+use posed_problems::laws::read_problems_are_well_posed;
+use run_steps::{Answer, Halt, Refusal};
+use spec_types::Spec;
+use std::alloc::{AllocError as NoMemory, Global};
+use std::sync::ledger::Ledger;
+use step_counter::Steps;
+use table_text::table_text;
+use transfer::ImageAnalysis;
+use worklist::{AnalyseError, Report};
+
+/// A word of a counter, as text.
+pub(crate) fn counter_text<D: NamedDomain>(
+    alloc: Global,
+    x: &<D::B as Base>::Word,
+) -> Result<String, NoMemory>
+    ensures { IfOk result (λ text. string_bytes text ≡ D.word_text 32 x.now) }
+{
+    let mut out = String::new(alloc);
+    D::push_word(&mut out, 32, x)?;
+    Ok(out)
+}
+
+/// Why an analysis has no table.
+fn stopped<'b, D: NamedDomain>(
+    alloc: Global,
+    error: &AnalyseError<<D::B as Base>::Word>,
+) -> Halt<'b>
+    ensures { Refuses D.word_text error.now result }
+{
+    match error {
+        AnalyseError::Undecodable { at, word, .. } => Halt::Refused(Refusal::UndecodableAt {
+            at: *at,
+            word: *word,
+        }),
+        AnalyseError::TooManyTargets { at, shown, .. } => match counter_text::<D>(alloc, shown) {
+            Ok(shown) => Halt::Refused(Refusal::TooManyTargets { at: *at, shown }),
+            Err(_) => Halt::NoMemory,
+        },
+        AnalyseError::NoMemory => Halt::NoMemory,
+    }
+}
+
+/// The text of a table, headed by the name of a base.
+pub(crate) fn tabled<D: NamedDomain>(
+    alloc: Global,
+    spec: &Spec,
+    image: &Image,
+    base: BaseName,
+    table: &Table<D::Elem>,
+) -> Result<Answer, NoMemory>
+    ensures { IfOk result (λ answer. IsTextOf (IsTableText (D.IsText (specification spec.now)) (specification spec.now) image.now (base_text base) (listings (λ x. x) table.now)) (answer_of answer)) }
+{
+    Ok(Answer::Text(table_text::<D>(alloc, spec, image, base.name(), table)?))
+}
+
+/// What an analysis that is ready comes to.
+fn come_to<'a, 'b, D: NamedDomain, L: Ledger>(
+    alloc: Global,
+    it: &ImageAnalysis<'a, D>,
+    base: BaseName,
+    steps: &mut Steps<L>,
+) -> Result<Answer, Halt<'b>>
+    requires ready { ⟦<ImageAnalysis<'a, D> as Analyser>⟧.IsReady it.now }
+    ensures gives { Gives (OwnComesTo (record { base = D.B.algebra; cap = D.B.CAP; elements = D.elements it.now.domain.now; meaning = D.meaning it.now.domain.now; view = D.view; IsText = D.IsText; Reads = D.Reads it.now.domain.now; word_text = D.word_text }) (problem it.now) it.now.image.now (base_text base)) answer_of result }
+    ensures work { steps.new ≤ steps.old + own_work (record { base = D.B.algebra; cap = D.B.CAP; elements = D.elements it.now.domain.now; meaning = D.meaning it.now.domain.now; view = D.view; IsText = D.IsText; Reads = D.Reads it.now.domain.now; word_text = D.word_text }) (asked.analyse (problem it.now)) }
+{
+    match analyse(alloc, it, steps) {
+        Ok(
+            Report {
+                table,
+                trace: _trace,
+            },
+        ) => { Ok(tabled::<D>(alloc, it.spec, it.image, base, &table)?) }
+        Err(error) => Err(stopped::<D>(alloc, &error)),
+    }
+}
+
+/// What an analysis comes to in a domain that was made for the specification.
+pub(crate) fn analysed_in<'a, 'b, D: NamedDomain, L: Ledger>(
+    alloc: Global,
+    domain: &D,
+    it: &Subject<'a>,
+    start: &Start<'a>,
+    base: BaseName,
+    steps: &mut Steps<L>,
+) -> Result<Answer, Halt<'b>>
+    requires joins { IsTrue D.B.algebra.joins }
+    requires made { IsTrue (D.is_for domain.now (specification it.now.spec.now)) }
+    requires read { IsRead (specification it.now.spec.now) start.now.machine (entry_of start.now.entry.now) }
+    ensures gives { Gives (OwnComesTo (record { base = D.B.algebra; cap = D.B.CAP; elements = D.elements domain.now; meaning = D.meaning domain.now; view = D.view; IsText = D.IsText; Reads = D.Reads domain.now; word_text = D.word_text }) (problem_at (specification it.now.spec.now) it.now.image.now start.now) it.now.image.now (base_text base)) answer_of result }
+    ensures work { steps.new ≤ steps.old + own_work (record { base = D.B.algebra; cap = D.B.CAP; elements = D.elements domain.now; meaning = D.meaning domain.now; view = D.view; IsText = D.IsText; Reads = D.Reads domain.now; word_text = D.word_text }) (asked.analyse (problem_at (specification it.now.spec.now) it.now.image.now start.now)) }
+{
+    read_problems_are_well_posed();
+    it.image.is_kept();
+    let with = prepare(alloc, it.spec)?;
+    let analysis = ImageAnalysis {
+        domain,
+        spec: it.spec,
+        cir: &with.cir,
+        machine: start.machine,
+        fields: &with.fields,
+        decoder: &with.decoder,
+        image: it.image,
+        entry: start.entry,
+        limit: start.limit,
+    };
+    come_to::<D, L>(alloc, &analysis, base, steps)
+}

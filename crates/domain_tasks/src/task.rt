@@ -1,0 +1,37 @@
+//! What is asked of a domain.
+
+use insn_decode::Image;
+use slice_text::Asked;
+use spec_types::{Machine, Spec};
+use tsl_values::Entry;
+
+/// Where an analysis begins: a machine, an entry of its states, and how many targets an instruction may have.
+#[derive(Clone, Copy)]
+pub struct Start<'a> {
+    pub machine: Machine,
+    pub entry: &'a Entry,
+    pub limit: u32,
+}
+
+/// What is asked.
+#[derive(Clone, Copy)]
+pub enum Task<'a> {
+    /// The table of the analysis.
+    Analyse(Start<'a>),
+    /// The verdict on the table that a text is.
+    Check(Start<'a>, &'a [u8]),
+    /// The table that a text is, written in format 2.
+    Convert(&'a [u8]),
+    /// The slice of the table that a text is, for the reads of a cell by the instruction at an address.
+    Slice(Start<'a>, &'a [u8], u32, Asked),
+    /// The answers of the table that a text is to the claims that another is.
+    Claims(Start<'a>, &'a [u8], &'a [u8]),
+}
+
+/// Of which machine and code it is asked.
+#[derive(Clone, Copy)]
+pub struct Subject<'a> {
+    pub spec: &'a Spec,
+    pub image: &'a Image,
+    pub task: Task<'a>,
+}

@@ -1,0 +1,124 @@
+//! The trait of domains whose elements are read, and each domain.
+
+ghost use Rattle.std.specs.Prelude.{◌≡◌, ◌≤◌, IfOk, IfSome, IsOkAnd, IsTrue, OnOk, is_some, length, option_map};
+ghost use Rattle.spec_types.specs.Views.{specification};
+ghost use Rattle.insn_decode.specs.Image.{code_at};
+ghost use Rattle.element_readers.specs.Reading.{ElementReading};
+
+use crate::part::read_part;
+use abs_value::AV;
+use affine_base::Tracked;
+use affine_domain::AffineDomain;
+use affine_rows::Rows;
+use domain_trait::Domain;
+use element_text::{ElemText, NamedBase};
+use insn_decode::Image;
+use pair_domain::PairDomain;
+use part_readers::{read_cells, read_rows};
+use spec_types::Spec;
+use state_domain::StateDomain;
+use std::alloc::{AllocError as NoMemory, Global};
+use text_lines::LinesOf;
+
+/// A domain whose elements are read back from their texts.
+pub trait ReadElement: ElemText {
+    /// What is read of lines.
+    ghost Reads: { Self → ElementReading Self.Elem };
+
+    /// The element that the next lines are; none, where one of them is faulty, which is then the first that is left.
+    fn read_element(
+        &self,
+        alloc: Global,
+        spec: &Spec,
+        image: &Image,
+        lines: &mut LinesOf<'_>,
+    ) -> Result<Option<Self::Elem>, NoMemory>
+        requires made { IsTrue (Self.is_for self.now (specification spec.now)) }
+        ensures reads { IfOk result (λ r. Reads self.now (specification spec.now) (λ a. is_some (code_at image.now a)) lines.old r lines.new) }
+        ensures fits { IfOk result (λ r. IfSome r (λ x. (Self.elements self.now).fits (Self.view x))) }
+        ensures shorter { OnOk result (length lines.new ≤ length lines.old) };
+}
+
+impl<B: NamedBase> ReadElement for StateDomain<B> {
+    ghost use Rattle.std.specs.Prelude.{map};
+    ghost use Rattle.value_laws.specs.Abs.{parts};
+    ghost use Rattle.abs_value.specs.View.{abs};
+    ghost use Rattle.element_readers.specs.Reading.{CellsRead};
+
+    ghost Reads = { λ it spec code ls r rest. CellsRead B.readings B.CAP B.named spec code ls (option_map (λ x. parts (map abs x.items)) r) rest };
+
+    fn read_element(
+        &self,
+        alloc: Global,
+        spec: &Spec,
+        image: &Image,
+        lines: &mut LinesOf<'_>,
+    ) -> Result<Option<Vec<AV<B>>>, NoMemory> {
+        if !read_part(B::name(), lines) {
+            return Ok(None);
+        }
+        let ctx = self.ctx(alloc)?;
+        read_cells::<B>(alloc, &ctx, spec, image, lines)
+    }
+}
+
+/// How many cells are tracked.
+fn cell_count(tracked: &Tracked) -> u32
+    ensures value { result ≡ length tracked.now }
+    ensures few { result ≤ 64 }
+{
+    tracked.cells.len() as u32
+}
+
+impl ReadElement for AffineDomain {
+    ghost use Rattle.affine_calls.specs.Calls.{cell_count};
+    ghost use Rattle.element_readers.specs.Reading.{AffineRead};
+
+    ghost Reads = { λ it. AffineRead (cell_count it) };
+
+    fn read_element(
+        &self,
+        alloc: Global,
+        _spec: &Spec,
+        _image: &Image,
+        lines: &mut LinesOf<'_>,
+    ) -> Result<Option<Rows>, NoMemory> {
+        if !read_part("affine", lines) {
+            return Ok(None);
+        }
+        let k = cell_count(&self.ctx(alloc)?);
+        Ok(Some(read_rows(alloc, k, lines)?))
+    }
+}
+
+impl<A: ReadElement, B: ReadElement> ReadElement for PairDomain<A, B> {
+    ghost use Rattle.element_readers.specs.Reading.{PairRead};
+
+    ghost Reads = { λ it. PairRead (A.Reads it.first) (B.Reads it.second) };
+
+    fn read_element(
+        &self,
+        alloc: Global,
+        spec: &Spec,
+        image: &Image,
+        lines: &mut LinesOf<'_>,
+    ) -> Result<Option<(A::Elem, B::Elem)>, NoMemory> {
+        match self.first.read_element(alloc, spec, image, lines)? {
+            Some(x) => beside(x, self.second.read_element(alloc, spec, image, lines)),
+            None => Ok(None),
+        }
+    }
+}
+
+/// A first part with what was read behind it.
+fn beside<A: Drop, B: Drop>(
+    x: A,
+    second: Result<Option<B>, NoMemory>,
+) -> Result<Option<(A, B)>, NoMemory>
+    ensures { IfOk result (λ r. IsOkAnd second (λ y. r ≡ option_map (λ b. (x, b)) y)) }
+{
+    match second? {
+        Some(y) => Ok(Some((x, y))),
+        None => Ok(None),
+    }
+}

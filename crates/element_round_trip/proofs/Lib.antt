@@ -1,0 +1,14 @@
+pub mod Begin
+pub mod CellsBack
+pub mod CellsTold
+pub mod CellTexts
+pub mod Cells
+pub mod Fronts
+pub mod Keys
+pub mod NoKey
+pub mod Pairs
+pub mod PartLines
+pub mod Reduced
+pub mod Relations
+pub mod Rows
+pub mod SaidLines

@@ -1,0 +1,57 @@
+//! Laws of elements that are written and read, stated in specs/Laws.antt. Nothing runs.
+
+ghost use Rattle.std.specs.Prelude.{ℕ, Bool};
+ghost use Rattle.tsl_values.specs.States.{State};
+ghost use Rattle.fixed_point.specs.Elements.{Elements};
+ghost use Rattle.element_text.specs.Parts.{ElementText};
+ghost use Rattle.element_readers.specs.Reading.{ElementReading};
+ghost use Rattle.element_round_trip.specs.Laws.{CellsBegin, CellsRoundTrip, PairsBegin, PairsRoundTrip, RelationsBegin, RelationsRoundTrip};
+
+use element_text::NamedBase;
+
+/// The definitions of elements that are written and read.
+pub trait WrittenElements {
+    /// What elements are as plain data.
+    ghost Plain: { Type 0 };
+
+    /// What is read of lines.
+    ghost Reads: { ElementReading Plain };
+
+    /// Which texts are those of an element.
+    ghost IsText: { ElementText Plain };
+
+    ghost elements: { Elements Plain State };
+
+    /// What elements have whose texts tell them, where a test tells addresses of code words.
+    ghost IsPrintable: { (ℕ → Bool) → Plain → Type 0 };
+}
+
+/// Cells are written and read back.
+pub fn cells_round_trip<B: NamedBase>()
+    ensures { CellsRoundTrip B.algebra B.NoteFits B.texts B.readings }
+{}
+
+/// Affine relations are written and read back.
+pub fn relations_round_trip()
+    ensures { RelationsRoundTrip }
+{}
+
+/// Pairs are written and read back, where both parts are.
+pub fn pairs_round_trip<A: WrittenElements, B: WrittenElements>()
+    ensures { PairsRoundTrip A.Reads B.Reads A.IsText B.IsText A.elements B.elements A.IsPrintable B.IsPrintable }
+{}
+
+/// Texts of cells begin with the line of a part.
+pub fn cells_begin<B: NamedBase>()
+    ensures { CellsBegin B.texts }
+{}
+
+/// Texts of affine relations do.
+pub fn relations_begin()
+    ensures { RelationsBegin }
+{}
+
+/// Texts of pairs do, where those of their first part do.
+pub fn pairs_begin<A: WrittenElements, B: WrittenElements>()
+    ensures { PairsBegin A.IsText B.IsText }
+{}

@@ -1,0 +1,5 @@
+pub mod Accepted
+pub mod Chains
+pub mod Holding
+pub mod One
+pub mod Stops

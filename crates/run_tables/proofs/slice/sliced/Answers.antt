@@ -1,0 +1,82 @@
+use Rattle.std.proofs.Common.{◌∙◌, ℕ, List, [], ◌∷◌, inr, rules, subst}
+use Rattle.command_words.specs.Views.{slice_of}
+use Rattle.run_steps.specs.Outcomes.{Gives, answer_of}
+use Rattle.run_steps.specs.Reading.{Gave}
+use Rattle.run_steps.proofs.Giving.{no_other_fault}
+use Rattle.run_steps.proofs.Readings.{gave_still, took_both, took_first}
+use Rattle.run_steps.proofs.Steps.{first_stops, gives_next}
+use Rattle.table_inputs.specs.Inputs.{Sought, SoughtOf, table_cap}
+use Rattle.table_inputs.specs.Views.{sought_of}
+use Rattle.table_inputs.proofs.Chains.{both_give, both_stop, sought_still}
+use Rattle.run_tables.specs.Steps.{SliceOf, analyse_inputs}
+use Rattle.run_tables.proofs.Chains.{table_behind, table_behind_wider}
+use Rattle.run_tables.proofs.slice.sliced.Goals as goal
+
+pub returns-in_err-sought-clause-gives : goal.returns-in_err-sought-clause-gives
+returns-in_err-sought-clause-gives g c =
+    let request = slice_of c.args.request.now in
+    let asked = request.check.analysis in
+    let reads = Gave (g.I.Inputs.state c.args.inputs.now) (g.I.Inputs.state c.sought_of.new.inputs) in
+    let gives = first_stops (SoughtOf reads asked.spec request.cell asked.code asked.entry) (λ sought. table_behind request.check.table (SliceOf asked.base asked.limit sought request.address) reads)
+    c.in_err-sought.field-0.0 c.in_err-sought.ensures.gives in
+    search (rules, gives)
+
+pub returns-in_err-sought-clause-taken : goal.returns-in_err-sought-clause-taken
+returns-in_err-sought-clause-taken g c =
+    let request = slice_of c.args.request.now in
+    took_first g.I.Inputs.state (analyse_inputs request.check.analysis) ((request.check.table, table_cap) ∷ []) c.args.inputs.now c.sought_of.new.inputs c.sought_of.ensures.taken
+
+pub returns-in_err-table-clause-gives : goal.returns-in_err-table-clause-gives
+returns-in_err-table-clause-gives g c =
+    let request = slice_of c.args.request.now in
+    let asked = request.check.analysis in
+    let mid = g.I.Inputs.state c.sought_of.new.inputs in
+    let new = g.I.Inputs.state c.read_input.new.inputs in
+    let made = λ (sought : Sought). SliceOf asked.base asked.limit sought request.address in
+    let gives = both_stop (λ reads. SoughtOf reads asked.spec request.cell asked.code asked.entry) (λ (sought : Sought). table_behind request.check.table (made sought))
+    (g.I.Inputs.state c.args.inputs.now) mid new c.sought_of.ensures.kept c.in_ok-sought.ensures.no_other_fault (sought_still asked.spec request.cell asked.code asked.entry) (λ sought. table_behind_wider request.check.table (made sought))
+    (sought_of c.in_ok-sought.sought) c.in_ok-sought.ensures.gives c.in_err-table.field-0.0
+    (first_stops (Gave mid new table_cap request.check.table) (made (sought_of c.in_ok-sought.sought)) c.in_err-table.field-0.0 c.in_err-table.ensures.gives) in
+    search (rules, gives)
+
+pub returns-in_err-table-clause-taken : goal.returns-in_err-table-clause-taken
+returns-in_err-table-clause-taken g c =
+    let request = slice_of c.args.request.now in
+    took_both g.I.Inputs.state (analyse_inputs request.check.analysis) ((request.check.table, table_cap) ∷ []) c.args.inputs.now c.sought_of.new.inputs c.read_input.new.inputs
+    c.sought_of.ensures.kept c.sought_of.ensures.taken (λ told. inr (c.read_input.ensures.taken told))
+
+pub returns-clause-gives : goal.returns-clause-gives
+returns-clause-gives g c =
+    let request = slice_of c.args.request.now in
+    let asked = request.check.analysis in
+    let mid = g.I.Inputs.state c.sought_of.new.inputs in
+    let new = g.I.Inputs.state c.read_input.new.inputs in
+    let made = λ (sought : Sought). SliceOf asked.base asked.limit sought request.address in
+    let slice = subst (λ (bytes : List ℕ). Gives (made (sought_of c.in_ok-sought.sought) bytes) answer_of c.slice_over.result) c.deref.ensures.value c.slice_over.ensures.gives in
+    both_give (λ reads. SoughtOf reads asked.spec request.cell asked.code asked.entry) (λ (sought : Sought). table_behind request.check.table (made sought))
+    (g.I.Inputs.state c.args.inputs.now) mid new c.sought_of.ensures.kept c.in_ok-sought.ensures.no_other_fault (sought_still asked.spec request.cell asked.code asked.entry) (λ sought. table_behind_wider request.check.table (made sought))
+    (sought_of c.in_ok-sought.sought) c.in_ok-sought.ensures.gives answer_of c.slice_over.result
+    (gives_next (Gave mid new table_cap request.check.table) (made (sought_of c.in_ok-sought.sought)) answer_of c.in_ok-table.table.items c.slice_over.result c.in_ok-table.ensures.gives slice)
+
+pub returns-clause-no_other_fault : goal.returns-clause-no_other_fault
+returns-clause-no_other_fault g c =
+    no_other_fault (g.I.Inputs.state c.args.inputs.now) (g.I.Inputs.state c.read_input.new.inputs) c.slice_over.result (c.in_ok-table.ensures.no_other_fault ∙ c.in_ok-sought.ensures.no_other_fault)
+
+pub returns-clause-taken : goal.returns-clause-taken
+returns-clause-taken g c =
+    let request = slice_of c.args.request.now in
+    took_both g.I.Inputs.state (analyse_inputs request.check.analysis) ((request.check.table, table_cap) ∷ []) c.args.inputs.now c.sought_of.new.inputs c.read_input.new.inputs
+    c.sought_of.ensures.kept c.sought_of.ensures.taken (λ told. inr (c.read_input.ensures.taken told))
+
+pub slice_over-requires-clause-posed : goal.slice_over-requires-clause-posed
+slice_over-requires-clause-posed g c = record { accepted = c.in_ok-sought.ensures.accepted; some = c.in_ok-sought.ensures.machine; few = c.in_ok-sought.ensures.few; entry = c.in_ok-sought.ensures.entry }
+
+pub returns-clause-work : goal.returns-clause-work
+returns-clause-work g c =
+    let request = slice_of c.args.request.now in
+    let asked = request.check.analysis in
+    let old = g.I.Inputs.state c.args.inputs.now in
+    let mid = g.I.Inputs.state c.sought_of.new.inputs in
+    let new = g.I.Inputs.state c.read_input.new.inputs in
+    let sought = sought_of c.in_ok-sought.sought in
+    inr (sought, sought_still asked.spec request.cell asked.code asked.entry (Gave old mid) (Gave old new) (gave_still old mid new) sought c.in_ok-sought.ensures.gives, c.slice_over.ensures.work)

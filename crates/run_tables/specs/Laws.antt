@@ -1,0 +1,43 @@
+-- The outcomes of the commands over the bytes that names hold, where code has no more parts than an image may have segments.
+use Rattle.std.specs.Prelude.{◌≡◌, ◌≤◌, length}
+use Rattle.command_words.specs.Requests.{AnalyseRequest, CheckRequest, ClaimsRequest, ConvertRequest, SliceRequest}
+use Rattle.analysis_domains.specs.Laws.{AreOne}
+use Rattle.run_steps.specs.Outcome.{Outcome}
+use Rattle.run_steps.specs.Reading.{Held, Holds}
+use Rattle.run_tables.specs.Steps.{AnalyseSteps, CheckSteps, ClaimsSteps, ConvertSteps, SliceSteps}
+
+-- `analyse` has one outcome at most, but that over affine relations two may be texts
+abbrev pub AnalyseHasOne : Type 0
+AnalyseHasOne = (held : Held) (request : AnalyseRequest) (found other : Outcome) → length request.code.parts ≤ 16 → AnalyseSteps (Holds held) request found → AnalyseSteps (Holds held) request other → AreOne request.base found other
+
+-- and at least one
+abbrev pub AnalyseHasSome : Type 0
+AnalyseHasSome = (held : Held) (request : AnalyseRequest) → length request.code.parts ≤ 16 → (found : Outcome) × AnalyseSteps (Holds held) request found
+
+-- `check` has one
+abbrev pub CheckHasOne : Type 0
+CheckHasOne = (held : Held) (request : CheckRequest) (found other : Outcome) → length request.analysis.code.parts ≤ 16 → CheckSteps (Holds held) request found → CheckSteps (Holds held) request other → found ≡ other
+
+abbrev pub CheckHasSome : Type 0
+CheckHasSome = (held : Held) (request : CheckRequest) → length request.analysis.code.parts ≤ 16 → (found : Outcome) × CheckSteps (Holds held) request found
+
+-- `convert` has one, as `analyse` has
+abbrev pub ConvertHasOne : Type 0
+ConvertHasOne = (held : Held) (request : ConvertRequest) (found other : Outcome) → length request.code.parts ≤ 16 → ConvertSteps (Holds held) request found → ConvertSteps (Holds held) request other → AreOne request.base found other
+
+abbrev pub ConvertHasSome : Type 0
+ConvertHasSome = (held : Held) (request : ConvertRequest) → length request.code.parts ≤ 16 → (found : Outcome) × ConvertSteps (Holds held) request found
+
+-- `slice` has one, over relations too
+abbrev pub SliceHasOne : Type 0
+SliceHasOne = (held : Held) (request : SliceRequest) (found other : Outcome) → length request.check.analysis.code.parts ≤ 16 → SliceSteps (Holds held) request found → SliceSteps (Holds held) request other → found ≡ other
+
+abbrev pub SliceHasSome : Type 0
+SliceHasSome = (held : Held) (request : SliceRequest) → length request.check.analysis.code.parts ≤ 16 → (found : Outcome) × SliceSteps (Holds held) request found
+
+-- and so has `claims`
+abbrev pub ClaimsHasOne : Type 0
+ClaimsHasOne = (held : Held) (request : ClaimsRequest) (found other : Outcome) → length request.check.analysis.code.parts ≤ 16 → ClaimsSteps (Holds held) request found → ClaimsSteps (Holds held) request other → found ≡ other
+
+abbrev pub ClaimsHasSome : Type 0
+ClaimsHasSome = (held : Held) (request : ClaimsRequest) → length request.check.analysis.code.parts ≤ 16 → (found : Outcome) × ClaimsSteps (Holds held) request found

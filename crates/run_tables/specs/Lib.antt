@@ -1,0 +1,4 @@
+pub mod Laws
+pub mod Read
+pub mod Steps
+pub mod Work

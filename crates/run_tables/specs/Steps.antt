@@ -1,0 +1,103 @@
+-- The steps of the commands on tables.
+use Rattle.std.specs.Prelude.{◌≡◌, ℕ, List, [], ◌∷◌, ◌++◌, Some}
+use Rattle.command_words.specs.declared.bases.BaseName.{BaseName}
+use Rattle.command_words.specs.Requests.{AnalyseRequest, CheckRequest, ClaimsRequest, ConvertRequest, SliceRequest}
+use Rattle.spec_types.specs.declared.spec.Machine.{Machine}
+use Rattle.posed_problems.specs.Problems.{problem_of}
+use Rattle.analysis_domains.specs.Named.{Accepted, Analysed, Checked, Claimed, ClaimsHold, Converted, SliceHolds, Sliced}
+use Rattle.run_steps.specs.Outcome.{Outcome}
+use Rattle.run_steps.specs.Reading.{Capped, Reading}
+use Rattle.run_steps.specs.Steps.{Then}
+use Rattle.table_inputs.specs.Inputs.{Coded, CodedOf, Posed, PosedOf, Sought, SoughtOf, claims_cap, coded_inputs, posed_inputs, table_cap}
+
+-- The outcome of the analysis of what was read, over a base, where an instruction may have at most so many targets.
+pub record AnalysisOf (base : BaseName) (limit : ℕ) (posed : Posed) (outcome : Outcome) : Type 0 where
+  pub machine : Machine
+  pub is_machine : posed.spec.machine ≡ Some machine
+  pub analysed : Analysed posed.image (problem_of posed.spec machine posed.image posed.entry limit) base outcome
+
+-- That of the check of a table, which is a text.
+pub record CheckOf (base : BaseName) (limit : ℕ) (posed : Posed) (bytes : List ℕ) (outcome : Outcome) : Type 0 where
+  pub machine : Machine
+  pub is_machine : posed.spec.machine ≡ Some machine
+  pub checked : Checked posed.image (problem_of posed.spec machine posed.image posed.entry limit) base bytes outcome
+
+-- That of a text which is written anew.
+abbrev pub ConversionOf : BaseName → Coded → List ℕ → Outcome → Type 0
+ConversionOf base coded = Converted coded.image coded.spec base
+
+-- The text is that of a table which a check accepts: it is closed, and true of every run.
+pub record AcceptedBy (base : BaseName) (limit : ℕ) (posed : Posed) (bytes : List ℕ) : Type 0 where
+  pub machine : Machine
+  pub is_machine : posed.spec.machine ≡ Some machine
+  pub accepted : Accepted posed.image (problem_of posed.spec machine posed.image posed.entry limit) base bytes
+
+-- That of the slice of a table, which is a text, for the reads of a cell by the instruction at an address.
+pub record SliceOf (base : BaseName) (limit : ℕ) (sought : Sought) (at : ℕ) (bytes : List ℕ) (outcome : Outcome) : Type 0 where
+  pub machine : Machine
+  pub is_machine : sought.posed.spec.machine ≡ Some machine
+  pub sliced : Sliced sought.posed.image (problem_of sought.posed.spec machine sought.posed.image sought.posed.entry limit) base bytes at sought.asked outcome
+
+-- The text is that of the slice of a table which a check accepts: it holds every chain of every read that it is of.
+pub record SlicedBy (base : BaseName) (limit : ℕ) (sought : Sought) (at : ℕ) (bytes text : List ℕ) : Type 0 where
+  pub machine : Machine
+  pub is_machine : sought.posed.spec.machine ≡ Some machine
+  pub holds : SliceHolds sought.posed.image (problem_of sought.posed.spec machine sought.posed.image sought.posed.entry limit) base bytes at sought.asked text
+
+-- That of claims, which are a text, on a table, which is one.
+pub record ClaimsOf (base : BaseName) (limit : ℕ) (posed : Posed) (bytes claims : List ℕ) (outcome : Outcome) : Type 0 where
+  pub machine : Machine
+  pub is_machine : posed.spec.machine ≡ Some machine
+  pub claimed : Claimed posed.image (problem_of posed.spec machine posed.image posed.entry limit) base bytes claims outcome
+
+-- The text has a line for each claim on a table which a check accepts: each that is answered with yes is true of every run.
+pub record ClaimedBy (base : BaseName) (limit : ℕ) (posed : Posed) (bytes claims text : List ℕ) : Type 0 where
+  pub machine : Machine
+  pub is_machine : posed.spec.machine ≡ Some machine
+  pub holds : ClaimsHold posed.image (problem_of posed.spec machine posed.image posed.entry limit) base bytes claims text
+
+-- `analyse`: the specification, the code and the entry are read and examined, one after another, and the code is analysed
+abbrev pub AnalyseSteps : Reading → AnalyseRequest → Outcome → Type 0
+AnalyseSteps reads request = Then (PosedOf reads request.spec request.code request.entry) (AnalysisOf request.base request.limit)
+
+-- `check`: then the table is read, and checked
+abbrev pub CheckSteps : Reading → CheckRequest → Outcome → Type 0
+CheckSteps reads request =
+    Then (PosedOf reads request.analysis.spec request.analysis.code request.analysis.entry) (λ posed.
+    Then (reads table_cap request.table) (CheckOf request.analysis.base request.analysis.limit posed))
+
+-- `convert`: the specification, the code and the table are read, and the table is written anew
+abbrev pub ConvertSteps : Reading → ConvertRequest → Outcome → Type 0
+ConvertSteps reads request =
+    Then (CodedOf reads request.spec request.code) (λ coded.
+    Then (reads table_cap request.table) (ConversionOf request.base coded))
+
+-- `slice`: the specification is read and examined, and the cell is sought in its states; then the code and the entry are read and examined; then the
+-- table is read, checked and sliced
+abbrev pub SliceSteps : Reading → SliceRequest → Outcome → Type 0
+SliceSteps reads request =
+    Then (SoughtOf reads request.check.analysis.spec request.cell request.check.analysis.code request.check.analysis.entry) (λ sought.
+    Then (reads table_cap request.check.table) (SliceOf request.check.analysis.base request.check.analysis.limit sought request.address))
+
+-- `claims`: as `check` up to the table; then the claims are read, the table and the claims are examined, and the claims are answered
+abbrev pub ClaimsSteps : Reading → ClaimsRequest → Outcome → Type 0
+ClaimsSteps reads request =
+    Then (PosedOf reads request.check.analysis.spec request.check.analysis.code request.check.analysis.entry) (λ posed.
+    Then (reads table_cap request.check.table) (λ bytes.
+    Then (reads claims_cap request.claims) (ClaimsOf request.check.analysis.base request.check.analysis.limit posed bytes)))
+
+-- the inputs that are opened
+abbrev pub analyse_inputs : AnalyseRequest → List Capped
+analyse_inputs request = posed_inputs request.spec request.code request.entry
+
+abbrev pub check_inputs : CheckRequest → List Capped
+check_inputs request = analyse_inputs request.analysis ++ (request.table, table_cap) ∷ []
+
+abbrev pub convert_inputs : ConvertRequest → List Capped
+convert_inputs request = coded_inputs request.spec request.code ++ (request.table, table_cap) ∷ []
+
+abbrev pub slice_inputs : SliceRequest → List Capped
+slice_inputs request = check_inputs request.check
+
+abbrev pub claims_inputs : ClaimsRequest → List Capped
+claims_inputs request = check_inputs request.check ++ (request.claims, claims_cap) ∷ []

@@ -1,0 +1,73 @@
+//! The command `analyse`.
+
+ghost use Rattle.std.specs.Prelude.{◌≡◌, ◌<◌, ◌≤◌, ◌+◌, ◌^◌, ◌⊎◌, IsSome, IsTrue, length};
+ghost use Rattle.tsl_io.specs.InputState.{InputsKept};
+ghost use Rattle.run_steps.specs.Faultless.{NoOtherFault};
+ghost use Rattle.run_steps.specs.Outcomes.{Gives, answer_of};
+ghost use Rattle.run_steps.specs.Reading.{Gave, IsTakenFrom};
+ghost use Rattle.command_words.specs.Views.{analyse_of};
+ghost use Rattle.table_inputs.specs.Views.{posed_of as view};
+ghost use Rattle.run_tables.specs.Read.{IsPosed};
+ghost use Rattle.run_tables.specs.Steps.{AnalyseSteps, AnalysisOf, analyse_inputs};
+ghost use Rattle.run_tables.specs.Work.{AnalyseWork, analysis_work};
+
+use base_tasks::over_base;
+use command_words::{AnalyseRequest, BaseName};
+use domain_tasks::{Start, Subject, Task};
+use run_steps::{Answer, Halt};
+use std::alloc::Global;
+use std::sync::ledger::Ledger;
+use step_counter::Steps;
+use table_inputs::{Posed, posed_of};
+use tsl_io::Inputs;
+
+/// The text of the table of a machine's analysis: its specification, its code and an entry are read and examined, and the
+/// code is analysed.
+pub fn analysed<'a, I: Inputs, L: Ledger>(
+    alloc: Global,
+    inputs: &mut I,
+    request: &AnalyseRequest<'a>,
+    steps: &mut Steps<L>,
+) -> Result<Answer, Halt<'a>>
+    requires few { length request.now.code.parts.items ≤ 16 }
+    ensures kept { InputsKept (I.state inputs.old) (I.state inputs.new) }
+    ensures gives { Gives (AnalyseSteps (Gave (I.state inputs.old) (I.state inputs.new)) (analyse_of request.now))
+        answer_of result }
+    ensures no_other_fault { NoOtherFault (I.state inputs.old) (I.state inputs.new) result }
+    ensures taken { IsTrue (I.state inputs.old).tells → (inputs.new ≡ inputs.old)
+        ⊎ (IsTrue (I.state inputs.new).is_open
+        → IsTakenFrom (analyse_inputs (analyse_of request.now)) (I.state inputs.old) (I.state inputs.new)) }
+    // At most N(H + 4) + N transfers, of N code words and elements of the height H.
+    ensures work { AnalyseWork (Gave (I.state inputs.old) (I.state inputs.new)) (analyse_of request.now) steps.old steps.new }
+{
+    let posed = posed_of(alloc, inputs, request.spec, &request.code, request.entry)?;
+    analysis_of::<L>(alloc, &posed, request.base, request.limit, steps)
+}
+
+/// What the analysis comes to over a base, where an instruction may have at most so many targets.
+fn analysis_of<'a, L: Ledger>(
+    alloc: Global,
+    posed: &Posed,
+    base: BaseName,
+    limit: u32,
+    steps: &mut Steps<L>,
+) -> Result<Answer, Halt<'a>>
+    requires { IsPosed (view posed.now) }
+    ensures gives { Gives (AnalysisOf base limit (view posed.now)) answer_of result }
+    ensures work { steps.new ≤ steps.old + analysis_work base limit (view posed.now) }
+{
+    let Some(machine) = posed.spec.machine else {
+        unreachable!()
+    };
+    let start = Start {
+        machine,
+        entry: &posed.entry,
+        limit,
+    };
+    let subject = Subject {
+        spec: &posed.spec,
+        image: &posed.image,
+        task: Task::Analyse(start),
+    };
+    over_base::<L>(alloc, &subject, base, steps)
+}

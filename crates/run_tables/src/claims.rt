@@ -1,0 +1,89 @@
+//! The command `claims`.
+
+ghost use Rattle.std.specs.Prelude.{◌≡◌, ◌<◌, ◌≤◌, ◌+◌, ◌^◌, ◌⊎◌, IsSome, IsTrue, length};
+ghost use Rattle.tsl_io.specs.InputState.{InputsKept};
+ghost use Rattle.run_steps.specs.Faultless.{NoOtherFault};
+ghost use Rattle.run_steps.specs.Outcomes.{Gives, answer_of};
+ghost use Rattle.run_steps.specs.Reading.{Gave, IsTakenFrom};
+ghost use Rattle.command_words.specs.Views.{claims_of};
+ghost use Rattle.table_inputs.specs.Inputs.{claims_cap, table_cap};
+ghost use Rattle.table_inputs.specs.Views.{posed_of as view};
+ghost use Rattle.run_tables.specs.Read.{IsPosed};
+ghost use Rattle.run_tables.specs.Steps.{ClaimsOf, ClaimsSteps, claims_inputs};
+ghost use Rattle.run_tables.specs.Work.{ClaimsWork, check_work};
+
+use base_tasks::over_base;
+use command_words::{BaseName, ClaimsRequest};
+use domain_tasks::{Start, Subject, Task};
+use run_steps::{Answer, Halt, read_input};
+use std::alloc::Global;
+use std::sync::ledger::Ledger;
+use step_counter::Steps;
+use table_inputs::{CLAIMS_CAP, Posed, TABLE_CAP, posed_of};
+use tsl_io::Inputs;
+
+/// The answers to claims: a machine's specification, its code and an entry are read and examined, then the table and the claims are read, and the
+/// claims are answered by the table.
+pub fn claimed<'a, I: Inputs, L: Ledger>(
+    alloc: Global,
+    inputs: &mut I,
+    request: &ClaimsRequest<'a>,
+    steps: &mut Steps<L>,
+) -> Result<Answer, Halt<'a>>
+    requires few { length request.now.check.analysis.code.parts.items ≤ 16 }
+    ensures kept { InputsKept (I.state inputs.old) (I.state inputs.new) }
+    ensures gives { Gives (ClaimsSteps (Gave (I.state inputs.old) (I.state inputs.new)) (claims_of request.now))
+        answer_of result }
+    ensures no_other_fault { NoOtherFault (I.state inputs.old) (I.state inputs.new) result }
+    ensures taken { IsTrue (I.state inputs.old).tells → (inputs.new ≡ inputs.old)
+        ⊎ (IsTrue (I.state inputs.new).is_open
+        → IsTakenFrom (claims_inputs (claims_of request.now)) (I.state inputs.old) (I.state inputs.new)) }
+    // At most one transfer a code word.
+    ensures work { ClaimsWork (Gave (I.state inputs.old) (I.state inputs.new)) (claims_of request.now) steps.old steps.new }
+{
+    let asked = &request.check.analysis;
+    let posed = posed_of(alloc, inputs, asked.spec, &asked.code, asked.entry)?;
+    let table = read_input(alloc, inputs, request.check.table, TABLE_CAP)?;
+    let claims = read_input(alloc, inputs, request.claims, CLAIMS_CAP)?;
+    answers_of::<L>(
+        alloc,
+        &posed,
+        asked.base,
+        asked.limit,
+        &table,
+        &claims,
+        steps,
+    )
+}
+
+/// What claims on a table come to over a base, where an instruction may have at most so many targets.
+fn answers_of<'a, L: Ledger>(
+    alloc: Global,
+    posed: &Posed,
+    base: BaseName,
+    limit: u32,
+    table: &[u8],
+    claims: &[u8],
+    steps: &mut Steps<L>,
+) -> Result<Answer, Halt<'a>>
+    requires posed { IsPosed (view posed.now) }
+    requires short_table { length table.now ≤ table_cap }
+    requires short_claims { length claims.now ≤ claims_cap }
+    ensures gives { Gives (ClaimsOf base limit (view posed.now) table.now claims.now) answer_of result }
+    ensures work { steps.new ≤ steps.old + check_work (view posed.now) }
+{
+    let Some(machine) = posed.spec.machine else {
+        unreachable!()
+    };
+    let start = Start {
+        machine,
+        entry: &posed.entry,
+        limit,
+    };
+    let subject = Subject {
+        spec: &posed.spec,
+        image: &posed.image,
+        task: Task::Claims(start, table, claims),
+    };
+    over_base::<L>(alloc, &subject, base, steps)
+}

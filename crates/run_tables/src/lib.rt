@@ -1,0 +1,22 @@
+//! The commands on tables, `analyse`, `check`, `convert`, `slice` and `claims`: from their requests to what a run comes to.
+//!
+//! Each is a chain of steps (specs/Steps): inputs are read and examined one after another, each whole before the next is opened, and then the work
+//! is done over the base that the request names (`base_tasks`). A refusal of a step is that of the command, and nothing more is read.
+//! `analysed`, `checked`, `converted`, `sliced` and `claimed` give what these chains may give, over any inputs.
+//!
+//! The laws of src/laws.rt say that over the bytes that names hold each command has one outcome; over affine relations the table that `analyse` or
+//! `convert` writes may have several texts.
+#![tactic(auto)]
+
+mod analyse;
+mod check;
+mod claims;
+mod convert;
+pub mod laws;
+mod slice;
+
+pub use analyse::analysed;
+pub use check::checked;
+pub use claims::claimed;
+pub use convert::converted;
+pub use slice::sliced;

@@ -1,0 +1,95 @@
+//! The command `slice`.
+
+ghost use Rattle.std.specs.Prelude.{◌≡◌, ◌<◌, ◌≤◌, ◌+◌, ◌^◌, ◌⊎◌, IsSome, IsTrue, length};
+ghost use Rattle.tsl_io.specs.InputState.{InputsKept};
+ghost use Rattle.run_steps.specs.Faultless.{NoOtherFault};
+ghost use Rattle.run_steps.specs.Outcomes.{Gives, answer_of};
+ghost use Rattle.run_steps.specs.Reading.{Gave, IsTakenFrom};
+ghost use Rattle.command_words.specs.Views.{slice_of};
+ghost use Rattle.table_inputs.specs.Inputs.{table_cap};
+ghost use Rattle.table_inputs.specs.Views.{sought_of as view};
+ghost use Rattle.run_tables.specs.Read.{IsPosed};
+ghost use Rattle.run_tables.specs.Steps.{SliceOf, SliceSteps, slice_inputs};
+ghost use Rattle.run_tables.specs.Work.{SliceWork, check_work};
+
+use base_tasks::over_base;
+use command_words::{BaseName, SliceRequest};
+use domain_tasks::{Start, Subject, Task};
+use run_steps::{Answer, Halt, read_input};
+use std::alloc::Global;
+use std::sync::ledger::Ledger;
+use step_counter::Steps;
+use table_inputs::{Sought, TABLE_CAP, sought_of};
+use tsl_io::Inputs;
+
+/// The slice of a table: a machine's specification is read and examined, and the cell is sought in its states; then its code and an entry are read and
+/// examined; then the table is read, checked and sliced.
+pub fn sliced<'a, I: Inputs, L: Ledger>(
+    alloc: Global,
+    inputs: &mut I,
+    request: &SliceRequest<'a>,
+    steps: &mut Steps<L>,
+) -> Result<Answer, Halt<'a>>
+    requires few { length request.now.check.analysis.code.parts.items ≤ 16 }
+    ensures kept { InputsKept (I.state inputs.old) (I.state inputs.new) }
+    ensures gives { Gives (SliceSteps (Gave (I.state inputs.old) (I.state inputs.new)) (slice_of request.now))
+        answer_of result }
+    ensures no_other_fault { NoOtherFault (I.state inputs.old) (I.state inputs.new) result }
+    ensures taken { IsTrue (I.state inputs.old).tells → (inputs.new ≡ inputs.old)
+        ⊎ (IsTrue (I.state inputs.new).is_open
+        → IsTakenFrom (slice_inputs (slice_of request.now)) (I.state inputs.old) (I.state inputs.new)) }
+    // At most one transfer a code word.
+    ensures work { SliceWork (Gave (I.state inputs.old) (I.state inputs.new)) (slice_of request.now) steps.old steps.new }
+{
+    let asked = &request.check.analysis;
+    let sought = sought_of(
+        alloc,
+        inputs,
+        asked.spec,
+        request.cell,
+        &asked.code,
+        asked.entry,
+    )?;
+    let table = read_input(alloc, inputs, request.check.table, TABLE_CAP)?;
+    slice_over::<L>(
+        alloc,
+        &sought,
+        asked.base,
+        asked.limit,
+        request.address,
+        &table,
+        steps,
+    )
+}
+
+/// What the slice of a table comes to over a base, for the instruction at an address, where an instruction may have at most so many targets.
+fn slice_over<'a, L: Ledger>(
+    alloc: Global,
+    sought: &Sought,
+    base: BaseName,
+    limit: u32,
+    at: u32,
+    table: &[u8],
+    steps: &mut Steps<L>,
+) -> Result<Answer, Halt<'a>>
+    requires posed { IsPosed (view sought.now).posed }
+    requires short { length table.now ≤ table_cap }
+    ensures gives { Gives (SliceOf base limit (view sought.now) at table.now) answer_of result }
+    ensures work { steps.new ≤ steps.old + check_work (view sought.now).posed }
+{
+    let posed = &sought.posed;
+    let Some(machine) = posed.spec.machine else {
+        unreachable!()
+    };
+    let start = Start {
+        machine,
+        entry: &posed.entry,
+        limit,
+    };
+    let subject = Subject {
+        spec: &posed.spec,
+        image: &posed.image,
+        task: Task::Slice(start, table, at, sought.asked),
+    };
+    over_base::<L>(alloc, &subject, base, steps)
+}

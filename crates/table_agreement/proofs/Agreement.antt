@@ -1,0 +1,202 @@
+-- What the analysis of a problem prints tells its table, and is accepted; what was written anew stays.
+use Rattle.std.proofs.Common.{◌≡◌, ℕ, Bool, true, false, List, Option, IsTrue, inl, inr, refl, sym, ap, subst}
+use Rattle.std.specs.List.{list_all}
+use Rattle.std.specs.Prelude.{Ok, is_some}
+use Rattle.text_lines.specs.Lines.{is_inside}
+use Rattle.command_words.specs.declared.bases.BaseName.{BaseName}
+use Rattle.command_words.specs.Bases.{base_text}
+use Rattle.insn_decode.specs.Image.{Image}
+use Rattle.spec_types.specs.Specification.{Spec}
+use Rattle.domain_laws.specs.States.{state_type}
+use Rattle.fixed_point.specs.Analysis.{Analysis, AnalysisLaws}
+use Rattle.fixed_point.specs.Play.{play}
+use Rattle.fixed_point.specs.Table.{IsTableOf, Listings}
+use Rattle.fixed_point.specs.Verdicts.{verdict_of}
+use Rattle.fixed_point.specs.declared.verdict.Verdict.{Verdict}
+use Rattle.fixed_point.specs.declared.verdict.Verdict.TheVariants as v
+use Rattle.fixed_point.proofs.One.{legal_traces_are_one}
+use Rattle.fixed_point.proofs.Tables.{full_traces_close, tables_are_one, tables_fit_the_image}
+use Rattle.fixed_point.proofs.Verdicts.{accepted_are_closed}
+use Rattle.tsl_values.specs.States.{State}
+use Rattle.transfer_laws.specs.Problem.{IsWellPosed, Problem}
+use Rattle.transfer.specs.Analysis.{calls_of}
+use Rattle.printable_tables.specs.Laws.{has_word}
+use Rattle.printable_tables.specs.Tables.{IsPrintableTable}
+use Rattle.printable_tables.proofs.Tables.{tables_are_printable}
+use Rattle.table_faults.specs.declared.table_error.TableError.{TableError}
+use Rattle.table_reader.specs.Ends.{is_word_of}
+use Rattle.table_reader.specs.Tables.{IsErrorIn, IsTableIn}
+use Rattle.table_readings.specs.Readings.{AreAlike}
+use Rattle.table_readings.proofs.Errors.{tables_are_alike, tables_have_no_error}
+use Rattle.table_text.specs.Tables.{IsTableText}
+use Rattle.table_round_trip.specs.Laws.{HasParts}
+use Rattle.table_round_trip.specs.Writable.{IsWritable}
+use Rattle.table_round_trip.proofs.Fitting.{fitting_tables_are_of_code}
+use Rattle.table_round_trip.proofs.Tables.{converted_texts_are_read, texts_are_read}
+use Rattle.run_steps.specs.Outcome.{Outcome, table_refused, text}
+use Rattle.analysis_domains.specs.Analyses.{IsTable, analysis}
+use Rattle.analysis_domains.specs.Checks.{Judges, accepted_line, judged, outcome_of}
+use Rattle.analysis_domains.specs.Conversions as conversions
+use Rattle.analysis_domains.specs.Conversions.{Rewrites, rewritten}
+use Rattle.analysis_domains.specs.Domains.{DomainOf}
+use Rattle.analysis_domains.specs.Named.{Analysed, Checked, Converted, domain_of, has_relations}
+use Rattle.analysis_domains.proofs.Bases.{IsKnown, all_known, known, known_is_lawful}
+use Rattle.analysis_domains.proofs.Lawful.{IsExact, IsLawful}
+use Rattle.analysis_domains.proofs.Readings.{checks_are_one}
+use Rattle.analysis_domains.proofs.Ready.{is_analysed, keeps_the_laws}
+use Rattle.analysis_domains.proofs.Texts.{one_text, same_are_alike}
+use Rattle.table_agreement.specs.Laws.{AnalysesAreAccepted, AnalysesAreTold, AnalysesTellOne, ConversionsStay, IsCodeFor, IsCodeOf, IsRewritten, TellOne}
+use Rattle.table_agreement.specs.Printable.{Asks, IsPrintableIn}
+use Rattle.table_agreement.proofs.Bases.{all_told, names_inside}
+use Rattle.table_agreement.proofs.Told.{IsTold}
+
+-- ---- in a domain that is told by texts
+
+module _ {E W N C : Type 0} (domain : DomainOf E W N C) (notes_are : Asks N) (elements_are : Asks E) (spec : Spec) (lawful : IsLawful domain spec) (told : IsTold domain notes_are elements_are spec)
+    (image : Image) (code : IsCodeFor spec image) (name : List ℕ) (inside : IsTrue (list_all is_inside name)) where
+  pub parts : HasParts domain.Reads domain.IsText domain.elements elements_are spec image
+  parts = record { elements = told.trips; laws = lawful.reads; fields = code.fields; is_image = code.is_image }
+
+  -- a text that is written of a table that was read tells it too
+  pub read_again : (bytes new : List ℕ) (t : Listings E) → IsTableIn domain.Reads spec name image bytes t → IsTableText (domain.IsText spec) spec image name t new → IsTableIn domain.Reads spec name image new t
+  read_again bytes new t h written = converted_texts_are_read domain.Reads domain.IsText domain.elements elements_are spec image name parts inside bytes new t h (inl written)
+
+  -- what is written of it, and what is written of that
+  module _ (new : List ℕ) (t : Listings E) (back : IsTableIn domain.Reads spec name image new t) (written : IsTableText (domain.IsText spec) spec image name t new) where
+    pub record IsAgain (found : Outcome) : Type 0 where
+      pub again : List ℕ
+      pub other : Listings E
+      pub is : found ≡ Ok (text again)
+      pub other_is : IsTableIn domain.Reads spec name image again other
+      pub other_text : IsTableText (domain.IsText spec) spec image name other again
+      pub alike : AreAlike domain.elements t other
+
+    pub is_again : (found : Outcome) → Rewrites domain spec image name new found → IsAgain found
+    is_again found (conversions.refused {error = e} h) = absurd (tables_have_no_error domain.Reads domain.elements spec lawful.reads name image new t e back h)
+    is_again found (rewritten u again h also) = record {
+      again = again;
+      other = u;
+      is = refl;
+      other_is = read_again new again u h also;
+      other_text = also;
+      alike = tables_are_alike domain.Reads domain.elements spec lawful.reads name image new t u back h;
+    }
+
+-- ---- of the analysis of a problem
+
+module _ {E W N C : Type 0} (domain : DomainOf E W N C) (notes_are : Asks N) (elements_are : Asks E) (p : Problem) (lawful : IsLawful domain p.spec) (told : IsTold domain notes_are elements_are p.spec)
+    (posed : IsWellPosed p) (image : Image) (of : IsCodeOf p image) (name : List ℕ) (inside : IsTrue (list_all is_inside name)) where
+  abbrev A : Analysis E W State
+  A = analysis domain p
+
+  laws : AnalysisLaws A
+  laws = keeps_the_laws domain p lawful posed
+
+  module _ (bytes : List ℕ) (h : IsTable domain p image name bytes) where
+    pub printable : IsPrintableTable p.spec (elements_are (has_word p)) h.table
+    printable =
+        tables_are_printable domain.base lawful.laws domain.cap domain.elements domain.meaning notes_are elements_are told.notes told.keeps p (calls_of domain.base domain.cap domain.meaning p) h.trace h.table
+        (is_analysed domain p lawful posed) h.fits h.is_table
+
+    same_words : has_word p ≡ is_word_of image
+    same_words = ap {B = ℕ → Bool} (λ word_at a. is_some (word_at a)) of.words_are
+
+    writable : IsWritable domain.elements elements_are p.spec (is_word_of image) h.table
+    writable =
+        let blocks = fitting_tables_are_of_code A image of.code.is_image of.addresses_are h.table h.fits (tables_fit_the_image A laws h.trace h.table h.fits h.is_table) in
+        record {
+          fits = blocks.0;
+          printable = subst (λ (code : ℕ → Bool). IsPrintableTable p.spec (elements_are code) h.table) same_words printable;
+          of_code = blocks.1;
+        }
+
+    -- it is read back
+    pub back : IsTableIn domain.Reads p.spec name image bytes h.table
+    back = texts_are_read domain.Reads domain.IsText domain.elements elements_are p.spec image name (parts domain notes_are elements_are p.spec lawful told image of.code name inside) inside bytes h.table writable (inl h.text)
+
+    -- and accepted
+    pub accepted : verdict_of A h.table ≡ v.Accepted
+    accepted = (accepted_are_closed A laws h.table h.fits).1 (full_traces_close A laws h.trace h.table h.legal h.full h.fits h.is_table)
+
+    pub judges : Judges domain p image name bytes (Ok (text accepted_line))
+    judges = subst (λ (verdict : Verdict W). Judges domain p image name bytes (outcome_of domain.word_text verdict)) accepted (judged h.table (record { is_table = back; fits = h.fits; is_true = λ closed. h.is_true }))
+
+  -- two texts tell one table
+  pub alike : (bytes other : List ℕ) (h : IsTable domain p image name bytes) (k : IsTable domain p image name other) → AreAlike domain.elements h.table k.table
+  alike bytes other h k =
+      let same : h.trace ≡ k.trace = legal_traces_are_one A h.trace k.trace h.legal (inl h.full) k.legal (inl k.full) in
+      same_are_alike A domain.elements (λ x y same. same) h.table k.table
+      (tables_are_one A laws k.trace h.table k.table h.fits k.fits (subst (λ trace. IsTableOf A h.table (play A trace)) same h.is_table) k.is_table)
+
+-- ---- over each base
+
+pub analyses_are_told : AnalysesAreTold
+analyses_are_told image p base bytes posed of h =
+    let told = all_told p.spec of.code.fields.states of.code.fields.fields base in
+    let domain = (domain_of (state_type p.spec) base).domain in
+    let lawful = known_is_lawful base domain p.spec (known image p base posed) in (
+      back domain told.0 (IsPrintableIn (state_type p.spec) base) p lawful told.1 posed image of (base_text base) (names_inside base) bytes h,
+      printable domain told.0 (IsPrintableIn (state_type p.spec) base) p lawful told.1 posed image of (base_text base) (names_inside base) bytes h,
+    )
+
+pub analyses_tell_one : AnalysesTellOne
+analyses_tell_one image p base bytes other posed of h k =
+    let told = all_told p.spec of.code.fields.states of.code.fields.fields base in
+    let domain = (domain_of (state_type p.spec) base).domain in
+    let lawful = known_is_lawful base domain p.spec (known image p base posed) in
+    record {
+      first = h.table;
+      second = k.table;
+      first_is = (analyses_are_told image p base bytes posed of h).0;
+      second_is = (analyses_are_told image p base other posed of k).0;
+      alike = alike domain told.0 (IsPrintableIn (state_type p.spec) base) p lawful told.1 posed image of (base_text base) (names_inside base) bytes other h k;
+    }
+
+-- the check of its text
+pub analyses_check : (image : Image) (p : Problem) (base : BaseName) (bytes : List ℕ) → IsWellPosed p → IsCodeOf p image → Analysed image p base (Ok (text bytes)) → Checked image p base bytes (Ok (text accepted_line))
+analyses_check image p base bytes posed of h =
+    let told = all_told p.spec of.code.fields.states of.code.fields.fields base in
+    let domain = (domain_of (state_type p.spec) base).domain in
+    let lawful = known_is_lawful base domain p.spec (known image p base posed) in
+    judges domain told.0 (IsPrintableIn (state_type p.spec) base) p lawful told.1 posed image of (base_text base) (names_inside base) bytes h
+
+pub analyses_are_accepted : AnalysesAreAccepted
+analyses_are_accepted image p base bytes found posed of h checked = checks_are_one image p base bytes found (Ok (text accepted_line)) posed checked (analyses_check image p base bytes posed of h)
+
+-- ---- conversions
+
+never : (b : Bool) → IsTrue b → b ≡ false → ⊥
+never true is e = cc
+never false is e = cc
+
+exact_again : {E W N C : Type 0} (base : BaseName) (domain : DomainOf E W N C) (spec : Spec) (image : Image) (t u : Listings E) (new again : List ℕ) → IsKnown base domain spec → AreAlike domain.elements t u
+    → IsTableText (domain.IsText spec) spec image (base_text base) t new → IsTableText (domain.IsText spec) spec image (base_text base) u again → has_relations base ≡ false → again ≡ new
+exact_again base domain spec image t u new again (inl plain) same written also none = sym (one_text domain.elements (domain.IsText spec) spec plain.exact image (base_text base) t u new again same written also)
+exact_again base domain spec image t u new again (inr related) same written also none = absurd (never (has_relations base) related.0 none)
+
+-- a text that was written
+record WasWritten {E W N C : Type 0} (domain : DomainOf E W N C) (spec : Spec) (image : Image) (name bytes new : List ℕ) : Type 0 where
+  pub table : Listings E
+  pub is_table : IsTableIn domain.Reads spec name image bytes table
+  pub written : IsTableText (domain.IsText spec) spec image name table new
+
+was_written : {E W N C : Type 0} (domain : DomainOf E W N C) (spec : Spec) (image : Image) (name bytes new : List ℕ) → Rewrites domain spec image name bytes (Ok (text new)) → WasWritten domain spec image name bytes new
+was_written domain spec image name bytes new (rewritten t made is written) = record { table = t; is_table = is; written = written }
+
+pub conversions_stay : ConversionsStay
+conversions_stay image spec base bytes new found code first second =
+    let has = code.fields.states in
+    let told = all_told spec has code.fields.fields base in
+    let domain = (domain_of (state_type spec) base).domain in
+    let known_so = all_known spec has base in
+    let lawful = known_is_lawful base domain spec known_so in
+    let w = was_written domain spec image (base_text base) bytes new first in
+    let inside = names_inside base in
+    let again_is = read_again domain told.0 (IsPrintableIn (state_type spec) base) spec lawful told.1 image code (base_text base) inside bytes new w.table w.is_table w.written in
+    let a = is_again domain told.0 (IsPrintableIn (state_type spec) base) spec lawful told.1 image code (base_text base) inside new w.table again_is w.written found second in
+    record {
+      again = a.again;
+      is = a.is;
+      same = record { first = w.table; second = a.other; first_is = again_is; second_is = a.other_is; alike = a.alike };
+      exact = λ none. exact_again base domain spec image w.table a.other new a.again known_so a.alike w.written a.other_text none;
+    }

@@ -1,0 +1,37 @@
+-- What follows for two runs in memory.
+use Rattle.std.proofs.Common.{◌≡◌, ◌∙◌, ◌⊎◌, ℕ, ◌<◌, ◌≤◌, List, Some, arith, inl, inr, length, refl, sym, ap, subst}
+use Rattle.std.specs.Prelude.{Ok}
+use Rattle.command_words.specs.Requests.{AnalyseRequest, Request, analyse, check}
+use Rattle.command_words.specs.Words.{asked}
+use Rattle.run_steps.specs.declared.status.Status.{Status}
+use Rattle.run_steps.specs.declared.status.Status.TheVariants as s
+use Rattle.run_steps.specs.Outcome.{Outcome, line_of, status_of, text}
+use Rattle.run_steps.specs.Reading.{Held, Holds}
+use Rattle.run_steps.specs.Steps.{goes_on}
+use Rattle.std.specs.Prelude.{Option}
+use Rattle.table_inputs.specs.Inputs.{table_cap}
+use Rattle.analysis_domains.specs.Checks.{accepted_line}
+use Rattle.run_tables.specs.Steps.{AnalyseSteps}
+use Rattle.tsl_run.specs.Owed.{IsOwed, Owes, OwesLonger}
+use Rattle.tsl_run.specs.Steps.{Steps}
+use Rattle.tsl_run.specs.Tables.{IsTableFor}
+use Rattle.table_agreement.specs.Laws.{HoldTheSame}
+use Rattle.table_agreement.proofs.Runs.{analyse_then_check}
+
+module _ (words check_words : List (List ℕ)) (held later : Held) (request : AnalyseRequest) (table bytes : List ℕ) (asks : asked words ≡ Some (analyse request))
+    (also : asked check_words ≡ Some (check (record { analysis = request; table = table }))) (same : HoldTheSame words held later) (wrote : IsTableFor held request bytes)
+    (holds : later table ≡ Some bytes) (fits : length bytes ≤ table_cap) where
+  -- what was written is owed
+  owed : IsOwed words held (Ok (text bytes))
+  owed = subst (λ (what : Option Request). Steps (Holds held) what (Ok (text bytes))) (sym asks) (goes_on wrote.is_posed wrote.analysed)
+
+  -- and so what the check owes is that line
+  accepted : (found : Outcome) → IsOwed check_words later found → found ≡ Ok (text accepted_line)
+  accepted found is = analyse_then_check words check_words held later request table bytes found asks also owed same holds fits is
+
+  too_long : (n : ℕ) (line : List ℕ) → line ≡ accepted_line → n < length line → 9 ≤ n → ⊥
+  too_long n line is longer most = let nine : length line ≡ 9 = ap (λ (xs : List ℕ). length xs) is in omega (arith, nine, longer, most)
+
+  pub ends_accepted : (status : Status) (line : List ℕ) → Owes check_words later status line ⊎ ((status ≡ s.WriteFault) × OwesLonger check_words later 67108864) → (status ≡ s.Ok) × (line ≡ accepted_line)
+  ends_accepted status line (inl o) = let is = accepted o.outcome o.owed in (o.has_status ∙ ap status_of is, o.has_line ∙ ap line_of is)
+  ends_accepted status line (inr h) = let o = h.1.owed in absurd (too_long 67108864 h.1.text (o.has_line ∙ ap line_of (accepted o.outcome o.owed)) h.1.longer (omega arith))

@@ -1,0 +1,152 @@
+-- The same over what a run owes.
+use Rattle.std.proofs.Common.{◌≡◌, ◌∙◌, ◌⊎◌, ℕ, ◌≤◌, List, Option, Some, true, inl, inr, length, refl, sym, subst}
+use Rattle.std.specs.Prelude.{Err, Ok, Result}
+use Rattle.command_words.specs.declared.bases.BaseName.{BaseName}
+use Rattle.command_words.specs.Code.{Code}
+use Rattle.command_words.specs.SpecNames.{SpecName}
+use Rattle.command_words.specs.Requests.{AnalyseRequest, CheckRequest, ConvertRequest, Request, analyse, check, convert}
+use Rattle.command_words.specs.Words.{asked}
+use Rattle.insn_decode.specs.Image.{Image}
+use Rattle.spec_types.specs.declared.spec.Machine.{Machine as Numbers}
+use Rattle.spec_types.specs.Specification.{Spec}
+use Rattle.accepted_states.proofs.States.{accepted_have_states}
+use Rattle.posed_problems.specs.Problems.{problem_of}
+use Rattle.table_round_trip.specs.Fields.{HasUseTexts}
+use Rattle.table_round_trip.proofs.Machines.{machines_have_use_texts}
+use Rattle.domain_laws.specs.States.{has_states}
+use Rattle.run_emulate.specs.Code.{CodeOf}
+use Rattle.run_emulate.specs.Machines.{MachineOf}
+use Rattle.run_steps.specs.Outcome.{Outcome, Refusal, text}
+use Rattle.run_steps.specs.Reading.{Held, Holds, Reading, long, none, whole}
+use Rattle.run_steps.specs.Steps.{Then, goes_on, refused}
+use Rattle.run_steps.proofs.OneSource.{one_held}
+use Rattle.run_steps.proofs.Steps.{Fails, opened}
+use Rattle.table_inputs.specs.Inputs.{Coded, CodedOf, Posed, PosedOf, table_cap}
+use Rattle.table_inputs.proofs.Images.{code_image}
+use Rattle.table_inputs.proofs.Problems.{coded_parts, machine_accepted, machine_there, posed_is_well_posed, posed_parts, some_machine}
+use Rattle.table_inputs.proofs.Single.{one_coded}
+use Rattle.analysis_domains.specs.Checks.{accepted_line}
+use Rattle.analysis_domains.specs.Named.{Converted}
+use Rattle.run_tables.specs.Steps.{AnalyseSteps, AnalysisOf, CheckSteps, ConversionOf, ConvertSteps}
+use Rattle.run_tables.proofs.Chains.{table_behind}
+use Rattle.run_tables.proofs.One.{check_has_one}
+use Rattle.tsl_run.specs.Owed.{IsOwed}
+use Rattle.tsl_run.specs.Steps.{Steps}
+use Rattle.tsl_run.proofs.Others.{asked_either}
+use Rattle.tsl_run.proofs.Parts.{few_asked}
+use Rattle.table_agreement.specs.Laws.{AnalyseThenCheck, ConvertTwice, IsCodeFor, IsCodeOf, OwedByInputs}
+use Rattle.table_agreement.proofs.Agreement.{analyses_check, conversions_stay}
+
+-- ---- what is owed depends on inputs alone
+
+held_too : (held later : Held) (cap : ℕ) (name : List ℕ) → held name ≡ later name → (found : Result (List ℕ) Refusal) → Holds held cap name found → Holds later cap name found
+held_too held later cap name same found (whole is fits) = whole (sym same ∙ is) fits
+held_too held later cap name same found (long is longer) = long (sym same ∙ is) longer
+held_too held later cap name same found (none is) = none (sym same ∙ is)
+
+abbrev never : Refusal → Type 0
+never refusal = ⊥
+
+without_fault : (outcome : Outcome) → Fails never outcome → ⊥
+without_fault (Ok answer) h = h
+without_fault (Err refusal) h = h
+
+either_owed : (words : List (List ℕ)) (later : Held) (outcome : Outcome) → IsOwed words later outcome ⊎ Fails never outcome → IsOwed words later outcome
+either_owed words later outcome (inl is) = is
+either_owed words later outcome (inr h) = absurd (without_fault outcome h)
+
+pub owed_by_inputs : OwedByInputs
+owed_by_inputs words held later outcome same is =
+    either_owed words later outcome (asked_either (Holds held) (Holds later) never (asked words) (λ cap name named found read. inl (held_too held later cap name (same cap name named) found read)) outcome is)
+
+-- ---- what was read
+
+module _ (reads : Reading) (name : SpecName) (spec : Spec) where
+  states_there : MachineOf reads name (Ok spec) → has_states spec ≡ true
+  states_there is = let m = some_machine spec.machine (machine_there reads name spec is) in accepted_have_states spec m.0 (machine_accepted reads name spec is) m.1
+
+  use_texts : MachineOf reads name (Ok spec) → HasUseTexts spec
+  use_texts (goes_on {given = source} read is) =
+      machines_have_use_texts source is.parsed.tokens (length source) is.tree spec is.parsed.lexed is.parsed.parsed is.faultless is.checked (states_there (goes_on read is))
+
+  code_for : (code : Code) (image : Image) → length code.parts ≤ 16 → MachineOf reads name (Ok spec) → CodeOf reads code (Ok image) → IsCodeFor spec image
+  code_for code image few machine is = record { is_image = code_image reads code image few is; fields = use_texts machine }
+
+-- ---- analyses
+
+-- an analysis of what was read that came to a text, and what was read
+record Analysing (held : Held) (request : AnalyseRequest) (bytes : List ℕ) : Type 0 where
+  pub posed : Posed
+  pub is_posed : PosedOf (Holds held) request.spec request.code request.entry (Ok posed)
+  pub analysed : AnalysisOf request.base request.limit posed (Ok (text bytes))
+
+analysing : (held : Held) (request : AnalyseRequest) (bytes : List ℕ) → AnalyseSteps (Holds held) request (Ok (text bytes)) → Analysing held request bytes
+analysing held request bytes is =
+    let o = opened (PosedOf (Holds held) request.spec request.code request.entry) (AnalysisOf request.base request.limit) (text bytes) is in
+    record { posed = o.0; is_posed = o.1; analysed = o.2 }
+
+-- the check of its text
+check_of_it : (held : Held) (request : AnalyseRequest) (table bytes : List ℕ) → length request.code.parts ≤ 16 → held table ≡ Some bytes → length bytes ≤ table_cap → Analysing held request bytes
+    → CheckSteps (Holds held) (record { analysis = request; table = table }) (Ok (text accepted_line))
+check_of_it held request table bytes few holds fits a =
+    let parts = posed_parts (Holds held) request.spec request.code request.entry a.posed a.is_posed in
+    let code = code_for (Holds held) request.spec a.posed.spec request.code a.posed.image few parts.coded.machine parts.coded.image in
+    let p = problem_of a.posed.spec a.analysed.machine a.posed.image a.posed.entry request.limit in
+    let posed = posed_is_well_posed (Holds held) request.spec request.code request.entry a.posed a.analysed.machine request.limit few a.is_posed a.analysed.is_machine in
+    let of : IsCodeOf p a.posed.image = record { addresses_are = refl; words_are = refl; code = code } in
+    goes_on a.is_posed (goes_on (whole holds fits) (record { machine = a.analysed.machine; is_machine = a.analysed.is_machine; checked = analyses_check a.posed.image p request.base bytes posed of a.analysed.analysed }))
+
+pub analyse_then_check : AnalyseThenCheck
+analyse_then_check words check_words held later request table bytes found asks also first same holds fits second =
+    let few = few_asked words (analyse request) asks in
+    let owed = owed_by_inputs words held later (Ok (text bytes)) same first in
+    let analysed : AnalyseSteps (Holds later) request (Ok (text bytes)) = subst (λ (what : Option Request). Steps (Holds later) what (Ok (text bytes))) asks owed in
+    let checked : CheckSteps (Holds later) (record { analysis = request; table = table }) found = subst (λ (what : Option Request). Steps (Holds later) what found) also second in
+    check_has_one later (record { analysis = request; table = table }) found (Ok (text accepted_line)) few checked (check_of_it later request table bytes few holds fits (analysing later request bytes analysed))
+
+-- ---- conversions
+
+-- a conversion of what was read that came to a text, and what was read
+record Converting (held : Held) (request : ConvertRequest) (new : List ℕ) : Type 0 where
+  pub coded : Coded
+  pub bytes : List ℕ
+  pub is_coded : CodedOf (Holds held) request.spec request.code (Ok coded)
+  pub converted : Converted coded.image coded.spec request.base bytes (Ok (text new))
+
+converting : (held : Held) (request : ConvertRequest) (new : List ℕ) → ConvertSteps (Holds held) request (Ok (text new)) → Converting held request new
+converting held request new is =
+    let o = opened (CodedOf (Holds held) request.spec request.code) (λ coded. table_behind request.table (ConversionOf request.base coded) (Holds held)) (text new) is in
+    let t = opened (Holds held table_cap request.table) (ConversionOf request.base o.0) (text new) o.2 in
+    record { coded = o.0; bytes = t.0; is_coded = o.1; converted = t.2 }
+
+-- what comes of a table that a name holds, behind the code that is read
+module _ (held : Held) (table new : List ℕ) (holds : held table ≡ Some new) (fits : length new ≤ table_cap) where
+  of_table : (base : BaseName) (coded : Coded) (found : Outcome) → table_behind table (ConversionOf base coded) (Holds held) found → Converted coded.image coded.spec base new found
+  of_table base coded found (refused {refusal = e} p) = let clash = one_held held table_cap table (Err e) (Ok new) p (whole holds fits) in absurd (cc)
+  of_table base coded found (goes_on {given = bytes} p r) =
+      let same = one_held held table_cap table (Ok bytes) (Ok new) p (whole holds fits) in
+      let given : bytes ≡ new = cc in
+      subst (λ (xs : List ℕ). Converted coded.image coded.spec base xs found) given r
+
+  of_code : (name : SpecName) (code : Code) (base : BaseName) (coded : Coded) (found : Outcome) → CodedOf (Holds held) name code (Ok coded)
+      → Then (CodedOf (Holds held) name code) (λ coded. table_behind table (ConversionOf base coded) (Holds held)) found → Converted coded.image coded.spec base new found
+  of_code name code base coded found is (refused {refusal = e} p) = let clash = one_coded held name code (Err e) (Ok coded) p is in absurd (cc)
+  of_code name code base coded found is (goes_on {given = other} p r) =
+      let same = one_coded held name code (Ok other) (Ok coded) p is in
+      let given : other ≡ coded = cc in
+      subst (λ (c : Coded). Converted c.image c.spec base new found) given (of_table base other found r)
+
+pub convert_twice : ConvertTwice
+convert_twice words again_words held later request table new found asks also first same holds fits second =
+    let few = few_asked words (convert request) asks in
+    let owed = owed_by_inputs words held later (Ok (text new)) same first in
+    let converted : ConvertSteps (Holds later) request (Ok (text new)) = subst (λ (what : Option Request). Steps (Holds later) what (Ok (text new))) asks owed in
+    let c = converting later request new converted in
+    let more : ConvertSteps (Holds later) (record { spec = request.spec; code = request.code; base = request.base; table = table }) found = subst (λ (what : Option Request). Steps (Holds later) what found) also second in
+    let parts = coded_parts (Holds later) request.spec request.code c.coded c.is_coded in
+    record {
+      coded = c.coded;
+      is_coded = c.is_coded;
+      rewritten = conversions_stay c.coded.image c.coded.spec request.base c.bytes new found (code_for (Holds later) request.spec c.coded.spec request.code c.coded.image few parts.machine parts.image) c.converted
+          (of_code later table new holds fits request.spec request.code request.base c.coded found c.is_coded more);
+    }

@@ -1,0 +1,5 @@
+use Rattle.table_agreement.proofs.Agreement.{analyses_are_accepted}
+use Rattle.table_agreement.proofs.laws.analyses_are_accepted.Goals as goal
+
+pub returns : goal.returns
+returns c = analyses_are_accepted

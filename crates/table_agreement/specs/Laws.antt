@@ -1,0 +1,120 @@
+-- What the commands on tables owe agrees.
+use Rattle.std.specs.Prelude.{◌≡◌, ℕ, ◌≤◌, Contains, List, Ok, Some, false, length}
+use Rattle.command_words.specs.declared.bases.BaseName.{BaseName}
+use Rattle.command_words.specs.Bases.{base_text}
+use Rattle.command_words.specs.Requests.{AnalyseRequest, ConvertRequest, analyse, check, convert}
+use Rattle.command_words.specs.Words.{asked}
+use Rattle.insn_decode.specs.Faults.{IsImage}
+use Rattle.insn_decode.specs.Image.{Image, addresses, code_at}
+use Rattle.spec_types.specs.Specification.{Spec}
+use Rattle.domain_laws.specs.States.{state_type}
+use Rattle.fixed_point.specs.Table.{Listings}
+use Rattle.transfer_laws.specs.Problem.{IsWellPosed, Problem}
+use Rattle.printable_tables.specs.Laws.{has_word}
+use Rattle.printable_tables.specs.Tables.{IsPrintableTable}
+use Rattle.table_reader.specs.Tables.{IsTableIn}
+use Rattle.table_readings.specs.Readings.{AreAlike}
+use Rattle.table_round_trip.specs.Fields.{HasUseTexts}
+use Rattle.run_steps.specs.Outcome.{Outcome, text}
+use Rattle.run_steps.specs.Reading.{Held, Holds}
+use Rattle.table_inputs.specs.Inputs.{Coded, CodedOf, table_cap}
+use Rattle.analysis_domains.specs.Analyses.{IsTable}
+use Rattle.analysis_domains.specs.Checks.{accepted_line}
+use Rattle.analysis_domains.specs.Named.{Analysed, Checked, Converted, domain_of, has_relations}
+use Rattle.tsl_run.specs.Owed.{IsOwed}
+use Rattle.tsl_run.specs.Words.{capped_inputs}
+use Rattle.table_agreement.specs.Printable.{IsPrintableIn}
+
+-- ---- of what the laws speak
+
+-- An image of the code of a specification's machine: it has its form, and the fields of states have names and keys that their texts tell.
+pub record IsCodeFor (spec : Spec) (image : Image) : Type 0 where
+  pub is_image : IsImage image
+  pub fields : HasUseTexts spec
+
+-- The code words of the problem are those of the image.
+pub record IsCodeOf (p : Problem) (image : Image) : Type 0 where
+  pub addresses_are : p.addresses ≡ addresses image.segments
+  pub words_are : p.word_at ≡ code_at image
+  pub code : IsCodeFor p.spec image
+
+-- The text is read as this table, over a base.
+abbrev pub Tells : (base : BaseName) (spec : Spec) → Image → List ℕ → Listings (domain_of (state_type spec) base).Elem → Type 0
+Tells base spec image = IsTableIn (domain_of (state_type spec) base).domain.Reads spec (base_text base) image
+
+-- Two texts tell one table, up to how its elements are written.
+pub record TellOne (base : BaseName) (spec : Spec) (image : Image) (bytes other : List ℕ) : Type 0 where
+  pub first : Listings (domain_of (state_type spec) base).Elem
+  pub second : Listings (domain_of (state_type spec) base).Elem
+  pub first_is : Tells base spec image bytes first
+  pub second_is : Tells base spec image other second
+  pub alike : AreAlike (domain_of (state_type spec) base).domain.elements first second
+
+-- ---- laws
+
+-- The text of the table of an analysis tells that table: it is read as this table (and as no other, up to how elements are written). The table is
+-- printable.
+abbrev pub AnalysesAreTold : Type 0
+AnalysesAreTold =
+    (image : Image) (p : Problem) (base : BaseName) (bytes : List ℕ) → IsWellPosed p → IsCodeOf p image
+    → (h : IsTable (domain_of (state_type p.spec) base).domain p image (base_text base) bytes)
+    → Tells base p.spec image bytes h.table × IsPrintableTable p.spec (IsPrintableIn (state_type p.spec) base (has_word p)) h.table
+
+-- Two texts that the analysis of a problem comes to tell one table.
+abbrev pub AnalysesTellOne : Type 0
+AnalysesTellOne =
+    (image : Image) (p : Problem) (base : BaseName) (bytes other : List ℕ) → IsWellPosed p → IsCodeOf p image
+    → Analysed image p base (Ok (text bytes)) → Analysed image p base (Ok (text other)) → TellOne base p.spec image bytes other
+
+-- What an analysis prints is accepted.
+abbrev pub AnalysesAreAccepted : Type 0
+AnalysesAreAccepted =
+    (image : Image) (p : Problem) (base : BaseName) (bytes : List ℕ) (found : Outcome) → IsWellPosed p → IsCodeOf p image
+    → Analysed image p base (Ok (text bytes)) → Checked image p base bytes found → found ≡ Ok (text accepted_line)
+
+-- A text that was written anew is, written anew once more, a text of the same table; these very bytes, where each element has one text.
+pub record IsRewritten (base : BaseName) (spec : Spec) (image : Image) (new : List ℕ) (found : Outcome) : Type 0 where
+  pub again : List ℕ
+  pub is : found ≡ Ok (text again)
+  pub same : TellOne base spec image new again
+  pub exact : has_relations base ≡ false → again ≡ new
+
+abbrev pub ConversionsStay : Type 0
+ConversionsStay =
+    (image : Image) (spec : Spec) (base : BaseName) (bytes new : List ℕ) (found : Outcome) → IsCodeFor spec image
+    → Converted image spec base bytes (Ok (text new)) → Converted image spec base new found → IsRewritten base spec image new found
+
+-- ---- over what a run owes
+
+-- The inputs of these words hold the same, before and later.
+abbrev pub HoldTheSame : List (List ℕ) → Held → Held → Type 0
+HoldTheSame words held later = (cap : ℕ) (name : List ℕ) → Contains (capped_inputs words) (name, cap) → held name ≡ later name
+
+-- What is owed depends on the inputs of the words alone.
+abbrev pub OwedByInputs : Type 0
+OwedByInputs = (words : List (List ℕ)) (held later : Held) (outcome : Outcome) → HoldTheSame words held later → IsOwed words held outcome → IsOwed words later outcome
+
+-- Where `analyse` owes a text that is no longer than a table may be, and a name holds it later, `check` of that name, with the same other words and
+-- where their inputs still hold the same, owes that it is accepted.
+abbrev pub AnalyseThenCheck : Type 0
+AnalyseThenCheck =
+    (words check_words : List (List ℕ)) (held later : Held) (request : AnalyseRequest) (table bytes : List ℕ) (found : Outcome)
+    → asked words ≡ Some (analyse request) → asked check_words ≡ Some (check (record { analysis = request; table = table }))
+    → IsOwed words held (Ok (text bytes)) → HoldTheSame words held later → later table ≡ Some bytes → length bytes ≤ table_cap
+    → IsOwed check_words later found → found ≡ Ok (text accepted_line)
+
+-- The text is of the same table as one that `convert` owes, of the code that the names of a request hold: these very bytes, where the base has no
+-- relations.
+pub record IsConvertedAgain (held : Held) (request : ConvertRequest) (new : List ℕ) (found : Outcome) : Type 0 where
+  pub coded : Coded
+  pub is_coded : CodedOf (Holds held) request.spec request.code (Ok coded)
+  pub rewritten : IsRewritten request.base coded.spec coded.image new found
+
+-- Where `convert` owes a text that is no longer than a table may be, and a name holds it later, `convert` of that name, with the same other words and
+-- where the specification and the code are still the same, owes such a text.
+abbrev pub ConvertTwice : Type 0
+ConvertTwice =
+    (words again_words : List (List ℕ)) (held later : Held) (request : ConvertRequest) (table new : List ℕ) (found : Outcome)
+    → asked words ≡ Some (convert request) → asked again_words ≡ Some (convert (record { spec = request.spec; code = request.code; base = request.base; table = table }))
+    → IsOwed words held (Ok (text new)) → HoldTheSame words held later → later table ≡ Some new → length new ≤ table_cap
+    → IsOwed again_words later found → IsConvertedAgain later request new found

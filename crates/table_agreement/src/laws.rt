@@ -1,0 +1,38 @@
+//! How the commands on tables agree. These functions do nothing: their contracts are laws.
+
+ghost use Rattle.table_agreement.specs.Laws.{AnalyseThenCheck, AnalysesAreAccepted, AnalysesAreTold, AnalysesTellOne, ConversionsStay, ConvertTwice, OwedByInputs};
+
+/// The text of the table of an analysis is read back as that table.
+pub fn analyses_are_told()
+    ensures { AnalysesAreTold }
+{}
+
+/// Two texts that the analysis of a problem comes to tell one table, up to how its elements are written.
+pub fn analyses_tell_one()
+    ensures { AnalysesTellOne }
+{}
+
+/// A check accepts what an analysis prints.
+pub fn analyses_are_accepted()
+    ensures { AnalysesAreAccepted }
+{}
+
+/// A text that was written anew stays as it is, up to how elements are written.
+pub fn conversions_stay()
+    ensures { ConversionsStay }
+{}
+
+/// What is owed depends on the inputs of the words alone.
+pub fn owed_by_inputs()
+    ensures { OwedByInputs }
+{}
+
+/// Where `analyse` owes a text, `check` of that text with the same other words owes that it is accepted.
+pub fn analyse_then_check()
+    ensures { AnalyseThenCheck }
+{}
+
+/// Where `convert` owes a text, `convert` of that text with the same other words owes a text of the same table.
+pub fn convert_twice()
+    ensures { ConvertTwice }
+{}

@@ -1,0 +1,5 @@
+pub mod Chains
+pub mod Giving
+pub mod Images
+pub mod Problems
+pub mod Single

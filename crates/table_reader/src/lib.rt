@@ -1,0 +1,25 @@
+//! Tables of an analysis, read from their text.
+//!
+//! What `table_text` writes is read here: in format 2, and in format 1, which has one line of code and no order of bytes. A text is that
+//! of a table of an image, over a base, or it is refused at its first line that no table of these has there:
+//!
+//! | fault | the line |
+//! |---|---|
+//! | X1 | has another form, or ends without LF; it names an address that is no code word's, a cell out of order, or a row that adds nothing |
+//! | X2 | is line 2, and names another base |
+//! | X3 | tells of another order of bytes, or of other code |
+//!
+//! What is read of a text, specs/Tables says: the head line by line (specs/Heads), then the blocks (specs/Blocks), each with its address
+//! (specs/Starts), the element that its domain reads, and what stands behind that (specs/Ends). A line is taken where it stands; the
+//! first line that is not taken is faulty. So a field of states may be called `use`, `next` or `at`.
+#![tactic(auto)]
+
+mod addresses;
+mod block;
+mod head;
+mod lines;
+mod setting;
+mod table;
+mod uses;
+
+pub use table::read_table;

@@ -1,0 +1,6 @@
+pub mod Errors
+pub mod Fits
+pub mod One
+pub mod Shorter
+pub mod Some
+pub mod Views

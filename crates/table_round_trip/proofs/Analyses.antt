@@ -1,0 +1,77 @@
+-- What is written of analyses is read, and accepted.
+use Rattle.std.proofs.Common.{◌≡◌, ◌∙◌, ℕ, Bool, List, Option, Some, None, is_some, sym, ap, subst}
+use Rattle.base_trait.specs.Algebra.{Algebra}
+use Rattle.base_trait.specs.Laws.{Laws}
+use Rattle.tsl_values.specs.States.{State}
+use Rattle.value_laws.specs.Abs.{Abs}
+use Rattle.reinterpretation.specs.Answers.{Answer}
+use Rattle.fixed_point.specs.Analysis.{Analysis}
+use Rattle.fixed_point.specs.Code.{is_code}
+use Rattle.fixed_point.specs.Elements.{Elements}
+use Rattle.fixed_point.specs.Table.{AreSameBlocks, AreSameTables, Listing, Listings, TableFits}
+use Rattle.fixed_point.proofs.Tables.{full_traces_close, tables_fit_the_image}
+use Rattle.fixed_point.proofs.Verdicts.{accepted_are_closed}
+use Rattle.domain_laws.specs.Domain.{Meaning}
+use Rattle.transfer_laws.specs.Analysis.{analysis_of}
+use Rattle.transfer_laws.specs.Problem.{Problem}
+use Rattle.transfer_laws.proofs.Keeping.{transfers_keep_the_laws}
+use Rattle.same_tables.proofs.Verdicts.{same_tables_same_verdict}
+use Rattle.printable_tables.specs.Domains.{ElementsKeep}
+use Rattle.printable_tables.specs.Laws.{has_word}
+use Rattle.printable_tables.specs.Notes.{NotesKeep}
+use Rattle.printable_tables.specs.Tables.{IsPrintableTable}
+use Rattle.printable_tables.proofs.Tables.{tables_are_printable}
+use Rattle.element_text.specs.Parts.{ElementText}
+use Rattle.element_readers.specs.Reading.{ElementReading}
+use Rattle.table_reader.specs.Ends.{is_word_of}
+use Rattle.table_readings.specs.Readings.{AreAlike, AreAlikeAt}
+use Rattle.table_readings.proofs.Errors.{read_tables_fit, tables_are_alike}
+use Rattle.table_round_trip.specs.Analyses.{TextsOfTracesAreAccepted, TracesAreWritable}
+use Rattle.table_round_trip.proofs.Addresses.{words_are_code}
+use Rattle.table_round_trip.proofs.Fitting.{fitting_tables_are_of_code}
+use Rattle.table_round_trip.proofs.Tables.{texts_are_read}
+
+module _ {E W N C : Type 0} (B : Algebra W N C) (laws : Laws W N C B) (cap : ℕ) (D : Elements E State) (M : Meaning E W N C) (F : (ℕ → Bool) → N → Type 0) (K : (ℕ → Bool) → E → Type 0)
+    (notes : (code : ℕ → Bool) → NotesKeep B.notes code (F code)) (elements : (code : ℕ → Bool) → ElementsKeep D M (F code) (K code)) where
+  pub traces_are_writable : TracesAreWritable B cap D M K
+  traces_are_writable p calls image trace t h is of_image fits table =
+      let A = analysis_of B cap D M p calls in
+      let own = tables_fit_the_image A (transfers_keep_the_laws B laws cap D M p calls h) trace t fits table in
+      let of_code = fitting_tables_are_of_code A image is of_image.addresses_are t fits own in
+      let tells : (ℕ → Option ℕ) → ℕ → Bool = λ word_at a. is_some (word_at a) in
+      let same : has_word p ≡ is_word_of image = ap tells of_image.words_are in
+      record {
+        fits = of_code.0;
+        printable = subst (λ code. IsPrintableTable p.spec (K code) t) same (tables_are_printable B laws cap D M F K notes elements p calls trace t h fits table);
+        of_code = of_code.1;
+      }
+
+  module _ (p : Problem) (calls : ℕ → ℕ → List (Abs W N) → Answer (Abs W N)) where
+    abbrev A : Analysis E W State
+    A = analysis_of B cap D M p calls
+
+    -- tables that are alike are the same to the analysis
+    same_at : (x y : Option (Listing E)) → AreAlikeAt D x y → AreSameBlocks A x y
+    same_at None None h = tt
+    same_at (Some b) (Some c) h = record { elem = h.elem; next = h.next; exits = h.exits; uses = h.uses }
+    same_at None (Some c) h = absurd h
+    same_at (Some b) None h = absurd h
+
+    same_tables : (t u : Listings E) → AreAlike D t u → AreSameTables A t u
+    same_tables t u h at = same_at (t at) (u at) (h at)
+
+  pub texts_of_traces_are_accepted : (Reads : ElementReading E) (IsText : ElementText E) → TextsOfTracesAreAccepted B cap D M K Reads IsText
+  texts_of_traces_are_accepted Reads IsText p calls image base trace t text h parts of_image inside legal full fits table is_text =
+      let keeps = transfers_keep_the_laws B laws cap D M p calls h in
+      let writable = traces_are_writable p calls image trace t h parts.is_image of_image fits table in
+      let read = texts_are_read Reads IsText D K p.spec image base parts inside text t writable is_text in
+      let closed = full_traces_close (A p calls) keeps trace t legal full fits table in
+      let accepted = (accepted_are_closed (A p calls) keeps t fits).1 closed in (
+        read,
+        λ u other.
+            let fits_read : TableFits (A p calls) u = λ at b e.
+            let fit = read_tables_fit Reads D p.spec parts.laws base image text u other at b e in
+            (ap (λ code. is_code code at) of_image.addresses_are ∙ words_are_code image parts.is_image at ∙ fit.0, fit.1) in
+            let alike = tables_are_alike Reads D p.spec parts.laws base image text t u read other in
+            sym (same_tables_same_verdict (A p calls) keeps t u fits fits_read (same_tables p calls t u alike)) ∙ accepted,
+      )

@@ -1,0 +1,16 @@
+pub mod Added
+pub mod Addresses
+pub mod Analyses
+pub mod BlocksBack
+pub mod BlocksTold
+pub mod EndLines
+pub mod Ends
+pub mod Fitting
+pub mod HeadsBack
+pub mod HeadsTold
+pub mod Machines
+pub mod Parts
+pub mod Tables
+pub mod UseFields
+pub mod UseKeys
+pub mod UseLines

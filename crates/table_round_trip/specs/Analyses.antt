@@ -1,0 +1,49 @@
+-- What is written of analyses is read, and accepted.
+use Rattle.std.specs.Prelude.{◌≡◌, ℕ, Bool, List, IsTrue}
+use Rattle.std.specs.List.{list_all}
+use Rattle.base_trait.specs.Algebra.{Algebra}
+use Rattle.tsl_values.specs.States.{State}
+use Rattle.value_laws.specs.Abs.{Abs}
+use Rattle.reinterpretation.specs.Answers.{Answer}
+use Rattle.insn_decode.specs.Faults.{IsImage}
+use Rattle.insn_decode.specs.Image.{Image, addresses, code_at}
+use Rattle.fixed_point.specs.Elements.{Elements}
+use Rattle.fixed_point.specs.Play.{IsFull, IsLegal, play}
+use Rattle.fixed_point.specs.Table.{IsTableOf, Listings, TableFits}
+use Rattle.fixed_point.specs.Verdicts.{verdict_of}
+use Rattle.fixed_point.specs.declared.verdict.Verdict.TheVariants.{Accepted}
+use Rattle.domain_laws.specs.Domain.{Meaning}
+use Rattle.transfer_laws.specs.Analysis.{analysis_of}
+use Rattle.transfer_laws.specs.Laws.{IsAnalysed}
+use Rattle.transfer_laws.specs.Problem.{Problem}
+use Rattle.text_lines.specs.Lines.{is_inside}
+use Rattle.element_text.specs.Parts.{ElementText}
+use Rattle.element_readers.specs.Reading.{ElementReading}
+use Rattle.table_reader.specs.Ends.{is_word_of}
+use Rattle.table_reader.specs.Tables.{IsTableIn}
+use Rattle.table_round_trip.specs.FirstTexts.{IsTextOf}
+use Rattle.table_round_trip.specs.Laws.{HasParts}
+use Rattle.table_round_trip.specs.Writable.{IsWritable}
+
+-- The words of the problem are those of the image.
+pub record IsOfImage (p : Problem) (image : Image) : Type 0 where
+  pub addresses_are : p.addresses ≡ addresses image.segments
+  pub words_are : p.word_at ≡ code_at image
+
+module _ {E W N C : Type 0} (B : Algebra W N C) (cap : ℕ) (D : Elements E State) (M : Meaning E W N C) (IsPrintable : (ℕ → Bool) → E → Type 0) where
+  -- The table of a trace is one that its texts tell.
+  abbrev pub TracesAreWritable : Type 0
+  TracesAreWritable =
+      (p : Problem) (calls : ℕ → ℕ → List (Abs W N) → Answer (Abs W N)) (image : Image) (trace : List ℕ) (t : Listings E) → IsAnalysed B cap D M p calls → IsImage image → IsOfImage p image
+      → TableFits (analysis_of B cap D M p calls) t → IsTableOf (analysis_of B cap D M p calls) t (play (analysis_of B cap D M p calls) trace)
+      → IsWritable D IsPrintable p.spec (is_word_of image) t
+
+  module _ (Reads : ElementReading E) (IsText : ElementText E) where
+    -- Of the table of a full legal trace each text is read as that table, and as no table that is not accepted.
+    abbrev pub TextsOfTracesAreAccepted : Type 0
+    TextsOfTracesAreAccepted =
+        (p : Problem) (calls : ℕ → ℕ → List (Abs W N) → Answer (Abs W N)) (image : Image) (base : List ℕ) (trace : List ℕ) (t : Listings E) (text : List ℕ) → IsAnalysed B cap D M p calls
+        → HasParts Reads IsText D IsPrintable p.spec image → IsOfImage p image → IsTrue (list_all is_inside base)
+        → IsLegal (analysis_of B cap D M p calls) trace → IsFull (play (analysis_of B cap D M p calls) trace)
+        → TableFits (analysis_of B cap D M p calls) t → IsTableOf (analysis_of B cap D M p calls) t (play (analysis_of B cap D M p calls) trace) → IsTextOf (IsText p.spec) p.spec image base t text
+        → IsTableIn Reads p.spec base image text t × ((u : Listings E) → IsTableIn Reads p.spec base image text u → verdict_of (analysis_of B cap D M p calls) u ≡ Accepted)

@@ -1,0 +1,59 @@
+-- What holds of the texts of tables.
+use Rattle.std.specs.Prelude.{◌≡◌, ℕ, Bool, List, IsTrue}
+use Rattle.std.specs.List.{list_all}
+use Rattle.spec_types.specs.Specification.{Spec}
+use Rattle.insn_decode.specs.Faults.{IsImage}
+use Rattle.insn_decode.specs.Image.{Image, addresses}
+use Rattle.fixed_point.specs.Analysis.{Analysis}
+use Rattle.fixed_point.specs.Elements.{Elements}
+use Rattle.fixed_point.specs.Table.{FitsImage, Listings, TableFits}
+use Rattle.text_lines.specs.Lines.{is_inside}
+use Rattle.element_text.specs.Parts.{ElementText}
+use Rattle.element_readers.specs.Laws.{ReadingLaws}
+use Rattle.element_readers.specs.Reading.{ElementReading}
+use Rattle.element_round_trip.specs.RoundTrips.{RoundTrips}
+use Rattle.table_reader.specs.Blocks.{BlocksFit}
+use Rattle.table_reader.specs.Ends.{is_word_of}
+use Rattle.table_reader.specs.Tables.{IsTableIn}
+use Rattle.table_readings.specs.Readings.{AreAlike}
+use Rattle.table_round_trip.specs.Fields.{HasUseTexts}
+use Rattle.table_round_trip.specs.FirstTexts.{IsTextOf}
+use Rattle.table_round_trip.specs.Writable.{AreBlocksOfCode, IsWritable}
+
+-- Of the tables of a specification and an image, where the round trip of elements holds.
+module _ {E S : Type 0} (Reads : ElementReading E) (IsText : ElementText E) (D : Elements E S) (IsPrintable : (ℕ → Bool) → E → Type 0) where
+  -- What the laws rely on: the round trip of elements, what holds of what is read, and that fields tell uses.
+  pub record HasParts (spec : Spec) (image : Image) : Type 0 where
+    pub elements : RoundTrips Reads IsText D IsPrintable spec
+    pub laws : ReadingLaws Reads D spec
+    pub fields : HasUseTexts spec
+    pub is_image : IsImage image
+
+  -- A text that is read is one of the table that is read, byte for byte.
+  abbrev pub TextsAreTold : Type 0
+  TextsAreTold = (spec : Spec) (image : Image) (base : List ℕ) → HasParts spec image → (bytes : List ℕ) (t : Listings E) → IsTableIn Reads spec base image bytes t → IsTextOf (IsText spec) spec image base t bytes
+
+  -- A table that is read is one that its texts tell.
+  abbrev pub TablesReadAreWritable : Type 0
+  TablesReadAreWritable = (spec : Spec) (image : Image) (base : List ℕ) → HasParts spec image → (bytes : List ℕ) (t : Listings E) → IsTableIn Reads spec base image bytes t → IsWritable D IsPrintable spec (is_word_of image) t
+
+  -- A text of such a table is read as that table, where the name of the base has no LF.
+  abbrev pub TextsAreRead : Type 0
+  TextsAreRead = (spec : Spec) (image : Image) (base : List ℕ) → HasParts spec image → IsTrue (list_all is_inside base)
+      → (text : List ℕ) (t : Listings E) → IsWritable D IsPrintable spec (is_word_of image) t → IsTextOf (IsText spec) spec image base t text → IsTableIn Reads spec base image text t
+
+  -- Tables with one text are alike.
+  abbrev pub TextsTellTables : Type 0
+  TextsTellTables = (spec : Spec) (image : Image) (base : List ℕ) → HasParts spec image → IsTrue (list_all is_inside base)
+      → (text : List ℕ) (t u : Listings E) → IsWritable D IsPrintable spec (is_word_of image) t → IsWritable D IsPrintable spec (is_word_of image) u → IsTextOf (IsText spec) spec image base t text → IsTextOf (IsText spec) spec image base u text → AreAlike D t u
+
+  -- What is written of a table that was read is read as that table.
+  abbrev pub ConvertedTextsAreRead : Type 0
+  ConvertedTextsAreRead = (spec : Spec) (image : Image) (base : List ℕ) → HasParts spec image → IsTrue (list_all is_inside base)
+      → (bytes new : List ℕ) (t : Listings E) → IsTableIn Reads spec base image bytes t → IsTextOf (IsText spec) spec image base t new → IsTableIn Reads spec base image new t
+
+-- The blocks of a table of an analysis of an image that fits, and fits the image, are those of its code, and their elements fit. Where it is
+-- printable, its texts tell it.
+abbrev pub FittingTablesAreOfCode : {E W S : Type 0} → Analysis E W S → Type 0
+FittingTablesAreOfCode {E} A = (image : Image) → IsImage image → A.code ≡ addresses image.segments → (t : Listings E) → TableFits A t → FitsImage A t
+    → BlocksFit (is_word_of image) A.elements.fits t × AreBlocksOfCode (is_word_of image) t

@@ -1,0 +1,6 @@
+pub mod Analyses
+pub mod Fields
+pub mod FirstTexts
+pub mod Laws
+pub mod Machines
+pub mod Writable

@@ -1,0 +1,27 @@
+-- Tables that their texts tell.
+use Rattle.std.specs.Prelude.{◌≡◌, ℕ, Bool, Some, IsTrue}
+use Rattle.base_trait.specs.Lists.{Each, IsAscending}
+use Rattle.base_text.specs.Readings.{StampFits}
+use Rattle.spec_types.specs.Specification.{Spec}
+use Rattle.fixed_point.specs.Elements.{Elements}
+use Rattle.fixed_point.specs.Table.{Listing, Listings}
+use Rattle.printable_tables.specs.Tables.{IsPrintableTable}
+use Rattle.table_reader.specs.Blocks.{BlocksFit}
+
+-- A block of some code: next addresses are those of code words, and ascend; so do exits; and the stamps of uses are the entry's, or
+-- addresses of code words.
+pub record IsBlockOfCode {E : Type 0} (code : ℕ → Bool) (b : Listing E) : Type 0 where
+  pub next : IsAscending b.next × Each (λ to. IsTrue (code to)) b.next
+  pub exits : IsAscending b.exits
+  pub stamps : Each (λ u. Each (StampFits code) u.stamps) b.uses
+
+-- each block of a table is
+abbrev pub AreBlocksOfCode : {E : Type 0} → (ℕ → Bool) → Listings E → Type 0
+AreBlocksOfCode {E} code t = (at : ℕ) (b : Listing E) → t at ≡ Some b → IsBlockOfCode code b
+
+-- A table that its texts tell, where `code` tells the addresses of code words, and `IsPrintable` the elements that texts tell: blocks are of
+-- the code, at addresses of code words, elements fit, and the table is printable.
+pub record IsWritable {E S : Type 0} (D : Elements E S) (IsPrintable : (ℕ → Bool) → E → Type 0) (spec : Spec) (code : ℕ → Bool) (t : Listings E) : Type 0 where
+  pub fits : BlocksFit code D.fits t
+  pub printable : IsPrintableTable spec (IsPrintable code) t
+  pub of_code : AreBlocksOfCode code t

@@ -1,0 +1,75 @@
+//! What holds of the texts of tables. Nothing runs.
+
+ghost use Rattle.std.specs.Prelude.{ℕ, Bool};
+ghost use Rattle.tsl_values.specs.States.{State};
+ghost use Rattle.fixed_point.specs.Elements.{Elements};
+ghost use Rattle.element_text.specs.Parts.{ElementText};
+ghost use Rattle.element_readers.specs.Reading.{ElementReading};
+ghost use Rattle.table_round_trip.specs.Analyses.{TextsOfTracesAreAccepted, TracesAreWritable};
+ghost use Rattle.table_round_trip.specs.Laws.{ConvertedTextsAreRead, FittingTablesAreOfCode, TablesReadAreWritable, TextsAreRead, TextsAreTold, TextsTellTables};
+ghost use Rattle.table_round_trip.specs.Machines.{MachinesHaveUseTexts};
+
+use crate::domain::WrittenDomain;
+use fixed_point::Analyser;
+
+/// The definitions of elements that are written and read.
+pub trait PlainTexts {
+    /// What elements are as plain data.
+    ghost Plain: { Type 0 };
+
+    /// What is read of lines.
+    ghost Reads: { ElementReading Plain };
+
+    /// What is written of elements.
+    ghost IsText: { ElementText Plain };
+
+    ghost elements: { Elements Plain State };
+
+    /// Which elements texts tell, where a test tells the addresses of code words.
+    ghost IsPrintable: { (ℕ → Bool) → Plain → Type 0 };
+}
+
+/// A text that is read is one of the table that is read.
+pub fn texts_are_told<T: PlainTexts>()
+    ensures { TextsAreTold T.Reads T.IsText T.elements T.IsPrintable }
+{}
+
+/// A table that is read is one that its texts tell.
+pub fn tables_read_are_writable<T: PlainTexts>()
+    ensures { TablesReadAreWritable T.Reads T.IsText T.elements T.IsPrintable }
+{}
+
+/// A text of such a table is read as that table.
+pub fn texts_are_read<T: PlainTexts>()
+    ensures { TextsAreRead T.Reads T.IsText T.elements T.IsPrintable }
+{}
+
+/// Tables with one text are alike.
+pub fn texts_tell_tables<T: PlainTexts>()
+    ensures { TextsTellTables T.Reads T.IsText T.elements T.IsPrintable }
+{}
+
+/// What is written of a table that was read is read as that table.
+pub fn converted_texts_are_read<T: PlainTexts>()
+    ensures { ConvertedTextsAreRead T.Reads T.IsText T.elements T.IsPrintable }
+{}
+
+/// The blocks of a table of an analysis that fits, and fits the image, are those of its code.
+pub fn fitting_tables_are_of_code<A: Analyser>(analyser: &A)
+    ensures { FittingTablesAreOfCode (A.analysis analyser.now) }
+{}
+
+/// The fields of a machine that was checked tell uses.
+pub fn machines_have_use_texts()
+    ensures { MachinesHaveUseTexts }
+{}
+
+/// The table of a trace is one that its texts tell.
+pub fn traces_are_writable<D: WrittenDomain>(domain: &D)
+    ensures { TracesAreWritable D.B.algebra D.B.CAP (D.elements domain.now) (D.meaning domain.now) D.ElementFits }
+{}
+
+/// A text of the table of a full legal trace is read as that table, and accepted.
+pub fn texts_of_traces_are_accepted<D: WrittenDomain>(domain: &D)
+    ensures { TextsOfTracesAreAccepted D.B.algebra D.B.CAP (D.elements domain.now) (D.meaning domain.now) D.ElementFits D.Reads D.IsText }
+{}

@@ -1,0 +1,4 @@
+pub mod Instance
+pub mod Seen
+pub mod Tables
+pub mod Words
