@@ -32,7 +32,7 @@ use Rattle.table_text.specs.Tables.{IsTableText}
 use Rattle.table_round_trip.specs.Laws.{HasParts}
 use Rattle.table_round_trip.specs.Writable.{IsWritable}
 use Rattle.table_round_trip.proofs.Fitting.{fitting_tables_are_of_code}
-use Rattle.table_round_trip.proofs.Tables.{converted_texts_are_read, texts_are_read}
+use Rattle.table_round_trip.proofs.Tables.{converted_texts_are_read, tables_read_are_writable, texts_are_read, texts_are_told}
 use Rattle.run_steps.specs.Outcome.{Outcome, table_refused, text}
 use Rattle.analysis_domains.specs.Analyses.{IsTable, analysis}
 use Rattle.analysis_domains.specs.Checks.{Judges, accepted_line, judged, outcome_of}
@@ -45,7 +45,7 @@ use Rattle.analysis_domains.proofs.Lawful.{IsExact, IsLawful}
 use Rattle.analysis_domains.proofs.Readings.{checks_are_one}
 use Rattle.analysis_domains.proofs.Ready.{is_analysed, keeps_the_laws}
 use Rattle.analysis_domains.proofs.Texts.{one_text, same_are_alike}
-use Rattle.table_agreement.specs.Laws.{AnalysesAreAccepted, AnalysesAreTold, AnalysesTellOne, ConversionsStay, IsCodeFor, IsCodeOf, IsRewritten, TellOne}
+use Rattle.table_agreement.specs.Laws.{AnalysesAreAccepted, AnalysesAreTold, AnalysesTellOne, ConversionsStay, IsCodeFor, IsCodeOf, IsRewritten, TablesAreTold, TellOne, TextsAreReadBack}
 use Rattle.table_agreement.specs.Printable.{Asks, IsPrintableIn}
 use Rattle.table_agreement.proofs.Bases.{all_told, names_inside}
 use Rattle.table_agreement.proofs.Told.{IsTold}
@@ -129,6 +129,26 @@ module _ {E W N C : Type 0} (domain : DomainOf E W N C) (notes_are : Asks N) (el
       (tables_are_one A laws k.trace h.table k.table h.fits k.fits (subst (λ trace. IsTableOf A h.table (play A trace)) same h.is_table) k.is_table)
 
 -- ---- over each base
+
+pub tables_are_told : TablesAreTold
+tables_are_told image spec base bytes t code h =
+    let has = code.fields.states in
+    let told = all_told spec has code.fields.fields base in
+    let domain = (domain_of (state_type spec) base).domain in
+    let elements_are = IsPrintableIn (state_type spec) base in
+    let all = parts domain told.0 elements_are spec (known_is_lawful base domain spec (all_known spec has base)) told.1 image code (base_text base) (names_inside base) in (
+      texts_are_told domain.Reads domain.IsText domain.elements elements_are spec image (base_text base) all bytes t h,
+      tables_read_are_writable domain.Reads domain.IsText domain.elements elements_are spec image (base_text base) all bytes t h,
+    )
+
+pub texts_are_read_back : TextsAreReadBack
+texts_are_read_back image spec base bytes t code writable written =
+    let has = code.fields.states in
+    let told = all_told spec has code.fields.fields base in
+    let domain = (domain_of (state_type spec) base).domain in
+    let elements_are = IsPrintableIn (state_type spec) base in
+    let all = parts domain told.0 elements_are spec (known_is_lawful base domain spec (all_known spec has base)) told.1 image code (base_text base) (names_inside base) in
+    texts_are_read domain.Reads domain.IsText domain.elements elements_are spec image (base_text base) all (names_inside base) bytes t writable written
 
 pub analyses_are_told : AnalysesAreTold
 analyses_are_told image p base bytes posed of h =

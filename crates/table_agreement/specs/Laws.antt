@@ -12,9 +12,12 @@ use Rattle.fixed_point.specs.Table.{Listings}
 use Rattle.transfer_laws.specs.Problem.{IsWellPosed, Problem}
 use Rattle.printable_tables.specs.Laws.{has_word}
 use Rattle.printable_tables.specs.Tables.{IsPrintableTable}
+use Rattle.table_reader.specs.Ends.{is_word_of}
 use Rattle.table_reader.specs.Tables.{IsTableIn}
 use Rattle.table_readings.specs.Readings.{AreAlike}
 use Rattle.table_round_trip.specs.Fields.{HasUseTexts}
+use Rattle.table_round_trip.specs.FirstTexts.{IsTextOf}
+use Rattle.table_round_trip.specs.Writable.{IsWritable}
 use Rattle.run_steps.specs.Outcome.{Outcome, text}
 use Rattle.run_steps.specs.Reading.{Held, Holds}
 use Rattle.table_inputs.specs.Inputs.{Coded, CodedOf, table_cap}
@@ -50,7 +53,27 @@ pub record TellOne (base : BaseName) (spec : Spec) (image : Image) (bytes other 
   pub second_is : Tells base spec image other second
   pub alike : AreAlike (domain_of (state_type spec) base).domain.elements first second
 
+-- A text of the table, in format 2 or in format 1, over a base.
+abbrev pub IsTextIn : (base : BaseName) (spec : Spec) → Image → List ℕ → Listings (domain_of (state_type spec) base).Elem → Type 0
+IsTextIn base spec image bytes t = IsTextOf ((domain_of (state_type spec) base).domain.IsText spec) spec image (base_text base) t bytes
+
+-- A table that its texts tell: it is of the code, its elements fit, and it is printable.
+abbrev pub IsWritableIn : (base : BaseName) (spec : Spec) → Image → Listings (domain_of (state_type spec) base).Elem → Type 0
+IsWritableIn base spec image = IsWritable (domain_of (state_type spec) base).domain.elements (IsPrintableIn (state_type spec) base) spec (is_word_of image)
+
 -- ---- laws
+
+-- A text that is read as a table is a text of it, byte for byte, and the table is one that its texts tell.
+abbrev pub TablesAreTold : Type 0
+TablesAreTold =
+    (image : Image) (spec : Spec) (base : BaseName) (bytes : List ℕ) (t : Listings (domain_of (state_type spec) base).Elem) → IsCodeFor spec image
+    → Tells base spec image bytes t → IsTextIn base spec image bytes t × IsWritableIn base spec image t
+
+-- Each text of such a table is read as it.
+abbrev pub TextsAreReadBack : Type 0
+TextsAreReadBack =
+    (image : Image) (spec : Spec) (base : BaseName) (bytes : List ℕ) (t : Listings (domain_of (state_type spec) base).Elem) → IsCodeFor spec image
+    → IsWritableIn base spec image t → IsTextIn base spec image bytes t → Tells base spec image bytes t
 
 -- The text of the table of an analysis tells that table: it is read as this table (and as no other, up to how elements are written). The table is
 -- printable.

@@ -1,6 +1,16 @@
 //! How the commands on tables agree. These functions do nothing: their contracts are laws.
 
-ghost use Rattle.table_agreement.specs.Laws.{AnalyseThenCheck, AnalysesAreAccepted, AnalysesAreTold, AnalysesTellOne, ConversionsStay, ConvertTwice, OwedByInputs};
+ghost use Rattle.table_agreement.specs.Laws.{AnalyseThenCheck, AnalysesAreAccepted, AnalysesAreTold, AnalysesTellOne, ConversionsStay, ConvertTwice, OwedByInputs, TablesAreTold, TextsAreReadBack};
+
+/// A text that is read as a table is a text of it.
+pub fn tables_are_told()
+    ensures { TablesAreTold }
+{}
+
+/// Each text of a table that its texts tell is read as it.
+pub fn texts_are_read_back()
+    ensures { TextsAreReadBack }
+{}
 
 /// The text of the table of an analysis is read back as that table.
 pub fn analyses_are_told()
