@@ -11,7 +11,8 @@ use Rattle.cell_laws.specs.Calls.{fields_of, made_state}
 use Rattle.affine_base.specs.declared.word.Word.{Word}
 use Rattle.affine_base.specs.declared.word.Word.TheVariants.{Const}
 use Rattle.affine_laws.specs.Closed.{closed_of}
-use Rattle.affine_laws.specs.Elements.{rank_of, submodules}
+use Rattle.affine_laws.specs.Elements.{submodules}
+use Rattle.affine_laws.specs.Ranks.{rank_of}
 use Rattle.affine_laws.specs.Entry.{entry_of}
 use Rattle.affine_laws.specs.Tracked.{world_of}
 use Rattle.affine_calls.specs.Closed.{closed_words}

@@ -7,7 +7,9 @@ use Rattle.affine_rows.specs.Submodule.{IsMember}
 use Rattle.affine_rows.proofs.Closure.{append_joins}
 use Rattle.affine_rows.proofs.Images.{take_snoc}
 use Rattle.affine_rows.proofs.OneRank.{has_one_rank}
-use Rattle.affine_laws.specs.Elements.{SameMembers, rank_of}
+use Rattle.affine_laws.specs.Elements.{SameMembers}
+use Rattle.affine_laws.specs.Ranks.{rank_of}
+use Rattle.affine_laws.proofs.Ranks.{is_rank}
 use Rattle.affine_laws.specs.Membership.{are_members, is_member}
 use Rattle.affine_laws.proofs.Membership.{members_are_told}
 
@@ -57,7 +59,7 @@ module _ (k : ℕ) where
 
   -- the rank of the rows is the one that they have
   pub rank_is : (rows : List (List ℕ)) (n : ℕ) → IsRank k rows n → n ≡ rank_of k rows
-  rank_is rows n h = (has_one_rank k rows).2 n h
+  rank_is rows n h = let one = has_one_rank k rows in one.2 n h ∙ sym (one.2 (rank_of k rows) (is_rank k rows))
 
 pub take_whole : (i : ℕ) (xs : List (List ℕ)) → length xs ≤ i → take i xs ≡ xs
 take_whole zero [] le = refl

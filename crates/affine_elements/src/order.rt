@@ -1,7 +1,7 @@
 //! Which element is at least another.
 
 ghost use Rattle.std.specs.Prelude.{◌≡◌};
-ghost use Rattle.affine_laws.specs.Elements.{rank_of};
+ghost use Rattle.affine_laws.specs.Ranks.{rank_of};
 ghost use Rattle.affine_laws.specs.Membership.{are_members};
 
 use affine_rows::Rows;

@@ -3,15 +3,16 @@ use Rattle.std.proofs.Common.{◌≡◌, ℕ, ◌<◌, Bool, true, false, IsTrue
 use Rattle.affine_rows.specs.Laws.{IsWithin}
 use Rattle.affine_rows.specs.Submodule.{IsMember, Submodule}
 use Rattle.affine_rows.proofs.Closure.{append_joins}
-use Rattle.affine_rows.proofs.OneRank.{has_one_rank}
 use Rattle.affine_rows.proofs.Ranks.{rank_falls, rank_is_bounded}
-use Rattle.affine_laws.specs.Elements.{SameMembers, rank_of}
+use Rattle.affine_laws.specs.Elements.{SameMembers}
+use Rattle.affine_laws.specs.Ranks.{rank_of}
+use Rattle.affine_laws.proofs.Ranks.{is_rank}
 use Rattle.affine_laws.specs.Laws.{HasRank, JoinIsLeast, SubmodulesHold, SubmodulesKeepTheLaws}
 use Rattle.affine_laws.specs.Membership.{are_members}
 use Rattle.affine_laws.proofs.Membership.{absorbs_within, some_outside}
 
 pub has_rank : HasRank
-has_rank k rows = (has_one_rank k rows).1
+has_rank k rows = is_rank k rows
 
 module _ (k : ℕ) where
   itself : (rows : List (List ℕ)) → IsWithin k rows rows

@@ -2,17 +2,13 @@
 -- cells.
 use Rattle.std.specs.Prelude.{ℕ, ◌+◌, ◌*◌, List, [], ◌∷◌, ◌++◌, ◌≡◌, ◌↔◌}
 use Rattle.affine_rows.specs.Submodule.{IsMember, Submodule}
-use Rattle.affine_rows.proofs.OneRank.{has_one_rank}
 use Rattle.fixed_point.specs.Elements.{Elements}
 use Rattle.affine_laws.specs.Membership.{are_members}
+use Rattle.affine_laws.specs.Ranks.{rank_of}
 
 -- both lists of rows generate the same members
 abbrev pub SameMembers : ℕ → List (List ℕ) → List (List ℕ) → Type 0
 SameMembers k rows others = (x : List ℕ) → IsMember k rows x ↔ IsMember k others x
-
--- the one rank that the rows have
-abbrev pub rank_of : ℕ → List (List ℕ) → ℕ
-rank_of k rows = (has_one_rank k rows).0
 
 -- the submodule of the rows of both
 abbrev pub joined : ℕ → Submodule → Submodule → Submodule

@@ -13,7 +13,8 @@ use Rattle.tsl_values.specs.declared.entry.KeyAt.{KeyAt}
 use Rattle.tsl_values.specs.States.{State}
 use Rattle.fixed_point.specs.Elements.{BoundsHold, ElementLaws, SameElementsHold}
 use Rattle.affine_laws.specs.Closed.{closed_of}
-use Rattle.affine_laws.specs.Elements.{SameMembers, rank_of, submodules}
+use Rattle.affine_laws.specs.Elements.{SameMembers, submodules}
+use Rattle.affine_laws.specs.Ranks.{rank_of}
 use Rattle.affine_laws.specs.Entry.{entry_of}
 use Rattle.affine_laws.specs.Membership.{are_members, is_member}
 use Rattle.affine_laws.specs.Opened.{opened_cell}

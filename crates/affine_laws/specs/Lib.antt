@@ -4,4 +4,5 @@ pub mod Entry
 pub mod Laws
 pub mod Membership
 pub mod Opened
+pub mod Ranks
 pub mod Tracked

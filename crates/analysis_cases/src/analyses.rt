@@ -153,6 +153,7 @@ pub fn analysed<D: Domain, R: Reporter<D>>(
         image: &subject.image,
         entry: &subject.entry,
         limit,
+        joins: 3,
     };
     begun(alloc, reporter, &it)
 }

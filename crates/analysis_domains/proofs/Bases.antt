@@ -1,5 +1,5 @@
 -- The sixteen bases.
-use Rattle.std.proofs.Common.{◌≡◌, ◌⊎◌, ℕ, true, IsTrue, inl, inr, refl}
+use Rattle.std.proofs.Common.{◌≡◌, ◌⊎◌, ℕ, List, true, IsTrue, inl, inr, refl}
 use Rattle.std.specs.Prelude.{codes, if◌then◌else◌, ◌==◌}
 use Rattle.kset_base.specs.Meaning.{kset}
 use Rattle.kset_base.specs.Instance.{kset_laws}
@@ -22,11 +22,14 @@ use Rattle.base_text.specs.Readings.{bits_readings, defuse_readings, interval_re
 use Rattle.base_text.specs.Texts.{bits_texts, defuse_texts, interval_texts, set_texts}
 use Rattle.run_steps.specs.Outcome.{Outcome}
 use Rattle.analysis_domains.specs.Domains.{DomainOf, definitions, intervals, known_bits, pair_of, relations, sets}
-use Rattle.analysis_domains.specs.Laws.{AnalysesAreOne, AnalysesHaveSome, AreOne}
-use Rattle.analysis_domains.specs.Named.{Analysed, AnyDomain, domain_of, has_relations}
+use Rattle.analysis_domains.specs.Analyses.{IsTable}
+use Rattle.analysis_domains.specs.Laws.{AnalysesAreOne, AnalysesHaveSome, AreOne, AreTextsOfOne, OpenAnalysesAreOne, OpenAnalysesHaveSome, of_open_table, of_table}
+use Rattle.analysis_domains.specs.Named.{Analysed, AnalysedOpen, AnyDomain, domain_of, has_relations}
+use Rattle.analysis_domains.specs.OpenAnalyses.{IsOpenTable}
 use Rattle.analysis_domains.proofs.Lawful.{IsLawful, IsPlain, cells_are_plain, pairs_are_lawful, pairs_are_plain, relations_are_lawful}
 use Rattle.analysis_domains.proofs.Read.{bits_are_read, definitions_are_read, intervals_are_read, sets_are_read}
-use Rattle.analysis_domains.proofs.Outcomes.{has_outcome, outcomes_are_alike, outcomes_are_one}
+use Rattle.analysis_domains.proofs.OpenOutcomes.{has_open_outcome, open_ends_are_alike, open_outcomes_are_alike, open_outcomes_are_one, open_tables_are_alike}
+use Rattle.analysis_domains.proofs.Outcomes.{has_outcome, outcomes_are_alike, outcomes_are_one, tables_are_alike}
 
 -- The domain of a base is plain, or it has relations and is lawful.
 abbrev pub IsKnown : {E W N C : Type 0} → BaseName → DomainOf E W N C → Spec → Type 0
@@ -97,10 +100,25 @@ module _ (image : Image) (p : Problem) (base : BaseName) (posed : IsWellPosed p)
   pub known : IsKnown base any_domain.domain p.spec
   known = all_known p.spec posed_have_states base
 
-  are_one : (found other : Outcome) → IsKnown base any_domain.domain p.spec → Analysed image p base found → Analysed image p base other → AreOne base found other
+  texts_of_one : IsLawful any_domain.domain p.spec → (bytes other : List ℕ) → IsTable any_domain.domain p image (base_text base) bytes → IsTable any_domain.domain p image (base_text base) other
+      → AreTextsOfOne base p.spec image bytes other
+  texts_of_one lawful bytes other h k = of_table h.table k.table (tables_are_alike any_domain.domain p lawful posed image (base_text base) bytes other h k) h.text k.text
+
+  open_texts_of_one : IsLawful any_domain.domain p.spec → (bytes other : List ℕ) → IsOpenTable any_domain.domain p image (base_text base) bytes → IsOpenTable any_domain.domain p image (base_text base) other
+      → AreTextsOfOne base p.spec image bytes other
+  open_texts_of_one lawful bytes other h k =
+      let alike = open_tables_are_alike any_domain.domain p lawful posed image (base_text base) bytes other h k in
+      of_open_table h.table k.table h.ends k.ends alike (open_ends_are_alike any_domain.domain p lawful posed image (base_text base) bytes other h k) h.text k.text
+
+  are_one : (found other : Outcome) → IsKnown base any_domain.domain p.spec → Analysed image p base found → Analysed image p base other → AreOne base p.spec image found other
   are_one found other (inl plain) h k = inl (outcomes_are_one any_domain.domain p plain.lawful posed image (base_text base) plain.exact found other h k)
   are_one found other (inr related) h k =
-      outcomes_are_alike any_domain.domain p image (base_text base) (AreOne base) (λ bytes other h k. inr (related.0, tt)) (λ refusal. inl refl) found other h k
+      outcomes_are_alike any_domain.domain p image (base_text base) (AreOne base p.spec image) (λ bytes other h k. inr (related.0, texts_of_one related.1 bytes other h k)) (λ refusal. inl refl) found other h k
+
+  open_one : (found other : Outcome) → IsKnown base any_domain.domain p.spec → AnalysedOpen image p base found → AnalysedOpen image p base other → AreOne base p.spec image found other
+  open_one found other (inl plain) h k = inl (open_outcomes_are_one any_domain.domain p plain.lawful posed image (base_text base) plain.exact found other h k)
+  open_one found other (inr related) h k =
+      open_outcomes_are_alike any_domain.domain p image (base_text base) (AreOne base p.spec image) (λ bytes other h k. inr (related.0, open_texts_of_one related.1 bytes other h k)) found other h k
 
 pub analyses_are_one : AnalysesAreOne
 analyses_are_one image p base found other posed h k = are_one image p base posed found other (known image p base posed) h k
@@ -109,3 +127,11 @@ pub analyses_have_some : AnalysesHaveSome
 analyses_have_some image p base posed =
     let any = domain_of (state_type p.spec) base in
     has_outcome any.domain p (known_is_lawful base any.domain p.spec (known image p base posed)) posed image (base_text base)
+
+pub open_analyses_are_one : OpenAnalysesAreOne
+open_analyses_are_one image p base found other posed h k = open_one image p base posed found other (known image p base posed) h k
+
+pub open_analyses_have_some : OpenAnalysesHaveSome
+open_analyses_have_some image p base posed =
+    let any = domain_of (state_type p.spec) base in
+    has_open_outcome any.domain p (known_is_lawful base any.domain p.spec (known image p base posed)) posed image (base_text base)

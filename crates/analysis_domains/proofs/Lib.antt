@@ -2,6 +2,9 @@ pub mod Bases
 pub mod Claims
 pub mod Closed
 pub mod Lawful
+pub mod OpenOutcomes
+pub mod OpenTexts
+pub mod OpenTraces
 pub mod Outcomes
 pub mod Plays
 pub mod Read

@@ -9,6 +9,7 @@ use Rattle.fixed_point.proofs.One.{legal_traces_are_one}
 use Rattle.fixed_point.proofs.Potential.{legal_traces_are_short}
 use Rattle.fixed_point.proofs.Tables.{full_traces_close, tables_are_one}
 use Rattle.worklist.specs.Answers.{IsStopOf}
+use Rattle.table_readings.specs.Readings.{AreAlike}
 use Rattle.transfer_laws.specs.Problem.{IsWellPosed, Problem}
 use Rattle.run_steps.specs.Outcome as o
 use Rattle.run_steps.specs.Outcome.{Outcome, Refusal, text}
@@ -24,7 +25,7 @@ module _ {E W N C : Type 0} (domain : DomainOf E W N C) (p : Problem) where
   -- the refusal of a stop at an address
   abbrev refusal_of : ℕ → f.Outcome E W → Refusal
   refusal_of at (f.undecodable word) = o.undecodable_at at word
-  refusal_of at (f.too_many x) = o.too_many_targets at (domain.word_text 32 x)
+  refusal_of at (f.too_many x uses) = o.too_many_targets at (domain.word_text 32 x)
   refusal_of at (f.moves targets post uses) = o.calls_spent
 
   record IsStopAt (refusal : Refusal) : Type 0 where
@@ -47,7 +48,7 @@ module _ {E W N C : Type 0} (domain : DomainOf E W N C) (p : Problem) where
   stop_at (o.table_refused fault) h = absurd h
   stop_at (o.claims_refused fault) h = absurd h
   stop_at (o.rejected rejection) h = absurd h
-  stop_at (o.too_many_targets at shown) h = record { trace = h.0; at = at; given = f.too_many h.1; stop = h.3; is = ap (o.too_many_targets at) h.4 }
+  stop_at (o.too_many_targets at shown) h = record { trace = h.0; at = at; given = f.too_many h.1 h.2; stop = h.4; is = ap (o.too_many_targets at) h.5 }
 
   module _ (image : Image) (base : List ℕ) where
     -- It is a text of the table, or the refusal of a stop.
@@ -90,13 +91,18 @@ module _ {E W N C : Type 0} (domain : DomainOf E W N C) (p : Problem) where
             (subst (Alike (Err x.0)) (sym y.1) (subst (λ r. Alike (Err x.0) (Err r)) (stops_are_one x.0 y.0 x.2 y.2) (refusals x.0)))
 
   module _ (lawful : IsLawful domain p.spec) (posed : IsWellPosed p) (image : Image) (base : List ℕ) where
-    tables_have_one_text : IsExact domain p.spec → (bytes other : List ℕ) → IsTable domain p image base bytes → IsTable domain p image base other → bytes ≡ other
-    tables_have_one_text exact bytes other h k =
+    -- The tables of two texts are alike.
+    pub tables_are_alike : (bytes other : List ℕ) (h : IsTable domain p image base bytes) (k : IsTable domain p image base other) → AreAlike domain.elements h.table k.table
+    tables_are_alike bytes other h k =
         let A = analysis domain p in
         let same : h.trace ≡ k.trace = legal_traces_are_one A h.trace k.trace h.legal (inl h.full) k.legal (inl k.full) in
         let tables = tables_are_one A (keeps_the_laws domain p lawful posed) k.trace h.table k.table h.fits k.fits
         (subst (λ trace. IsTableOf A h.table (play A trace)) same h.is_table) k.is_table in
-        one_text domain.elements (domain.IsText p.spec) p.spec exact image base h.table k.table bytes other (same_are_alike A domain.elements (λ x y same. same) h.table k.table tables) h.text k.text
+        same_are_alike A domain.elements (λ x y same. same) h.table k.table tables
+
+    tables_have_one_text : IsExact domain p.spec → (bytes other : List ℕ) → IsTable domain p image base bytes → IsTable domain p image base other → bytes ≡ other
+    tables_have_one_text exact bytes other h k =
+        one_text domain.elements (domain.IsText p.spec) p.spec exact image base h.table k.table bytes other (tables_are_alike bytes other h k) h.text k.text
 
     -- In a domain whose elements have one text there is one outcome.
     pub outcomes_are_one : IsExact domain p.spec → (found other : Outcome) → ComesTo domain p image base found → ComesTo domain p image base other → found ≡ other
@@ -132,7 +138,7 @@ module _ {E W N C : Type 0} (domain : DomainOf E W N C) (p : Problem) where
     stopped : (trace : List ℕ) (at : ℕ) (given : f.Outcome E W) → IsLegal (analysis domain p) trace → IsStopped (analysis domain p) (play (analysis domain p) trace) at given
         → (found : Outcome) × ComesTo domain p image base found
     stopped trace at (f.undecodable word) legal stop = (Err (o.undecodable_at at word), (trace, is_short trace legal, (legal, stop)))
-    stopped trace at (f.too_many x) legal stop = (Err (o.too_many_targets at (domain.word_text 32 x)), (trace, x, is_short trace legal, (legal, stop), refl))
+    stopped trace at (f.too_many x uses) legal stop = (Err (o.too_many_targets at (domain.word_text 32 x)), (trace, x, uses, is_short trace legal, (legal, stop), refl))
     stopped trace at (f.moves targets post uses) legal stop = absurd (stop.0 tt)
 
     pub has_outcome : (found : Outcome) × ComesTo domain p image base found

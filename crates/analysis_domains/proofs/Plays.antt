@@ -12,7 +12,7 @@ module _ {E W S : Type 0} (A : Analysis E W S) where
   -- the block of an element, with what its transfer tells
   abbrev listing_of : E → Outcome E W → Listing E
   listing_of x (undecodable word) = record { elem = x; next = []; exits = []; uses = [] }
-  listing_of x (too_many shown) = record { elem = x; next = []; exits = []; uses = [] }
+  listing_of x (too_many shown uses) = record { elem = x; next = []; exits = []; uses = [] }
   listing_of x (moves targets post uses) = record { elem = x; next = inside A.code targets; exits = outside A.code targets; uses = uses }
 
   abbrev block_at : ℕ → Option (Reached E) → Option (Listing E)
@@ -25,12 +25,12 @@ module _ {E W S : Type 0} (A : Analysis E W S) where
 
   listing_elem : (x : E) (given : Outcome E W) → (listing_of x given).elem ≡ x
   listing_elem x (undecodable word) = refl
-  listing_elem x (too_many shown) = refl
+  listing_elem x (too_many shown uses) = refl
   listing_elem x (moves targets post uses) = refl
 
   listing_tells : (x : E) (given : Outcome E W) → Moves given → Tells A (listing_of x given) given
   listing_tells x (undecodable word) has = absurd has
-  listing_tells x (too_many shown) has = absurd has
+  listing_tells x (too_many shown uses) has = absurd has
   listing_tells x (moves targets post uses) has = (refl, refl, refl)
 
   block_fits : (at : ℕ) (x : Option (Reached E)) (b : Listing E) → IsFine A at x → block_at at x ≡ Some b → IsTrue (is_code A.code at) × A.elements.fits b.elem
@@ -60,7 +60,7 @@ module _ {E W S : Type 0} (A : Analysis E W S) where
   module _ (laws : AnalysisLaws A) where
     answered_moves : (p : Play E) (given : Outcome E W) → IsAnswered A laws p given → Moves given
     answered_moves p (undecodable word) answered = answered
-    answered_moves p (too_many shown) answered = answered
+    answered_moves p (too_many shown uses) answered = answered
     answered_moves p (moves targets post uses) answered = tt
 
     block_is : (at : ℕ) (x : Option (Reached E)) → ((r : Reached E) → x ≡ Some r → Moves (A.transfer at r.elem)) → IsBlockOf A at (block_at at x) x

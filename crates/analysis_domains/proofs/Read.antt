@@ -1,6 +1,5 @@
 -- What is read of lines in each domain.
 use Rattle.std.proofs.Common.{◌≡◌, ℕ, true, List}
-use Rattle.std.specs.Prelude.{codes}
 use Rattle.kset_base.specs.Meaning.{kset}
 use Rattle.interval_base.specs.Meaning.{interval}
 use Rattle.bits_base.specs.Meaning.{bits}

@@ -1,14 +1,13 @@
 -- Checks and conversions have one outcome, up to the rows in texts.
-use Rattle.std.proofs.Common.{◌≡◌, ◌⊎◌, ℕ, true, IsTrue, List, Option, Some, inl, inr, refl, sym, ◌∙◌, ap}
+use Rattle.std.proofs.Common.{◌≡◌, ◌⊎◌, ℕ, true, List, inl, inr, ap}
 use Rattle.std.specs.Prelude.{Ok, Err}
 use Rattle.command_words.specs.declared.bases.BaseName.{BaseName}
 use Rattle.command_words.specs.Bases.{base_text}
 use Rattle.insn_decode.specs.Image.{Image}
 use Rattle.spec_types.specs.Specification.{Spec}
 use Rattle.domain_laws.specs.States.{has_states, state_type}
-use Rattle.fixed_point.specs.Code.{is_code}
 use Rattle.fixed_point.specs.declared.verdict.Verdict.{Verdict}
-use Rattle.fixed_point.specs.Table.{Listing, Listings, TableFits}
+use Rattle.fixed_point.specs.Table.{Listings, TableFits}
 use Rattle.fixed_point.specs.Verdicts.{verdict_of}
 use Rattle.fixed_point.proofs.Verdicts.{accepted_are_closed}
 use Rattle.same_tables.proofs.Verdicts.{same_tables_same_verdict}
@@ -24,10 +23,10 @@ use Rattle.analysis_domains.specs.Checks.{IsJudged, Judges, judged, outcome_of, 
 use Rattle.analysis_domains.specs.Conversions as conversions
 use Rattle.analysis_domains.specs.Conversions.{Rewrites, rewritten}
 use Rattle.analysis_domains.specs.Domains.{DomainOf}
-use Rattle.analysis_domains.specs.Laws.{AreOne, ChecksAreOne, ChecksHaveSome, ConversionsAreOne, ConversionsHaveSome, HasWordsOf}
+use Rattle.analysis_domains.specs.Laws.{AreOne, of_table, ChecksAreOne, ChecksHaveSome, ConversionsAreOne, ConversionsHaveSome, HasWordsOf}
 use Rattle.analysis_domains.specs.Named.{AnyDomain, Converted, domain_of}
 use Rattle.analysis_domains.proofs.Bases.{IsKnown, all_known, known, known_is_lawful}
-use Rattle.analysis_domains.proofs.Lawful.{IsExact, IsLawful}
+use Rattle.analysis_domains.proofs.Lawful.{IsLawful}
 use Rattle.analysis_domains.proofs.Ready.{closed_is_true, keeps_the_laws}
 use Rattle.analysis_domains.proofs.Texts.{alike_are_same, has_text, one_text}
 
@@ -108,13 +107,14 @@ module _ (image : Image) (spec : Spec) (base : BaseName) (bytes : List ℕ) (has
   abbrev any_domain : AnyDomain
   any_domain = domain_of (state_type spec) base
 
-  converted_one : (found other : Outcome) → IsKnown base any_domain.domain spec → Converted image spec base bytes found → Converted image spec base bytes other → AreOne base found other
+  converted_one : (found other : Outcome) → IsKnown base any_domain.domain spec → Converted image spec base bytes found → Converted image spec base bytes other → AreOne base spec image found other
   converted_one found other (inl plain) h k =
       inl (rewritten_alike any_domain.domain spec plain.lawful image (base_text base) bytes (λ x y. x ≡ y)
       (λ t u new more alike written too. ap (λ (xs : List ℕ). Ok (text xs)) (one_text any_domain.domain.elements (any_domain.domain.IsText spec) spec plain.exact image (base_text base) t u new more alike written too))
       (λ x y same. same) found other h k)
   converted_one found other (inr related) h k =
-      rewritten_alike any_domain.domain spec related.1 image (base_text base) bytes (AreOne base) (λ t u new more alike written too. inr (related.0, tt)) (λ x y same. inl same) found other h k
+      rewritten_alike any_domain.domain spec related.1 image (base_text base) bytes (AreOne base spec image)
+      (λ t u new more alike written too. inr (related.0, of_table t u alike written too)) (λ x y same. inl same) found other h k
 
   converted_some : (found : Outcome) × Converted image spec base bytes found
   converted_some = rewritten_some any_domain.domain spec (known_is_lawful base any_domain.domain spec (all_known spec has base)) image (base_text base) bytes

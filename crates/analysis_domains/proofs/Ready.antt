@@ -17,7 +17,7 @@ use Rattle.analysis_domains.specs.Domains.{DomainOf}
 use Rattle.analysis_domains.proofs.Lawful.{IsLawful}
 
 module _ {E W N C : Type 0} (domain : DomainOf E W N C) (p : Problem) (lawful : IsLawful domain p.spec) (posed : IsWellPosed p) where
-  abbrev calls : ℕ → ℕ → List (Abs W N) → Answer (Abs W N)
+  abbrev pub calls : ℕ → ℕ → List (Abs W N) → Answer (Abs W N)
   calls = calls_of domain.base domain.cap domain.meaning p
 
   pub is_analysed : IsAnalysed domain.base domain.cap domain.elements domain.meaning p calls

@@ -1,8 +1,7 @@
 -- Slices have one outcome, and hold chains.
-use Rattle.std.proofs.Common.{◌≡◌, ◌∙◌, ◌⊎◌, ℕ, Bool, true, IsTrue, List, Option, Some, None, inl, inr, refl, sym, ap, subst}
+use Rattle.std.proofs.Common.{◌≡◌, ◌∙◌, ◌⊎◌, ℕ, IsTrue, List, Option, Some, None, inl, inr, refl, sym, ap, subst}
 use Rattle.std.specs.Prelude.{Ok, Err}
 use Rattle.base_trait.specs.Lists.{IsAmong}
-use Rattle.base_trait.specs.Uses.{Seen}
 use Rattle.base_trait.specs.declared.uses.Stamped.{Stamped}
 use Rattle.command_words.specs.declared.bases.BaseName.{BaseName}
 use Rattle.command_words.specs.declared.bases.BaseName.TheVariants as b
@@ -13,7 +12,7 @@ use Rattle.fixed_point.specs.Table.{Listing, Listings, TableFits}
 use Rattle.fixed_point.specs.Verdicts.{verdict_of}
 use Rattle.fixed_point.specs.declared.verdict.Verdict.TheVariants as v
 use Rattle.fixed_point.proofs.Bounded.{code_among}
-use Rattle.slice_laws.specs.Slices.{IsSlice, IsSliceFrom, asked_uses, is_from, listed_uses, uses_in}
+use Rattle.slice_laws.specs.Slices.{IsSliceFrom, asked_uses, is_from, listed_uses, uses_in}
 use Rattle.slice_laws.proofs.One.{slices_are_one as slices_are_of_one}
 use Rattle.slice_laws.proofs.Slices.{slices_hold_chains}
 use Rattle.slice_laws.proofs.There.{slices_are_there}

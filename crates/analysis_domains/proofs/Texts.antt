@@ -16,7 +16,7 @@ EachHasText {E} IsElement = (x : E) → (text : List ℕ) × IsElement x text
 
 -- ---- a text
 module _ {E : Type 0} (IsElement : E → List ℕ → Type 0) (spec : Spec) (has : EachHasText IsElement) where
-  has_block : (at : ℕ) (x : Option (Listing E)) → (text : List ℕ) × IsAt IsElement spec at x text
+  pub has_block : (at : ℕ) (x : Option (Listing E)) → (text : List ℕ) × IsAt IsElement spec at x text
   has_block at None = ([], refl)
   has_block at (Some b) =
       let element = has b.elem in
@@ -40,7 +40,7 @@ abbrev pub HaveOneText : {E : Type 0} → (E → List ℕ → Type 0) → (E →
 HaveOneText {E} IsElement Same = (x y : E) (text other : List ℕ) → Same x y → IsElement x text → IsElement y other → text ≡ other
 
 module _ {E S : Type 0} (D : Elements E S) (IsElement : E → List ℕ → Type 0) (spec : Spec) (one : HaveOneText IsElement D.same) where
-  one_block : (at : ℕ) (x y : Option (Listing E)) (text other : List ℕ) → AreAlikeAt D x y → IsAt IsElement spec at x text → IsAt IsElement spec at y other → text ≡ other
+  pub one_block : (at : ℕ) (x y : Option (Listing E)) (text other : List ℕ) → AreAlikeAt D x y → IsAt IsElement spec at x text → IsAt IsElement spec at y other → text ≡ other
   one_block at None None text other same h k = h ∙ sym k
   one_block at None (Some c) text other same h k = absurd same
   one_block at (Some b) None text other same h k = absurd same

@@ -1,5 +1,5 @@
 -- What work on tables may come to.
-use Rattle.std.proofs.Common.{◌≡◌, ℕ, List, refl, sym, subst, ◌∙◌}
+use Rattle.std.proofs.Common.{◌≡◌, ℕ, List, refl, sym, subst}
 use Rattle.std.specs.Prelude.{Ok, Err}
 use Rattle.command_words.specs.declared.bases.BaseName.{BaseName}
 use Rattle.command_words.specs.Bases.{base_text}
@@ -22,7 +22,7 @@ use Rattle.analysis_domains.specs.Domains.{DomainOf}
 use Rattle.analysis_domains.specs.Named.{Accepted, Checked, Done, domain_of}
 use Rattle.analysis_domains.specs.Slices as of_slices
 use Rattle.analysis_domains.specs.Slices.{Slices}
-use Rattle.analysis_domains.specs.Tasks.{Comes, Task, analyse, check, claims, convert, slice, spec_of}
+use Rattle.analysis_domains.specs.Tasks.{Comes, Task, analyse, analyse_open, check, claims, convert, slice, spec_of}
 use Rattle.slice_text.specs.declared.asked.Asked.{Asked}
 
 -- ---- what may be refused
@@ -90,6 +90,7 @@ module _ {E W N C : Type 0} (domain : DomainOf E W N C) where
   done_may : (image : Image) (base : List ℕ) (task : Task) (refusal : Refusal) → Comes domain image base task (Err refusal) → MayStop refusal
   unfolding MayBe
   done_may image base (analyse p) refusal is = stops_may p refusal is
+  done_may image base (analyse_open p) refusal is = absurd is
   done_may image base (check p bytes) refusal is = judged_may p image base bytes (Err refusal) is
   done_may image base (convert spec bytes) refusal (conversions.refused is) = tt
   done_may image base (slice p bytes at asked) refusal is = sliced_may p image base bytes at asked (Err refusal) is

@@ -1,5 +1,6 @@
 -- What the analysis of a problem comes to, in a domain.
 use Rattle.std.specs.Prelude.{◌≡◌, ◌≤◌, ℕ, ◌+◌, ◌*◌, List, Ok, Err, length}
+use Rattle.base_trait.specs.Uses.{Seen}
 use Rattle.tsl_values.specs.States.{State}
 use Rattle.insn_decode.specs.Image.{Image}
 use Rattle.fixed_point.specs.Analysis.{Analysis, height_of}
@@ -21,9 +22,9 @@ module _ {E W N C : Type 0} (domain : DomainOf E W N C) (p : Problem) where
   abbrev pub analysis : Analysis E W State
   analysis = analysis_of domain.base domain.cap domain.elements domain.meaning p (calls_of domain.base domain.cap domain.meaning p)
 
-  -- The trace is short: of N code words and elements of the height H it has at most N(H + 4) transfers.
+  -- The trace is short: of N code words and elements of the height H it has at most N(H + J + 1) transfers, where J changes of an element join.
   abbrev pub IsShort : List ℕ → Type 0
-  IsShort trace = length trace ≤ length p.addresses * (height_of analysis + 4)
+  IsShort trace = length trace ≤ length p.addresses * (height_of analysis + p.joins + 1)
 
   -- The text is that of the table of the analysis: of the one trace that is legal and leaves nothing pending. The table is true of the runs of
   -- the machine from every state that the entry describes: the element at each address describes every state that the meaning puts
@@ -43,7 +44,7 @@ module _ {E W N C : Type 0} (domain : DomainOf E W N C) (p : Problem) where
   -- After a legal trace, which is short, the least pending address has no decoding, or its new counter may be too many addresses.
   abbrev pub IsStop : Refusal → Type 0
   IsStop (undecodable_at at word) = (trace : List ℕ) × IsShort trace × IsStopOf analysis trace at (undecodable word)
-  IsStop (too_many_targets at shown) = (trace : List ℕ) × (x : W) × IsShort trace × IsStopOf analysis trace at (too_many x) × (shown ≡ domain.word_text 32 x)
+  IsStop (too_many_targets at shown) = (trace : List ℕ) × (x : W) × (uses : List Seen) × IsShort trace × IsStopOf analysis trace at (too_many x uses) × (shown ≡ domain.word_text 32 x)
   IsStop _ = ⊥
 
   -- The outcome of the analysis: the text of its table, headed by the name of the base, or the refusal of its first stop.

@@ -7,32 +7,60 @@ use Rattle.affine_calls.specs.Tracked.{tracked_cells}
 use Rattle.claim_laws.specs.Affine.{IsDescribed}
 use Rattle.claim_laws.specs.Answers.{column_of, form_of, told}
 use Rattle.claim_laws.specs.Claims.{Multiple, sum}
+use Rattle.command_words.specs.Bases.{base_text}
 use Rattle.command_words.specs.declared.bases.BaseName.{BaseName}
 use Rattle.insn_decode.specs.Image.{Image, code_at}
 use Rattle.spec_types.specs.Specification.{Spec}
-use Rattle.domain_laws.specs.States.{StateType, has_states}
+use Rattle.domain_laws.specs.States.{StateType, has_states, state_type}
 use Rattle.fixed_point.specs.Code.{is_code}
+use Rattle.fixed_point.specs.Table.{Listings}
+use Rattle.open_tables.specs.Endings.{Endings}
+use Rattle.table_text.specs.Open.{IsOpenTableText}
+use Rattle.table_text.specs.Tables.{IsTableText}
+use Rattle.table_readings.specs.Readings.{AreAlike}
 use Rattle.transfer_laws.specs.Problem.{IsWellPosed, Problem}
 use Rattle.slice_text.specs.declared.asked.Asked.{Asked}
 use Rattle.run_steps.specs.Outcome.{Outcome, text}
-use Rattle.analysis_domains.specs.Named.{Analysed, Checked, Claimed, Converted, Sliced, domain_of, has_relations, relations_in}
+use Rattle.analysis_domains.specs.Named.{Analysed, AnalysedOpen, Checked, Claimed, Converted, Sliced, domain_of, has_relations, relations_in}
 
--- Both are texts.
-abbrev pub AreTexts : Outcome → Outcome → Type 0
-AreTexts (Ok (text bytes)) (Ok (text other)) = Unit {0}
-AreTexts _ _ = ⊥
+-- Both are texts of one table of a specification's states and a code over a base, whose elements may have several texts: they list the same, up to
+-- how elements are written. Of one that is left open the blocks end alike, too.
+pub data AreTextsOfOne (base : BaseName) (spec : Spec) (image : Image) (bytes other : List ℕ) : Type 0 where
+  of_table : (table again : Listings (domain_of (state_type spec) base).Elem) → AreAlike (domain_of (state_type spec) base).domain.elements table again
+      → IsTableText ((domain_of (state_type spec) base).domain.IsText spec) spec image (base_text base) table bytes
+      → IsTableText ((domain_of (state_type spec) base).domain.IsText spec) spec image (base_text base) again other → AreTextsOfOne base spec image bytes other
+  of_open_table : (table again : Listings (domain_of (state_type spec) base).Elem) (ends ends_again : Endings (domain_of (state_type spec) base).Word)
+      → AreAlike (domain_of (state_type spec) base).domain.elements table again → ((a : ℕ) → ends a ≡ ends_again a)
+      → IsOpenTableText (domain_of (state_type spec) base).domain.word_text ((domain_of (state_type spec) base).domain.IsText spec) spec image (base_text base) table ends bytes
+      → IsOpenTableText (domain_of (state_type spec) base).domain.word_text ((domain_of (state_type spec) base).domain.IsText spec) spec image (base_text base) again ends_again other → AreTextsOfOne base spec image bytes other
 
--- They are one outcome; over relations both may be texts, which this does not compare.
-abbrev pub AreOne : BaseName → Outcome → Outcome → Type 0
-AreOne base found other = (found ≡ other) ⊎ (IsTrue (has_relations base) × AreTexts found other)
+abbrev pub AreTexts : BaseName → Spec → Image → Outcome → Outcome → Type 0
+AreTexts base spec image (Ok (text bytes)) (Ok (text other)) = AreTextsOfOne base spec image bytes other
+AreTexts base spec image _ _ = ⊥
 
--- Of a well-posed problem the analysis over a base has one outcome at most, but that over relations two may be texts,
+-- They are one outcome; over relations both may be texts of one table.
+abbrev pub AreOne : BaseName → Spec → Image → Outcome → Outcome → Type 0
+AreOne base spec image found other = (found ≡ other) ⊎ (IsTrue (has_relations base) × AreTexts base spec image found other)
+
+-- Of a well-posed problem the analysis over a base has one outcome at most, but that over relations two may be texts of its table,
 abbrev pub AnalysesAreOne : Type 0
-AnalysesAreOne = (image : Image) (p : Problem) (base : BaseName) (found other : Outcome) → IsWellPosed p → Analysed image p base found → Analysed image p base other → AreOne base found other
+AnalysesAreOne = (image : Image) (p : Problem) (base : BaseName) (found other : Outcome) → IsWellPosed p → Analysed image p base found → Analysed image p base other → AreOne base p.spec image found other
 
 -- and at least one.
 abbrev pub AnalysesHaveSome : Type 0
 AnalysesHaveSome = (image : Image) (p : Problem) (base : BaseName) → IsWellPosed p → (found : Outcome) × Analysed image p base found
+
+-- So it is of an analysis that is left open: one outcome at most, but that over relations two may be texts of its table,
+abbrev pub OpenAnalysesAreOne : Type 0
+OpenAnalysesAreOne = (image : Image) (p : Problem) (base : BaseName) (found other : Outcome) → IsWellPosed p → AnalysedOpen image p base found → AnalysedOpen image p base other → AreOne base p.spec image found other
+
+-- and at least one.
+abbrev pub OpenAnalysesHaveSome : Type 0
+OpenAnalysesHaveSome = (image : Image) (p : Problem) (base : BaseName) → IsWellPosed p → (found : Outcome) × AnalysedOpen image p base found
+
+-- Where an analysis has a table, the one that is left open has it too: nothing in it is open.
+abbrev pub ClosedAnalysesAreOpen : Type 0
+ClosedAnalysesAreOpen = (image : Image) (p : Problem) (base : BaseName) (bytes : List ℕ) → Analysed image p base (Ok (text bytes)) → AnalysedOpen image p base (Ok (text bytes))
 
 -- ---- checks and conversions
 
@@ -48,9 +76,9 @@ ChecksAreOne = (image : Image) (p : Problem) (base : BaseName) (bytes : List ℕ
 abbrev pub ChecksHaveSome : Type 0
 ChecksHaveSome = (image : Image) (p : Problem) (base : BaseName) (bytes : List ℕ) → IsWellPosed p → HasWordsOf image p → (found : Outcome) × Checked image p base bytes found
 
--- A text that is written anew has one outcome at most, but that over relations two may be texts, where the specification has states,
+-- A text that is written anew has one outcome at most, but that over relations two may be texts of its table, where the specification has states,
 abbrev pub ConversionsAreOne : Type 0
-ConversionsAreOne = (image : Image) (spec : Spec) (base : BaseName) (bytes : List ℕ) (found other : Outcome) → has_states spec ≡ true → Converted image spec base bytes found → Converted image spec base bytes other → AreOne base found other
+ConversionsAreOne = (image : Image) (spec : Spec) (base : BaseName) (bytes : List ℕ) (found other : Outcome) → has_states spec ≡ true → Converted image spec base bytes found → Converted image spec base bytes other → AreOne base spec image found other
 
 -- and at least one.
 abbrev pub ConversionsHaveSome : Type 0

@@ -7,6 +7,7 @@ pub mod Domains
 pub mod Instance
 pub mod Laws
 pub mod Named
+pub mod OpenAnalyses
 pub mod Slices
 pub mod Tasks
 pub mod Work

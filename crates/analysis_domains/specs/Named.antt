@@ -13,7 +13,7 @@ use Rattle.slice_text.specs.declared.asked.Asked.{Asked}
 use Rattle.analysis_domains.specs.Checks.{IsAccepted}
 use Rattle.analysis_domains.specs.Claims.{HoldsClaims}
 use Rattle.analysis_domains.specs.Slices.{HoldsChains}
-use Rattle.analysis_domains.specs.Tasks.{Comes, Task, analyse, check, claims, convert, slice, spec_of}
+use Rattle.analysis_domains.specs.Tasks.{Comes, Task, analyse, analyse_open, check, claims, convert, slice, spec_of}
 use Rattle.analysis_domains.specs.Domains.{DomainOf, definitions, intervals, known_bits, pair_of, relations, sets}
 
 -- A domain, with the types of its elements, words, notes and contexts.
@@ -53,6 +53,10 @@ Done image task base = Comes (domain_of (state_type (spec_of task)) base).domain
 -- That of the analysis of a problem,
 abbrev pub Analysed : Image → Problem → BaseName → Outcome → Type 0
 Analysed image p base = Done image (analyse p) base
+
+-- that where what has no decoding or too many targets is left open,
+abbrev pub AnalysedOpen : Image → Problem → BaseName → Outcome → Type 0
+AnalysedOpen image p base = Done image (analyse_open p) base
 
 -- that of the check of a text,
 abbrev pub Checked : Image → Problem → BaseName → List ℕ → Outcome → Type 0

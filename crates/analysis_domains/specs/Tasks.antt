@@ -5,6 +5,7 @@ use Rattle.spec_types.specs.Specification.{Spec}
 use Rattle.transfer_laws.specs.Problem.{Problem}
 use Rattle.run_steps.specs.Outcome.{Outcome}
 use Rattle.analysis_domains.specs.Analyses.{ComesTo}
+use Rattle.analysis_domains.specs.OpenAnalyses.{ComesOpen}
 use Rattle.slice_text.specs.declared.asked.Asked.{Asked}
 use Rattle.analysis_domains.specs.Checks.{Judges}
 use Rattle.analysis_domains.specs.Claims.{Claims}
@@ -15,6 +16,8 @@ use Rattle.analysis_domains.specs.Slices.{Slices}
 pub data Task : Type 0 where
   -- the table of the analysis of a problem
   analyse : Problem → Task
+  -- the same, where what has no decoding or too many targets is left open
+  analyse_open : Problem → Task
   -- the verdict on the table that a text is
   check : Problem → List ℕ → Task
   -- the table that a text is, written anew
@@ -26,6 +29,7 @@ pub data Task : Type 0 where
 
 abbrev pub spec_of : Task → Spec
 spec_of (analyse p) = p.spec
+spec_of (analyse_open p) = p.spec
 spec_of (check p bytes) = p.spec
 spec_of (convert spec bytes) = spec
 spec_of (slice p bytes at asked) = p.spec
@@ -34,6 +38,7 @@ spec_of (claims p bytes list) = p.spec
 -- the outcome in a domain, with the name of the base in the heads of tables
 abbrev pub Comes : {E W N C : Type 0} → DomainOf E W N C → Image → List ℕ → Task → Outcome → Type 0
 Comes domain image base (analyse p) outcome = ComesTo domain p image base outcome
+Comes domain image base (analyse_open p) outcome = ComesOpen domain p image base outcome
 Comes domain image base (check p bytes) outcome = Judges domain p image base bytes outcome
 Comes domain image base (convert spec bytes) outcome = Rewrites domain spec image base bytes outcome
 Comes domain image base (slice p bytes at asked) outcome = Slices domain p image base bytes at asked outcome

@@ -1,22 +1,39 @@
--- How many transfers a task makes at most.
-use Rattle.std.specs.Prelude.{ℕ, ◌+◌, ◌*◌, length}
+-- How many transfers a task makes.
+use Rattle.std.specs.Prelude.{◌⊎◌, ℕ, ◌+◌, ◌*◌, ◌≤◌, List, length}
+use Rattle.command_words.specs.Bases.{base_text}
 use Rattle.command_words.specs.declared.bases.BaseName.{BaseName}
+use Rattle.insn_decode.specs.Image.{Image}
+use Rattle.spec_types.specs.Specification.{Spec}
 use Rattle.domain_laws.specs.States.{state_type}
 use Rattle.fixed_point.specs.Analysis.{height_of}
+use Rattle.fixed_point.specs.Table.{Listings}
+use Rattle.table_reader.specs.Tables.{IsTableIn}
+use Rattle.transfer_laws.specs.Problem.{Problem}
 use Rattle.analysis_domains.specs.Analyses.{analysis}
 use Rattle.analysis_domains.specs.Domains.{DomainOf}
 use Rattle.analysis_domains.specs.Named.{domain_of}
-use Rattle.analysis_domains.specs.Tasks.{Task, analyse, check, claims, convert, slice, spec_of}
+use Rattle.analysis_domains.specs.Tasks.{Task, analyse, analyse_open, check, claims, convert, slice, spec_of}
 
--- Of N code words and elements of the height H: an analysis at most N(H + 4), and one for each block of its table, of which there are at most N; a
--- check, a slice and claims at most one for each code word.
-abbrev pub most_work : {E W N C : Type 0} → DomainOf E W N C → Task → ℕ
-most_work domain (analyse p) = length p.addresses * (height_of (analysis domain p) + 4) + length p.addresses
-most_work domain (check p bytes) = length p.addresses
-most_work domain (convert spec bytes) = 0
-most_work domain (slice p bytes at asked) = length p.addresses
-most_work domain (claims p bytes list) = length p.addresses
+module _ {E W N C : Type 0} (domain : DomainOf E W N C) where
+  -- Of N code words and elements of the height H an analysis makes at most N(H + J + 1), where J changes of an element join; and one for each block of
+  -- its table, of which there are at most N.
+  abbrev pub analysis_work : Problem → ℕ
+  analysis_work p = length p.addresses * (height_of (analysis domain p) + p.joins + 1) + length p.addresses
+
+  module _ (image : Image) (base : List ℕ) where
+    -- From so many to so many, where a text is to be a table: none was made, or the text is one, and at most one was made for each address that it lists.
+    abbrev pub IsWorkOn : Spec → List ℕ → ℕ → ℕ → Type 0
+    IsWorkOn spec bytes old new = (new ≤ old) ⊎ ((table : Listings E) × (is : IsTableIn domain.Reads spec base image bytes table) × (new ≤ old + length is.blocks))
+
+    -- From so many to so many, for a task.
+    abbrev pub IsWork : Task → ℕ → ℕ → Type 0
+    IsWork (analyse p) old new = new ≤ old + analysis_work p
+    IsWork (analyse_open p) old new = new ≤ old + (analysis_work p + length p.addresses)
+    IsWork (check p bytes) old new = IsWorkOn p.spec bytes old new
+    IsWork (convert spec bytes) old new = new ≤ old
+    IsWork (slice p bytes at asked) old new = IsWorkOn p.spec bytes old new
+    IsWork (claims p bytes list) old new = IsWorkOn p.spec bytes old new
 
 -- the same over a base
-abbrev pub work_of : Task → BaseName → ℕ
-work_of task base = most_work (domain_of (state_type (spec_of task)) base).domain task
+abbrev pub WorkOf : Image → Task → BaseName → ℕ → ℕ → Type 0
+WorkOf image task base = IsWork (domain_of (state_type (spec_of task)) base).domain image (base_text base) task

@@ -1,6 +1,6 @@
 //! What holds of the outcomes of analyses, and of what elements tell. These functions do nothing: their contracts are laws.
 
-ghost use Rattle.analysis_domains.specs.Laws.{AnalysesAreOne, AnalysesHaveSome, SumsAreExact};
+ghost use Rattle.analysis_domains.specs.Laws.{AnalysesAreOne, AnalysesHaveSome, ClosedAnalysesAreOpen, OpenAnalysesAreOne, OpenAnalysesHaveSome, SumsAreExact};
 
 /// Of a well-posed problem an analysis has one outcome at most, but that over relations two may be texts of its table.
 pub fn analyses_are_one()
@@ -10,6 +10,21 @@ pub fn analyses_are_one()
 /// It has an outcome: the text of its table, or the refusal of its first stop.
 pub fn analyses_have_some()
     ensures { AnalysesHaveSome }
+{}
+
+/// An analysis that is left open has one outcome at most, but that over relations two may be texts of its table.
+pub fn open_analyses_are_one()
+    ensures { OpenAnalysesAreOne }
+{}
+
+/// It has an outcome: the text of its table.
+pub fn open_analyses_have_some()
+    ensures { OpenAnalysesHaveSome }
+{}
+
+/// Where an analysis has a table, the one that is left open has the same.
+pub fn closed_analyses_are_open()
+    ensures { ClosedAnalysesAreOpen }
 {}
 
 /// Where affine relations describe some numbers, a sum is told exactly where it is 0 for all that they describe.

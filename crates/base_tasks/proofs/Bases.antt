@@ -11,14 +11,15 @@ use Rattle.run_steps.specs.Outcome.{Answer}
 use Rattle.run_steps.specs.Outcomes.{Gives}
 use Rattle.analysis_domains.specs.Named.{Done, domain_of}
 use Rattle.analysis_domains.specs.Tasks.{Comes, spec_of}
-use Rattle.analysis_domains.specs.Work.{most_work, work_of}
+use Rattle.analysis_domains.specs.Work.{IsWork, WorkOf}
 use Rattle.domain_tasks.specs.Read.{task_of}
 use Rattle.domain_tasks.specs.declared.task.Task.{Task}
-use Rattle.domain_tasks.specs.declared.task.Task.TheVariants.{Analyse, Check, Claims, Convert, Slice}
+use Rattle.domain_tasks.specs.declared.task.Task.TheVariants.{Analyse, AnalyseOpen, Check, Claims, Convert, Slice}
 
 module _ (spec : Spec) (image : Image) where
   spec_is : (task : Task) → spec_of (task_of spec image task) ≡ spec
   spec_is (Analyse start) = refl
+  spec_is (AnalyseOpen start) = refl
   spec_is (Check start table) = refl
   spec_is (Convert table) = refl
   spec_is (Slice start table at cell) = refl
@@ -31,7 +32,8 @@ module _ (spec : Spec) (image : Image) where
       subst (λ s. Gives (Comes (domain_of (state_type s) base).domain image (base_text base) (task_of spec image task)) seen r) (sym (spec_is task))
       (subst (λ b. Gives (Comes (domain_of (state_type spec) b).domain image (base_text base) (task_of spec image task)) seen r) (sym same) given)
 
-  pub work_over : (task : Task) (base it : BaseName) (old new : ℕ) → base ≡ it → new ≤ old + most_work (domain_of (state_type spec) it).domain (task_of spec image task) → new ≤ old + work_of (task_of spec image task) base
+  pub work_over : (task : Task) (base it : BaseName) (old new : ℕ) → base ≡ it → IsWork (domain_of (state_type spec) it).domain image (base_text base) (task_of spec image task) old new
+      → WorkOf image (task_of spec image task) base old new
   work_over task base it old new same few =
-      subst (λ s. new ≤ old + most_work (domain_of (state_type s) base).domain (task_of spec image task)) (sym (spec_is task))
-      (subst (λ b. new ≤ old + most_work (domain_of (state_type spec) b).domain (task_of spec image task)) (sym same) few)
+      subst (λ s. IsWork (domain_of (state_type s) base).domain image (base_text base) (task_of spec image task) old new) (sym (spec_is task))
+      (subst (λ b. IsWork (domain_of (state_type spec) b).domain image (base_text base) (task_of spec image task) old new) (sym same) few)

@@ -1,3 +1,4 @@
 pub mod Bases
 pub mod Seen
 pub mod Ties
+pub mod Working

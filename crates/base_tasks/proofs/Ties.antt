@@ -1,5 +1,5 @@
 -- Domains of the code are domains of the definitions.
-use Rattle.std.proofs.Common.{◌≡◌, ◌⊎◌, ◌≤◌, ◌+◌, ℕ, List, [], ◌∷◌, Option, Some, None, arith, inl, inr, max, option_map, ap, refl, subst, sym, ◌∙◌}
+use Rattle.std.proofs.Common.{◌≡◌, ◌⊎◌, ℕ, List, [], ◌∷◌, Option, Some, None, arith, inl, inr, max, option_map, ap, refl, subst, sym, ◌∙◌}
 use Rattle.std.specs.BTreeMap.{get}
 use Rattle.std.specs.Ordering.{nat_cmp}
 use Rattle.std.specs.Prelude.{Bool, ◌&&◌, not, IsTrue, Result, Ok, Err}
@@ -42,6 +42,10 @@ use Rattle.element_text.specs.Parts.{AffineText, CellsText, ElementText, PairTex
 use Rattle.text_lines.specs.Lines.{Lines}
 use Rattle.element_readers.specs.Reading.{AffineRead, CellsRead, ElementReading, PairRead, both, no_first, no_second}
 use Rattle.table_readings.proofs.Views.{error_seen, seen_listing, table_seen}
+use Rattle.open_tables.specs.Endings.{Endings}
+use Rattle.open_tables.specs.declared.ending.Ending.{Ending}
+use Rattle.table_text.specs.Open as opened
+use Rattle.table_text.specs.Open.{AreOpenBlocks, IsOpenAt, IsOpenTableText}
 use Rattle.table_text.specs.Tables.{AreBlocks, IsAt, IsTableText, none, onto}
 use Rattle.run_steps.specs.Outcome as o
 use Rattle.run_steps.specs.declared.outcome.Halt.{Halt}
@@ -56,21 +60,24 @@ use Rattle.analysis_domains.specs.Checks.{Judges}
 use Rattle.analysis_domains.specs.Conversions as conversions
 use Rattle.analysis_domains.specs.Conversions.{Rewrites}
 use Rattle.analysis_domains.specs.Domains.{DomainOf, cells_of, pair_of, relations}
+use Rattle.analysis_domains.specs.OpenAnalyses.{ComesOpen}
 use Rattle.analysis_domains.specs.Claims as claiming
 use Rattle.analysis_domains.specs.Claims.{Claims}
 use Rattle.analysis_domains.specs.Slices as slices
 use Rattle.analysis_domains.specs.Slices.{IsSliceText, Slices}
-use Rattle.analysis_domains.specs.Tasks.{Comes, Task, analyse, check, claims, convert, slice}
-use Rattle.analysis_domains.specs.Work.{most_work}
+use Rattle.analysis_domains.specs.Tasks.{Comes, Task, analyse, analyse_open, check, claims, convert, slice}
+use Rattle.analysis_domains.specs.Work.{IsWork, IsWorkOn}
 use Rattle.analysis_domains.proofs.Closed.{verdicts_to}
 use Rattle.domain_tasks.specs.Own as given
-use Rattle.domain_tasks.specs.Own.{Own, OwnComesTo, OwnJudges, OwnRewrites, own_work}
+use Rattle.domain_tasks.specs.Own.{Own, OwnComesTo, OwnJudges, OwnRewrites, OwnWork, as_defined}
 use Rattle.domain_tasks.specs.Claims as own_claims
 use Rattle.domain_tasks.specs.Claims.{OwnClaims}
 use Rattle.domain_tasks.specs.Comes.{OwnComes}
+use Rattle.domain_tasks.specs.Open.{OwnComesOpen}
 use Rattle.domain_tasks.specs.Slices as own_slices
 use Rattle.domain_tasks.specs.Slices.{OwnSlices}
 use Rattle.base_tasks.proofs.Seen.{answers_seen, read_seen}
+use Rattle.base_tasks.proofs.Working.{work_on}
 
 -- ---- texts of tables
 
@@ -85,6 +92,20 @@ module _ {X E : Type 0} (view : X → E) (spec : Spec) (IsOwn : X → List ℕ �
 
   pub text_seen : (t : Table X) (image : Image) (base bytes : List ℕ) → IsTableText IsOwn spec image base (listings (λ x. x) t) bytes → IsTableText Is spec image base (listings view t) bytes
   text_seen t image base bytes is = record { blocks = is.blocks; are_blocks = blocks_seen t (addresses image.segments) is.blocks is.are_blocks; lines = is.lines }
+
+  open_at_seen : {W : Type 0} (word_text : ℕ → W → List ℕ) (at : ℕ) (found : Option (Block X)) (ending : Option (Ending W)) (bytes : List ℕ) → IsOpenAt word_text IsOwn spec at (option_map (listing (λ x. x)) found) ending bytes
+      → IsOpenAt word_text Is spec at (option_map (listing view) found) ending bytes
+  open_at_seen word_text at None ending bytes is = is
+  open_at_seen word_text at (Some b) ending bytes is = record { block = is.block; is_block = at_seen at (Some b) is.block is.is_block; lines = is.lines }
+
+  open_blocks_seen : {W : Type 0} (word_text : ℕ → W → List ℕ) (t : Table X) (ends : Endings W) (ats bytes : List ℕ) → AreOpenBlocks word_text IsOwn spec (listings (λ x. x) t) ends ats bytes
+      → AreOpenBlocks word_text Is spec (listings view t) ends ats bytes
+  open_blocks_seen word_text t ends [] bytes opened.none = opened.none
+  open_blocks_seen word_text t ends (at ∷ ats) bytes (opened.onto first rest is more) = opened.onto first rest (open_at_seen word_text at _ (ends at) first is) (open_blocks_seen word_text t ends ats rest more)
+
+  pub open_text_seen : {W : Type 0} (word_text : ℕ → W → List ℕ) (t : Table X) (ends : Endings W) (image : Image) (base bytes : List ℕ) → IsOpenTableText word_text IsOwn spec image base (listings (λ x. x) t) ends bytes
+      → IsOpenTableText word_text Is spec image base (listings view t) ends bytes
+  open_text_seen word_text t ends image base bytes is = record { blocks = is.blocks; are_blocks = open_blocks_seen word_text t ends (addresses image.segments) is.blocks is.are_blocks; lines = is.lines }
 
 -- ---- tables that are read
 
@@ -175,8 +196,27 @@ module _ {X E W N C : Type 0} (own : Own X E W N C) (K : Telling X) (domain : Do
       (verdicts_to own.word_text (λ lines. lines ≡ answers K (listings (λ x. x) table) all) (λ lines. lines ≡ answers domain.telling (listings own.view table) all)
       (λ lines h. h ∙ ap (λ k. answers k (listings (λ x. x) table) all) tie.tells ∙ answers_seen own.view domain.telling table all) _ outcome by)
 
+  open_comes : (p : Problem) (outcome : Outcome) → OwnComesOpen own p image base outcome → ComesOpen seen p image base outcome
+  open_comes p (Ok (text bytes)) t = record {
+    trace = t.trace;
+    table = listings own.view t.table;
+    ends = t.ends;
+    legal = t.legal;
+    full = t.full;
+    few = t.few;
+    is_table = t.is_table;
+    fits = t.fits;
+    endings = t.endings;
+    is_true = t.is_true;
+    text = open_text_seen own.view p.spec (own.IsText p.spec) (domain.IsText p.spec) (tie.text p.spec) own.word_text t.table t.ends image base bytes t.text;
+  }
+  open_comes p (Ok (o.undecodable bytes)) never = absurd never
+  open_comes p (Ok (o.calls_ended bytes)) never = absurd never
+  open_comes p (Err refusal) never = absurd never
+
   seen_comes : (task : Task) (outcome : Outcome) → OwnComes own K image base task outcome → Comes seen image base task outcome
   seen_comes (analyse p) outcome is = analysis_comes p outcome is
+  seen_comes (analyse_open p) outcome is = open_comes p outcome is
   seen_comes (check p bytes) outcome is = check_comes p bytes outcome is
   seen_comes (convert spec bytes) outcome is = conversion_comes spec bytes outcome is
   seen_comes (slice p bytes at cell) outcome is = slice_comes p bytes at cell outcome is
@@ -187,16 +227,33 @@ module _ {X E W N C : Type 0} (own : Own X E W N C) (K : Telling X) (domain : Do
 
 -- ---- the work
 
-module _ {X E W N C : Type 0} (own : Own X E W N C) (K : Telling X) (domain : DomainOf E W N C) (tie : Tie own K domain) where
-  seen_work : (task : Task) → own_work own task ≡ most_work (with_texts own domain.IsText domain.Reads domain.telling) task
-  seen_work (analyse p) = refl
-  seen_work (check p bytes) = refl
-  seen_work (convert spec bytes) = refl
-  seen_work (slice p bytes at cell) = refl
-  seen_work (claims p bytes list) = refl
+module _ {E W N C : Type 0} (domain : DomainOf E W N C) (image : Image) (base : List ℕ) where
+  -- nothing was done
+  idle : (task : Task) (old new : ℕ) → new ≡ old → IsWork domain image base task old new
+  idle (analyse p) old new same = omega (arith, same)
+  idle (analyse_open p) old new same = omega (arith, same)
+  idle (check p bytes) old new same = inl (omega (arith, same))
+  idle (convert spec bytes) old new same = omega (arith, same)
+  idle (slice p bytes at cell) old new same = inl (omega (arith, same))
+  idle (claims p bytes list) old new same = inl (omega (arith, same))
 
-  work_is : (task : Task) → own_work own task ≡ most_work domain task
-  work_is task = seen_work task ∙ ap (λ d. most_work d task) tie.same
+module _ {X E W N C : Type 0} (own : Own X E W N C) (K : Telling X) (domain : DomainOf E W N C) (tie : Tie own K domain) (image : Image) (base : List ℕ) where
+  read_too : (spec : Spec) (is_word : ℕ → Bool) (ls : Lines) (r : Option E) (left : Lines) → (as_defined own).Reads spec is_word ls r left → domain.Reads spec is_word ls r left
+  read_too spec is_word ls r left (x, same, is) = subst (λ o. domain.Reads spec is_word ls o left) same (tie.reads spec is_word ls x left is)
+
+  work_of : (spec : Spec) (bytes : List ℕ) (old new : ℕ) → IsWorkOn (as_defined own) image base spec bytes old new → IsWorkOn (with_texts own domain.IsText domain.Reads domain.telling) image base spec bytes old new
+  work_of spec bytes old new is = work_on (as_defined own) (with_texts own domain.IsText domain.Reads domain.telling) read_too image base spec bytes old new is
+
+  work_seen : (task : Task) (old new : ℕ) → OwnWork own image base task old new → IsWork (with_texts own domain.IsText domain.Reads domain.telling) image base task old new
+  work_seen (analyse p) old new is = is
+  work_seen (analyse_open p) old new is = is
+  work_seen (check p bytes) old new is = work_of p.spec bytes old new is
+  work_seen (convert spec bytes) old new is = is
+  work_seen (slice p bytes at cell) old new is = work_of p.spec bytes old new is
+  work_seen (claims p bytes list) old new is = work_of p.spec bytes old new is
+
+  work_is : (task : Task) (old new : ℕ) → OwnWork own image base task old new → IsWork domain image base task old new
+  work_is task old new is = subst (λ d. IsWork d image base task old new) tie.same (work_seen task old new is)
 
 -- ---- cells, relations, pairs
 
@@ -298,8 +355,8 @@ gives_comes Is own K domain tie image base task view (Ok found) given = comes (o
 gives_comes Is own K domain tie image base task view (Err NoMemory) given = tt
 gives_comes Is own K domain tie image base task view (Err (Refused refusal)) given = comes (own given.0) (K given.0) domain (tie given.0 given.1) image base task (Err (refusal_of refusal)) given.2
 
--- Nothing was done, or at most what some value takes. (What is given besides says which domain of the code each value makes.)
+-- Nothing was done, or no more than some value takes. (What is given besides says which domain of the code each value makes.)
 pub work_comes : {A D X E W N C : Type 0} (Is : D → Type 0) (own : D → Own X E W N C) (K : D → Telling X) (domain : DomainOf E W N C) (tie : (d : D) → Is d → Tie (own d) (K d) domain) (image : Image) (base : List ℕ) (task : Task) (view : A → Answer) (r : Result A Halt)
-    → Gives (λ outcome. (d : D) × Is d × OwnComes (own d) (K d) image base task outcome) view r → (old new : ℕ) → (new ≡ old) ⊎ ((d : D) × Is d × (new ≤ old + own_work (own d) task)) → new ≤ old + most_work domain task
-work_comes Is own K domain tie image base task view r given old new (inl same) = omega (arith, same)
-work_comes Is own K domain tie image base task view r given old new (inr h) = subst (λ n. new ≤ old + n) (work_is (own h.0) (K h.0) domain (tie h.0 h.1) task) h.2
+    → Gives (λ outcome. (d : D) × Is d × OwnComes (own d) (K d) image base task outcome) view r → (old new : ℕ) → (new ≡ old) ⊎ ((d : D) × Is d × OwnWork (own d) image base task old new) → IsWork domain image base task old new
+work_comes Is own K domain tie image base task view r given old new (inl same) = idle domain image base task old new same
+work_comes Is own K domain tie image base task view r given old new (inr h) = work_is (own h.0) (K h.0) domain (tie h.0 h.1) image base task old new h.2

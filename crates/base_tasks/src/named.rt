@@ -9,7 +9,7 @@ ghost use Rattle.affine_base.specs.Meaning.{affine};
 ghost use Rattle.analysis_domains.specs.Domains.{cells_of, pair_of, relations};
 ghost use Rattle.analysis_domains.specs.Named.{Done};
 ghost use Rattle.analysis_domains.specs.Tasks.{Comes};
-ghost use Rattle.analysis_domains.specs.Work.{most_work, work_of};
+ghost use Rattle.analysis_domains.specs.Work.{IsWork, WorkOf};
 ghost use Rattle.run_steps.specs.Outcomes.{Gives, answer_of};
 ghost use Rattle.domain_tasks.specs.Read.{IsAsked, task_of};
 
@@ -77,7 +77,7 @@ fn over_cells<'a, 'b, A: Unshared, L: Ledger>(
     requires may_A { IsTrue (A.algebra.joins && not A.algebra.words.looks) }
     requires asked { IsAsked (specification it.now.spec.now) it.now.task }
     ensures gives { Gives (Comes (cells_of (state_type (specification it.now.spec.now)) A.algebra A.shared A.CAP A.named A.texts A.readings) it.now.image.now (base_text base) (task_of (specification it.now.spec.now) it.now.image.now it.now.task)) answer_of result }
-    ensures work { steps.new ≤ steps.old + most_work (cells_of (state_type (specification it.now.spec.now)) A.algebra A.shared A.CAP A.named A.texts A.readings) (task_of (specification it.now.spec.now) it.now.image.now it.now.task) }
+    ensures work { IsWork (cells_of (state_type (specification it.now.spec.now)) A.algebra A.shared A.CAP A.named A.texts A.readings) it.now.image.now (base_text base) (task_of (specification it.now.spec.now) it.now.image.now it.now.task) steps.old steps.new }
 {
     in_domain::<StateDomain<A>, L>(alloc, it, base, steps)
 }
@@ -94,7 +94,7 @@ fn over_both<'a, 'b, A: Unshared, B: Unshared, L: Ledger>(
     requires pair { IsTrue (may_pair A.algebra B.algebra) }
     requires asked { IsAsked (specification it.now.spec.now) it.now.task }
     ensures gives { Gives (Comes (pair_of (cells_of (state_type (specification it.now.spec.now)) A.algebra A.shared A.CAP A.named A.texts A.readings) (cells_of (state_type (specification it.now.spec.now)) B.algebra B.shared B.CAP B.named B.texts B.readings)) it.now.image.now (base_text base) (task_of (specification it.now.spec.now) it.now.image.now it.now.task)) answer_of result }
-    ensures work { steps.new ≤ steps.old + most_work (pair_of (cells_of (state_type (specification it.now.spec.now)) A.algebra A.shared A.CAP A.named A.texts A.readings) (cells_of (state_type (specification it.now.spec.now)) B.algebra B.shared B.CAP B.named B.texts B.readings)) (task_of (specification it.now.spec.now) it.now.image.now it.now.task) }
+    ensures work { IsWork (pair_of (cells_of (state_type (specification it.now.spec.now)) A.algebra A.shared A.CAP A.named A.texts A.readings) (cells_of (state_type (specification it.now.spec.now)) B.algebra B.shared B.CAP B.named B.texts B.readings)) it.now.image.now (base_text base) (task_of (specification it.now.spec.now) it.now.image.now it.now.task) steps.old steps.new }
 {
     in_domain::<PairDomain<StateDomain<A>, StateDomain<B>>, L>(alloc, it, base, steps)
 }
@@ -108,7 +108,7 @@ fn over_relations<'a, 'b, L: Ledger>(
 ) -> Result<Answer, Halt<'b>>
     requires asked { IsAsked (specification it.now.spec.now) it.now.task }
     ensures gives { Gives (Comes (relations (state_type (specification it.now.spec.now))) it.now.image.now (base_text base) (task_of (specification it.now.spec.now) it.now.image.now it.now.task)) answer_of result }
-    ensures work { steps.new ≤ steps.old + most_work (relations (state_type (specification it.now.spec.now))) (task_of (specification it.now.spec.now) it.now.image.now it.now.task) }
+    ensures work { IsWork (relations (state_type (specification it.now.spec.now))) it.now.image.now (base_text base) (task_of (specification it.now.spec.now) it.now.image.now it.now.task) steps.old steps.new }
 {
     in_domain::<AffineDomain, L>(alloc, it, base, steps)
 }
@@ -124,7 +124,7 @@ fn over_cells_and_relations<'a, 'b, A: Unshared, L: Ledger>(
     requires pair { IsTrue (may_pair A.algebra affine) }
     requires asked { IsAsked (specification it.now.spec.now) it.now.task }
     ensures gives { Gives (Comes (pair_of (cells_of (state_type (specification it.now.spec.now)) A.algebra A.shared A.CAP A.named A.texts A.readings) (relations (state_type (specification it.now.spec.now)))) it.now.image.now (base_text base) (task_of (specification it.now.spec.now) it.now.image.now it.now.task)) answer_of result }
-    ensures work { steps.new ≤ steps.old + most_work (pair_of (cells_of (state_type (specification it.now.spec.now)) A.algebra A.shared A.CAP A.named A.texts A.readings) (relations (state_type (specification it.now.spec.now)))) (task_of (specification it.now.spec.now) it.now.image.now it.now.task) }
+    ensures work { IsWork (pair_of (cells_of (state_type (specification it.now.spec.now)) A.algebra A.shared A.CAP A.named A.texts A.readings) (relations (state_type (specification it.now.spec.now)))) it.now.image.now (base_text base) (task_of (specification it.now.spec.now) it.now.image.now it.now.task) steps.old steps.new }
 {
     in_domain::<PairDomain<StateDomain<A>, AffineDomain>, L>(alloc, it, base, steps)
 }
@@ -140,7 +140,7 @@ fn over_relations_and_cells<'a, 'b, B: Unshared, L: Ledger>(
     requires pair { IsTrue (may_pair affine B.algebra) }
     requires asked { IsAsked (specification it.now.spec.now) it.now.task }
     ensures gives { Gives (Comes (pair_of (relations (state_type (specification it.now.spec.now))) (cells_of (state_type (specification it.now.spec.now)) B.algebra B.shared B.CAP B.named B.texts B.readings)) it.now.image.now (base_text base) (task_of (specification it.now.spec.now) it.now.image.now it.now.task)) answer_of result }
-    ensures work { steps.new ≤ steps.old + most_work (pair_of (relations (state_type (specification it.now.spec.now))) (cells_of (state_type (specification it.now.spec.now)) B.algebra B.shared B.CAP B.named B.texts B.readings)) (task_of (specification it.now.spec.now) it.now.image.now it.now.task) }
+    ensures work { IsWork (pair_of (relations (state_type (specification it.now.spec.now))) (cells_of (state_type (specification it.now.spec.now)) B.algebra B.shared B.CAP B.named B.texts B.readings)) it.now.image.now (base_text base) (task_of (specification it.now.spec.now) it.now.image.now it.now.task) steps.old steps.new }
 {
     in_domain::<PairDomain<AffineDomain, StateDomain<B>>, L>(alloc, it, base, steps)
 }
@@ -154,7 +154,7 @@ pub fn over_base<'a, 'b, L: Ledger>(
 ) -> Result<Answer, Halt<'b>>
     requires { IsAsked (specification it.now.spec.now) it.now.task }
     ensures gives { Gives (Done it.now.image.now (task_of (specification it.now.spec.now) it.now.image.now it.now.task) base) answer_of result }
-    ensures work { steps.new ≤ steps.old + work_of (task_of (specification it.now.spec.now) it.now.image.now it.now.task) base }
+    ensures work { WorkOf it.now.image.now (task_of (specification it.now.spec.now) it.now.image.now it.now.task) base steps.old steps.new }
 {
     match base {
         BaseName::Const => over_cells::<KSet<1>, L>(alloc, it, base, steps),

@@ -1,5 +1,5 @@
 -- The values of the options, each with its form and its default.
-use Rattle.std.specs.Prelude.{ℕ, List, Option, Some, None}
+use Rattle.std.specs.Prelude.{ℕ, ◌-◌, List, Option, Some, None, option_map}
 use Rattle.command_words.specs.declared.bases.BaseName.{BaseName}
 use Rattle.command_words.specs.declared.bases.BaseName.TheVariants.{KSetInterval}
 use Rattle.command_words.specs.declared.orders.Order as orders
@@ -32,6 +32,14 @@ calls_of given = value_or 4096 (decimal_in 5 1 65536) given.calls
 -- how many values a counter has at most
 unfoldable pub limit_of : Given → Option ℕ
 limit_of given = value_or 64 (decimal_in 4 1 4096) given.limit
+
+-- an element is widened from the change of this number at an address on
+abbrev pub widened_from : List ℕ → Option ℕ
+widened_from text = decimal_in 2 1 64 text
+
+-- how many changes of an element join before later ones widen
+unfoldable pub joins_of : Given → Option ℕ
+joins_of given = value_or 3 (λ text. option_map (λ first. first - 1) (widened_from text)) given.widen
 
 unfoldable pub base_of : Given → Option BaseName
 base_of given = value_or KSetInterval base_named given.base

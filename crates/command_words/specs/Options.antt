@@ -1,5 +1,5 @@
 -- The options of all commands.
-use Rattle.std.specs.Prelude.{ℕ, List, [], ◌∷◌, codes}
+use Rattle.std.specs.Prelude.{ℕ, Bool, true, false, List, [], ◌∷◌, codes}
 use Rattle.command_words.specs.declared.options.OptionName.{OptionName}
 use Rattle.command_words.specs.declared.options.OptionName.TheVariants as o
 
@@ -11,6 +11,13 @@ option_text o.Steps = codes "steps"
 option_text o.Calls = codes "calls"
 option_text o.Limit = codes "limit"
 option_text o.Base = codes "base"
+option_text o.Widen = codes "widen"
+option_text o.Open = codes "open"
+
+-- It takes a value; any other is a flag.
+abbrev pub has_value : OptionName → Bool
+has_value o.Open = false
+has_value _ = true
 
 abbrev pub all_options : List OptionName
-all_options = o.At ∷ o.Order ∷ o.Steps ∷ o.Calls ∷ o.Limit ∷ o.Base ∷ []
+all_options = o.At ∷ o.Order ∷ o.Steps ∷ o.Calls ∷ o.Limit ∷ o.Base ∷ o.Widen ∷ o.Open ∷ []

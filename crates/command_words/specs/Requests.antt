@@ -1,5 +1,5 @@
 -- What a command is asked for: its words, and the values of its options.
-use Rattle.std.specs.Prelude.{ℕ, List}
+use Rattle.std.specs.Prelude.{ℕ, Bool, List}
 use Rattle.command_words.specs.declared.bases.BaseName.{BaseName}
 use Rattle.command_words.specs.Code.{Code}
 use Rattle.command_words.specs.SpecNames.{SpecName}
@@ -19,13 +19,16 @@ pub record EmulateRequest : Type 0 where
   pub steps : ℕ
   pub calls : ℕ
 
--- an analysis over a base, where a counter has at most so many values
+-- An analysis over a base, where a counter has at most so many values, and so many changes of an element join before later ones
+-- widen. Left open, an address of which the analysis can not say what comes next ends no analysis.
 pub record AnalyseRequest : Type 0 where
   pub spec : SpecName
   pub code : Code
   pub entry : List ℕ
   pub base : BaseName
   pub limit : ℕ
+  pub joins : ℕ
+  pub «open» : Bool
 
 -- a table, against what it should be a table of
 pub record CheckRequest : Type 0 where

@@ -1,16 +1,16 @@
 -- What the words of the command line ask for: a request, or nothing where they have no form.
-use Rattle.std.specs.Prelude.{ℕ, Bool, ◌||◌, List, [], ◌∷◌, ◌++◌, Option, Some, None, if◌then◌else◌, is_none, option_map}
+use Rattle.std.specs.Prelude.{ℕ, Bool, ◌||◌, List, [], ◌∷◌, ◌++◌, Option, Some, None, if◌then◌else◌, not, option_map}
 use Rattle.std.specs.List.{list_all}
 use Rattle.command_words.specs.declared.commands.CommandName.{CommandName}
 use Rattle.command_words.specs.declared.commands.CommandName.TheVariants as c
 use Rattle.command_words.specs.Bases.{is_stamped}
 use Rattle.command_words.specs.Code.{Code, code_inputs, code_parts}
-use Rattle.command_words.specs.CommandLine.{Given, given_in, value_of}
+use Rattle.command_words.specs.CommandLine.{Given, given_in, is_given}
 use Rattle.command_words.specs.Commands.{command_named, takes}
 use Rattle.command_words.specs.Giving.{◌>>=◌}
 use Rattle.command_words.specs.Numbers.{address_in, decimal_in}
 use Rattle.command_words.specs.Options.{all_options}
-use Rattle.command_words.specs.OptionValues.{address_of, base_of, calls_of, limit_of, order_of, steps_of}
+use Rattle.command_words.specs.OptionValues.{address_of, base_of, calls_of, joins_of, limit_of, order_of, steps_of}
 use Rattle.command_words.specs.Requests.{AnalyseRequest, CallRequest, CheckRequest, ClaimsRequest, ConvertRequest, EmulateRequest, ListRequest, Request, SliceRequest, StressRequest, call, emulate, analyse, check, convert, list, slice, claims, stress}
 use Rattle.command_words.specs.SpecNames.{spec_in, spec_inputs}
 
@@ -44,7 +44,8 @@ analysis_of given spec word entry = do
   code ← code_of given word
   base ← base_of given
   limit ← limit_of given
-  Some (record { spec = spec_in spec; code = code; entry = entry; base = base; limit = limit })
+  joins ← joins_of given
+  Some (record { spec = spec_in spec; code = code; entry = entry; base = base; limit = limit; joins = joins; «open» = given.open })
 
 unfoldable pub analyse_of : Given → List (List ℕ) → Option AnalyseRequest
 analyse_of given (spec ∷ word ∷ entry ∷ []) = analysis_of given spec word entry
@@ -118,7 +119,7 @@ request_of c.Stress given = option_map stress (stress_of given given.words)
 
 -- no other option is given than those that the command takes
 abbrev pub takes_all : CommandName → Given → Bool
-takes_all command given = list_all (λ option. is_none (value_of given option) || takes command option) all_options
+takes_all command given = list_all (λ option. not (is_given given option) || takes command option) all_options
 
 -- what is given asks for
 unfoldable pub asked_by : Given → Option Request

@@ -70,8 +70,9 @@ impl CommandName {
                 option,
                 OptionName::At | OptionName::Order | OptionName::Steps | OptionName::Calls
             ),
-            CommandName::Analyse | CommandName::Check | CommandName::Slice | CommandName::Claims =>
-                is_of_analysis(option),
+            CommandName::Analyse => is_of_analysis(option)
+                || matches!(option, OptionName::Widen | OptionName::Open),
+            CommandName::Check | CommandName::Slice | CommandName::Claims => is_of_analysis(option),
             CommandName::Convert => matches!(
                 option,
                 OptionName::At | OptionName::Order | OptionName::Base

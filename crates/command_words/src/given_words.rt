@@ -1,8 +1,8 @@
 //! What the words give, by the command line as `clap` reads it.
 
-ghost use Rattle.std.specs.Prelude.{◌≡◌, [], IfOk, codes, unwrap_or};
-ghost use Rattle.clap.specs.Words.{all_of, app_of, first_of, found_of, rows_of, with_rule};
-ghost use Rattle.command_words.specs.CommandLine.{bare_line, command_line, given_by, given_in, option_rule, value_of};
+ghost use Rattle.std.specs.Prelude.{◌≡◌, [], IfOk, codes, false, unwrap_or};
+ghost use Rattle.clap.specs.Words.{all_of, app_of, first_of, found_of, rows_of, rule_of, with_rule};
+ghost use Rattle.command_words.specs.CommandLine.{bare_line, command_line, flag_of, flag_rule, given_by, given_in, is_given, option_rule, value_rule};
 ghost use Rattle.command_words.specs.Giving.{Gives};
 ghost use Rattle.command_words.specs.Options.{option_text};
 ghost use Rattle.command_words.specs.Views.{borrowed, borrowed_text, given_of, texts};
@@ -13,7 +13,7 @@ use clap::error::ErrorKind;
 use clap::{Arg, ArgAction, ArgMatches, Command};
 use std::alloc::{AllocError, Global};
 
-/// What words give: the command's name, the positional words after it, and the value of each option.
+/// What words give: the command's name, the positional words after it, the value of each option, and each flag.
 #[derive(Drop)]
 pub struct Given<'a> {
     pub command: Option<&'a str>,
@@ -24,20 +24,24 @@ pub struct Given<'a> {
     pub calls: Option<&'a str>,
     pub limit: Option<&'a str>,
     pub base: Option<&'a str>,
+    pub widen: Option<&'a str>,
+    pub open: bool,
 }
 
 impl<'a> Given<'a> {
-    /// The value of an option.
-    pub fn value_of(&self, option: OptionName) -> Option<&'a str>
-        ensures { borrowed_text result ≡ value_of (given_of self.now) option }
+    /// Whether an option is given.
+    pub fn is_given(&self, option: OptionName) -> bool
+        ensures { result ≡ is_given (given_of self.now) option }
     {
         match option {
-            OptionName::At => self.at,
-            OptionName::Order => self.order,
-            OptionName::Steps => self.steps,
-            OptionName::Calls => self.calls,
-            OptionName::Limit => self.limit,
-            OptionName::Base => self.base,
+            OptionName::At => self.at.is_some(),
+            OptionName::Order => self.order.is_some(),
+            OptionName::Steps => self.steps.is_some(),
+            OptionName::Calls => self.calls.is_some(),
+            OptionName::Limit => self.limit.is_some(),
+            OptionName::Base => self.base.is_some(),
+            OptionName::Widen => self.widen.is_some(),
+            OptionName::Open => self.open,
         }
     }
 }
@@ -86,7 +90,7 @@ fn bare_line<'a>(alloc: Global) -> Command<'a>
         .disable_version_flag(true)
 }
 
-/// A command with one option more, which takes a value.
+/// A command with one option more.
 fn with_option<'a>(
     alloc: Global,
     command: Command<'a>,
@@ -94,8 +98,37 @@ fn with_option<'a>(
 ) -> Result<Command<'a>, AllocError>
     ensures { IfOk result (λ more. app_of more ≡ with_rule (app_of command.entry) (option_rule option)) }
 {
+    command.arg(argument(alloc, option))
+}
+
+/// The argument of an option.
+fn argument<'a>(alloc: Global, option: OptionName) -> Arg<'a>
+    ensures rule { rule_of result ≡ option_rule option }
+    ensures local { result.global ≡ false }
+{
+    if option.has_value() {
+        value_argument(alloc, option)
+    } else {
+        flag_argument(alloc, option)
+    }
+}
+
+/// An option that takes one value.
+fn value_argument<'a>(alloc: Global, option: OptionName) -> Arg<'a>
+    ensures rule { rule_of result ≡ value_rule option }
+    ensures local { result.global ≡ false }
+{
     let name: &'a str = option.name();
-    command.arg(Arg::new(alloc, name).long(name))
+    Arg::new(alloc, name).long(name)
+}
+
+/// A flag.
+fn flag_argument<'a>(alloc: Global, option: OptionName) -> Arg<'a>
+    ensures rule { rule_of result ≡ flag_rule option }
+    ensures local { result.global ≡ false }
+{
+    let name: &'a str = option.name();
+    Arg::new(alloc, name).action(ArgAction::SetTrue).long(name)
 }
 
 /// What a parse found.
@@ -111,6 +144,8 @@ fn given_by<'a>(alloc: Global, matches: &ArgMatches<'a>) -> Result<Given<'a>, Al
         calls: option_value(matches, OptionName::Calls),
         limit: option_value(matches, OptionName::Limit),
         base: option_value(matches, OptionName::Base),
+        widen: option_value(matches, OptionName::Widen),
+        open: flag(matches, OptionName::Open),
     })
 }
 
@@ -130,4 +165,14 @@ fn option_value<'a>(matches: &ArgMatches<'a>, option: OptionName) -> Option<&'a 
     ensures { borrowed_text result ≡ first_of (option_text option) (rows_of (found_of matches.now)) }
 {
     matches.get_str(option.name())
+}
+
+/// Whether a parse found a flag.
+fn flag(matches: &ArgMatches, option: OptionName) -> bool
+    ensures { result ≡ flag_of (option_text option) (rows_of (found_of matches.now)) }
+{
+    match matches.get_str(option.name()) {
+        Some(text) => text == "true",
+        None => false,
+    }
 }

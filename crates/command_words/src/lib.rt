@@ -1,6 +1,6 @@
 //! What the words of the command line ask for.
 //!
-//! The words are one simple command of `clap`: the command's name, its positional words, and options that each take a value
+//! The words are one simple command of `clap`: the command's name, its positional words, options that each take a value, and a flag
 //! (specs/CommandLine). Which words such a command takes, and what they give, is said by clap's own definitions; this crate
 //! cites them and adds what each command needs beyond that: the number of its words, the options that it takes, and the form of
 //! each value (specs/Words, one place for each command).
@@ -9,12 +9,12 @@
 //! |---|---|---|
 //! | `call` | SPEC FUN, and any number of numbers | `--calls` |
 //! | `emulate` | SPEC CODE ENTRY | `--at`, `--order`, `--steps`, `--calls` |
-//! | `analyse` | SPEC CODE ENTRY | `--at`, `--order`, `--base`, `--limit` |
-//! | `check` | SPEC CODE ENTRY TABLE | those of `analyse` |
+//! | `analyse` | SPEC CODE ENTRY | `--at`, `--order`, `--base`, `--limit`, `--widen`, `--open` |
+//! | `check` | SPEC CODE ENTRY TABLE | `--at`, `--order`, `--base`, `--limit` |
 //! | `convert` | SPEC CODE TABLE | `--at`, `--order`, `--base` |
 //! | `list` | SPEC CODE | `--at`, `--order` |
-//! | `slice` | SPEC CODE ENTRY TABLE ADDRESS CELL, over a base with stamps | those of `analyse` |
-//! | `claims` | SPEC CODE ENTRY TABLE CLAIMS | those of `analyse` |
+//! | `slice` | SPEC CODE ENTRY TABLE ADDRESS CELL, over a base with stamps | those of `check` |
+//! | `claims` | SPEC CODE ENTRY TABLE CLAIMS | those of `check` |
 //! | `stress` | NUMBER COUNT | `--base` |
 //!
 //! What is proved: `read_words` answers a request exactly where the words have a form, and it is the one that they ask for; it
@@ -84,5 +84,5 @@ fn asked_by<'a>(alloc: Global, given: &Given<'a>) -> Result<Request<'a>, WordsEr
 fn takes_all(command: CommandName, given: &Given) -> bool
     ensures { result ≡ takes_all command (given_of given.now) }
 {
-    OptionName::ALL.iter().all(|option| given.value_of(*option).is_none() || command.takes(*option))
+    OptionName::ALL.iter().all(|option| !given.is_given(*option) || command.takes(*option))
 }

@@ -1,7 +1,7 @@
 //! The values of the options, each with its form and its default.
 
 ghost use Rattle.std.specs.Prelude.{◌≡◌};
-ghost use Rattle.command_words.specs.OptionValues.{address_of, base_of, calls_of, limit_of, order_of, steps_of};
+ghost use Rattle.command_words.specs.OptionValues.{address_of, base_of, calls_of, joins_of, limit_of, order_of, steps_of};
 ghost use Rattle.command_words.specs.Views.{given_of};
 
 use crate::bases::BaseName;
@@ -14,6 +14,8 @@ const DEFAULT_STEPS: u32 = 1_000_000;
 const DEFAULT_CALLS: u32 = 4096;
 
 const DEFAULT_LIMIT: u32 = 64;
+
+const DEFAULT_JOINS: u32 = 3;
 
 /// The base address of the first part of the code.
 pub fn base_address(given: &Given) -> Option<u32>
@@ -77,6 +79,21 @@ pub fn limit(given: &Given) -> Option<u32>
     match given.limit {
         Some(text) => decimal(text, form),
         None => Some(DEFAULT_LIMIT),
+    }
+}
+
+/// How many changes of an element join before later ones widen: all before the one that the option names.
+pub fn joins(given: &Given) -> Option<u32>
+    ensures { result ≡ joins_of (given_of given.now) }
+{
+    let form = DecimalForm {
+        most_digits: 2,
+        least: 1,
+        greatest: 64,
+    };
+    match given.widen {
+        Some(text) => Some(decimal(text, form)? - 1),
+        None => Some(DEFAULT_JOINS),
     }
 }
 

@@ -1,7 +1,7 @@
 //! The options of all commands.
 
 ghost use Rattle.std.specs.Prelude.{◌≡◌};
-ghost use Rattle.command_words.specs.Options.{option_text};
+ghost use Rattle.command_words.specs.Options.{has_value, option_text};
 
 /// An option, of some commands or of others.
 #[derive(Clone, Copy)]
@@ -12,17 +12,21 @@ pub enum OptionName {
     Calls,
     Limit,
     Base,
+    Widen,
+    Open,
 }
 
 impl OptionName {
     /// All options.
-    pub const ALL: [OptionName; 6] = [
+    pub const ALL: [OptionName; 8] = [
         OptionName::At,
         OptionName::Order,
         OptionName::Steps,
         OptionName::Calls,
         OptionName::Limit,
         OptionName::Base,
+        OptionName::Widen,
+        OptionName::Open,
     ];
 
     /// The name that stands after `--`.
@@ -36,6 +40,15 @@ impl OptionName {
             OptionName::Calls => "calls",
             OptionName::Limit => "limit",
             OptionName::Base => "base",
+            OptionName::Widen => "widen",
+            OptionName::Open => "open",
         }
+    }
+
+    /// Whether it takes a value; any other is a flag.
+    pub fn has_value(self) -> bool
+        ensures { result ≡ has_value self }
+    {
+        !matches!(self, OptionName::Open)
     }
 }

@@ -12,7 +12,7 @@ use crate::code_word::{Code, code_parts};
 use crate::commands::CommandName;
 use crate::given_words::Given;
 use crate::numbers::{DecimalForm, address, decimal};
-use crate::option_values::{base, base_address, calls, limit, order, steps};
+use crate::option_values::{base, base_address, calls, joins, limit, order, steps};
 use crate::requests::{
     AnalyseRequest, CallRequest, CheckRequest, ClaimsRequest, ConvertRequest, EmulateRequest,
     ListRequest, Request, SliceRequest, StressRequest,
@@ -133,6 +133,9 @@ fn analysis<'a>(
     let Some(limit) = limit(given) else {
         return Err(WordsError::BadWords);
     };
+    let Some(joins) = joins(given) else {
+        return Err(WordsError::BadWords);
+    };
     let code = code(alloc, given, word)?;
     Ok(AnalyseRequest {
         spec: SpecName::of(spec),
@@ -140,6 +143,8 @@ fn analysis<'a>(
         entry,
         base,
         limit,
+        joins,
+        open: given.open,
     })
 }
 

@@ -36,6 +36,10 @@ pub struct AnalyseRequest<'a> {
     pub base: BaseName,
     /// How many values a counter has at most.
     pub limit: u32,
+    /// How many changes of an element join before later ones widen.
+    pub joins: u32,
+    /// Whether an address of which the analysis can not say what comes next ends no analysis.
+    pub open: bool,
 }
 
 /// Whether a table is closed.

@@ -62,7 +62,7 @@ module _ {X E W N C : Type 0} (own : Own X E W N C) (p : Problem) (image : Image
   -- a stop with its refusal
   pub own_stop : (error : AnalyseError W) (halt : Halt) → AnalysisLaws (analysis (as_defined own) p) → IsErrorOf (analysis (as_defined own) p) error → Refuses own.word_text error halt → Stops (OwnComesTo own p image base) halt
   own_stop (stop.Undecodable at word trace) halt laws stops is = subst (λ h. Stops (OwnComesTo own p image base) h) (sym is) (trace.items, legal_traces_are_short (analysis (as_defined own) p) laws trace.items stops.0, stops)
-  own_stop (stop.TooManyTargets at shown trace) (Refused (TooManyTargets a s)) laws stops is = (trace.items, shown, legal_traces_are_short (analysis (as_defined own) p) laws trace.items stops.0, subst (λ n. IsStopOf (analysis (as_defined own) p) trace.items n (too_many shown)) (sym is.0) stops, is.1)
+  own_stop (stop.TooManyTargets at shown trace) (Refused (TooManyTargets a s)) laws stops is = (trace.items, shown, stops.0, legal_traces_are_short (analysis (as_defined own) p) laws trace.items stops.1.0, subst (λ n. IsStopOf (analysis (as_defined own) p) trace.items n (too_many shown stops.0)) (sym is.0) stops.1, is.1)
   own_stop (stop.TooManyTargets at shown trace) NoMemory laws stops is = tt
   own_stop (stop.TooManyTargets at shown trace) (Refused BadWords) laws stops is = absurd is
   own_stop (stop.TooManyTargets at shown trace) (Refused NotBuilt) laws stops is = absurd is

@@ -1,6 +1,7 @@
 pub mod Claims
 pub mod Closed
 pub mod Comes
+pub mod Open
 pub mod Own
 pub mod Prepared
 pub mod Read

@@ -1,5 +1,5 @@
 -- What is asked comes to with the elements of the code, which are seen as the plain ones of definitions.
-use Rattle.std.specs.Prelude.{◌≡◌, ℕ, false, List, [], Option, Ok, Err, codes, option_map}
+use Rattle.std.specs.Prelude.{◌≡◌, ℕ, false, List, [], Option, Ok, Err, option_map}
 use Rattle.base_trait.specs.Algebra.{Algebra}
 use Rattle.claim_laws.specs.Answers.{Telling}
 use Rattle.tsl_values.specs.States.{State}
@@ -27,7 +27,7 @@ use Rattle.run_steps.specs.Outcome.{Outcome, table_refused, text}
 use Rattle.analysis_domains.specs.Analyses.{IsShort, IsStop, analysis}
 use Rattle.analysis_domains.specs.Domains.{DomainOf}
 use Rattle.analysis_domains.specs.Tasks.{Task}
-use Rattle.analysis_domains.specs.Work.{most_work}
+use Rattle.analysis_domains.specs.Work.{IsWork}
 
 -- The elements X of the code, how they are seen, and the domain that their calls make.
 pub record Own (X E W N C : Type 0) : Type 1 where
@@ -109,7 +109,7 @@ module _ {X E W N C : Type 0} (own : Own X E W N C) where
     rewritten : (table : Table X) (new : List ℕ) → IsTableIn own.Reads spec base image bytes (listings (λ x. x) table) → IsTableText (own.IsText spec) spec image base (listings (λ x. x) table) new
         → OwnRewrites spec image base bytes (Ok (text new))
 
-  -- ---- how many transfers it takes at most
+  -- ---- how many transfers it takes
 
-  abbrev pub own_work : Task → ℕ
-  own_work = most_work as_defined
+  abbrev pub OwnWork : Image → List ℕ → Task → ℕ → ℕ → Type 0
+  OwnWork = IsWork as_defined

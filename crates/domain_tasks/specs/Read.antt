@@ -1,5 +1,5 @@
 -- What is asked of a domain, as it was read, and what the code's analyses come to.
-use Rattle.std.specs.Prelude.{◌≡◌, ℕ, ◌<◌, ◌-◌, ◌^◌, IsSome, List, length, Ok, Some}
+use Rattle.std.specs.Prelude.{◌≡◌, ℕ, ◌<◌, ◌-◌, ◌^◌, IsSome, List, length, Some}
 use Rattle.std.specs.String.{string_bytes}
 use Rattle.spec_types.specs.declared.spec.Machine.{Machine}
 use Rattle.spec_types.specs.Specification.{Spec}
@@ -19,7 +19,7 @@ use Rattle.run_steps.specs.declared.outcome.Halt.TheVariants.{NoMemory, Refused}
 use Rattle.run_steps.specs.declared.outcome.Refusal.TheVariants.{UndecodableAt, TooManyTargets}
 use Rattle.domain_tasks.specs.declared.task.Start.{Start}
 use Rattle.domain_tasks.specs.declared.task.Task.{Task}
-use Rattle.domain_tasks.specs.declared.task.Task.TheVariants.{Analyse, Check, Claims, Convert, Slice}
+use Rattle.domain_tasks.specs.declared.task.Task.TheVariants.{Analyse, AnalyseOpen, Check, Claims, Convert, Slice}
 
 -- The specification is accepted, this is its machine, its states have fields with 32-bit numbers, and the entry was read from some text.
 pub record IsRead (spec : Spec) (machine : Machine) (entry : Entry) : Type 0 where
@@ -37,10 +37,11 @@ pub record IsMachine (spec : Spec) : Type 0 where
 -- ---- what is asked
 
 abbrev pub problem_at : Spec → Image → Start → Problem
-problem_at spec image start = problem_of spec start.machine image (entry_of start.entry.now) start.limit
+problem_at spec image start = problem_of spec start.machine image (entry_of start.entry.now) start.limit start.joins
 
 abbrev pub task_of : Spec → Image → Task → asked.Task
 task_of spec image (Analyse start) = asked.analyse (problem_at spec image start)
+task_of spec image (AnalyseOpen start) = asked.analyse_open (problem_at spec image start)
 task_of spec image (Check start table) = asked.check (problem_at spec image start) table.now
 task_of spec image (Convert table) = asked.convert spec table.now
 task_of spec image (Slice start table at cell) = asked.slice (problem_at spec image start) table.now at cell
@@ -49,6 +50,7 @@ task_of spec image (Claims start table claims) = asked.claims (problem_at spec i
 -- what was read is so, and texts are not too long
 abbrev pub IsAsked : Spec → Task → Type 0
 IsAsked spec (Analyse start) = IsRead spec start.machine (entry_of start.entry.now)
+IsAsked spec (AnalyseOpen start) = IsRead spec start.machine (entry_of start.entry.now)
 IsAsked spec (Check start table) = IsRead spec start.machine (entry_of start.entry.now) × (length table.now < 2 ^ 32)
 IsAsked spec (Convert table) = IsMachine spec × (length table.now < 2 ^ 32)
 IsAsked spec (Slice start table at cell) = IsRead spec start.machine (entry_of start.entry.now) × (length table.now < 2 ^ 32)

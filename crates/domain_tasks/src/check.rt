@@ -6,7 +6,7 @@ ghost use Rattle.spec_types.specs.Views.{specification};
 ghost use Rattle.state_text.specs.Reading.{entry_of};
 ghost use Rattle.run_steps.specs.Outcomes.{Gives, answer_of};
 ghost use Rattle.analysis_domains.specs.Checks.{accepted_line};
-ghost use Rattle.domain_tasks.specs.Own.{OwnJudges, own_work};
+ghost use Rattle.domain_tasks.specs.Own.{OwnJudges, OwnWork};
 ghost use Rattle.analysis_domains.specs.Tasks as asked;
 ghost use Rattle.domain_tasks.specs.Read.{IsRead, IsTextOf, problem_at};
 
@@ -42,7 +42,7 @@ pub(crate) fn checked_in<'a, 'b, D: NamedDomain, L: Ledger>(
     requires read { IsRead (specification it.now.spec.now) start.now.machine (entry_of start.now.entry.now) }
     requires short { length bytes.now < 2 ^ 32 }
     ensures gives { Gives (OwnJudges (record { base = D.B.algebra; cap = D.B.CAP; elements = D.elements domain.now; meaning = D.meaning domain.now; view = D.view; IsText = D.IsText; Reads = D.Reads domain.now; word_text = D.word_text }) (problem_at (specification it.now.spec.now) it.now.image.now start.now) it.now.image.now (base_text base) bytes.now) answer_of result }
-    ensures work { steps.new ≤ steps.old + own_work (record { base = D.B.algebra; cap = D.B.CAP; elements = D.elements domain.now; meaning = D.meaning domain.now; view = D.view; IsText = D.IsText; Reads = D.Reads domain.now; word_text = D.word_text }) (asked.check (problem_at (specification it.now.spec.now) it.now.image.now start.now) bytes.now) }
+    ensures work { OwnWork (record { base = D.B.algebra; cap = D.B.CAP; elements = D.elements domain.now; meaning = D.meaning domain.now; view = D.view; IsText = D.IsText; Reads = D.Reads domain.now; word_text = D.word_text }) it.now.image.now (base_text base) (asked.check (problem_at (specification it.now.spec.now) it.now.image.now start.now) bytes.now) steps.old steps.new }
 {
     let table = read_table::<D>(alloc, domain, it.spec, it.image, base, bytes)?;
     let verdict = verdict_in::<D, L>(alloc, domain, it, start, &table, steps)?;

@@ -14,7 +14,7 @@ ghost use Rattle.claim_text.specs.Answers.{answers};
 ghost use Rattle.run_steps.specs.Outcomes.{Gives, answer_of};
 ghost use Rattle.domain_tasks.specs.Claims.{OwnClaims};
 ghost use Rattle.analysis_domains.specs.Tasks as asked;
-ghost use Rattle.domain_tasks.specs.Own.{own_work};
+ghost use Rattle.domain_tasks.specs.Own.{OwnWork};
 ghost use Rattle.domain_tasks.specs.Read.{IsRead, IsTextOf, problem_at};
 
 use crate::task::{Start, Subject};
@@ -64,7 +64,7 @@ pub(crate) fn claimed_in<'a, 'b, D: NamedDomain, L: Ledger>(
     requires short { length bytes.now < 2 ^ 32 }
     requires few { length list.now < 2 ^ 32 - 1 }
     ensures gives { Gives (OwnClaims (record { base = D.B.algebra; cap = D.B.CAP; elements = D.elements domain.now; meaning = D.meaning domain.now; view = D.view; IsText = D.IsText; Reads = D.Reads domain.now; word_text = D.word_text }) (D.telling domain.now) (problem_at (specification it.now.spec.now) it.now.image.now start.now) it.now.image.now (base_text base) bytes.now list.now) answer_of result }
-    ensures work { steps.new ≤ steps.old + own_work (record { base = D.B.algebra; cap = D.B.CAP; elements = D.elements domain.now; meaning = D.meaning domain.now; view = D.view; IsText = D.IsText; Reads = D.Reads domain.now; word_text = D.word_text }) (asked.claims (problem_at (specification it.now.spec.now) it.now.image.now start.now) bytes.now list.now) }
+    ensures work { OwnWork (record { base = D.B.algebra; cap = D.B.CAP; elements = D.elements domain.now; meaning = D.meaning domain.now; view = D.view; IsText = D.IsText; Reads = D.Reads domain.now; word_text = D.word_text }) it.now.image.now (base_text base) (asked.claims (problem_at (specification it.now.spec.now) it.now.image.now start.now) bytes.now list.now) steps.old steps.new }
 {
     let table = read_table::<D>(alloc, domain, it.spec, it.image, base, bytes)?;
     let claims = read_claims::<D>(alloc, domain, it.spec, it.image, list)?;

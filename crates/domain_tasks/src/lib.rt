@@ -12,6 +12,7 @@
 mod check;
 mod claims;
 mod convert;
+mod left_open;
 mod over;
 mod prepared;
 mod slice;

@@ -1,16 +1,17 @@
 //! What is asked, in a domain.
 
-ghost use Rattle.std.specs.Prelude.{◌≡◌, ◌≤◌, ◌+◌, ◌⊎◌, IsTrue};
+ghost use Rattle.std.specs.Prelude.{◌≡◌, ◌⊎◌, IsTrue};
 ghost use Rattle.command_words.specs.Bases.{base_text};
 ghost use Rattle.spec_types.specs.Views.{specification};
 ghost use Rattle.run_steps.specs.Outcomes.{Gives, answer_of};
 ghost use Rattle.domain_tasks.specs.Comes.{OwnComes};
-ghost use Rattle.domain_tasks.specs.Own.{own_work};
+ghost use Rattle.domain_tasks.specs.Own.{OwnWork};
 ghost use Rattle.domain_tasks.specs.Read.{IsAsked, task_of};
 
 use crate::check::checked_in;
 use crate::claims::claimed_in;
 use crate::convert::converted_in;
+use crate::left_open::opened_in;
 use crate::slice::sliced_in;
 use crate::table::analysed_in;
 use crate::task::{Subject, Task};
@@ -33,10 +34,11 @@ fn done_in<'a, 'b, D: NamedDomain, L: Ledger>(
     requires made { IsTrue (D.is_for domain.now (specification it.now.spec.now)) }
     requires asked { IsAsked (specification it.now.spec.now) it.now.task }
     ensures gives { Gives (OwnComes (record { base = D.B.algebra; cap = D.B.CAP; elements = D.elements domain.now; meaning = D.meaning domain.now; view = D.view; IsText = D.IsText; Reads = D.Reads domain.now; word_text = D.word_text }) (D.telling domain.now) it.now.image.now (base_text base) (task_of (specification it.now.spec.now) it.now.image.now it.now.task)) answer_of result }
-    ensures work { steps.new ≤ steps.old + own_work (record { base = D.B.algebra; cap = D.B.CAP; elements = D.elements domain.now; meaning = D.meaning domain.now; view = D.view; IsText = D.IsText; Reads = D.Reads domain.now; word_text = D.word_text }) (task_of (specification it.now.spec.now) it.now.image.now it.now.task) }
+    ensures work { OwnWork (record { base = D.B.algebra; cap = D.B.CAP; elements = D.elements domain.now; meaning = D.meaning domain.now; view = D.view; IsText = D.IsText; Reads = D.Reads domain.now; word_text = D.word_text }) it.now.image.now (base_text base) (task_of (specification it.now.spec.now) it.now.image.now it.now.task) steps.old steps.new }
 {
     match &it.task {
         Task::Analyse(start) => analysed_in::<D, L>(alloc, domain, it, start, base, steps),
+        Task::AnalyseOpen(start) => opened_in::<D, L>(alloc, domain, it, start, base, steps),
         Task::Check(start, bytes) => checked_in::<D, L>(
             alloc, domain, it, start, base, bytes, steps,
         ),
@@ -61,7 +63,7 @@ pub fn in_domain<'a, 'b, D: NamedDomain, L: Ledger>(
     requires asked { IsAsked (specification it.now.spec.now) it.now.task }
     ensures gives { Gives (λ outcome. (d : D) × IsTrue (D.is_for d (specification it.now.spec.now)) × OwnComes (record { base = D.B.algebra; cap = D.B.CAP; elements = D.elements d; meaning = D.meaning d; view = D.view; IsText = D.IsText; Reads = D.Reads d; word_text = D.word_text }) (D.telling d) it.now.image.now (base_text base) (task_of (specification it.now.spec.now) it.now.image.now it.now.task) outcome) answer_of result }
     // Either nothing was done, or at most what the domain that was made takes.
-    ensures work { (steps.new ≡ steps.old) ⊎ ((d : D) × IsTrue (D.is_for d (specification it.now.spec.now)) × (steps.new ≤ steps.old + own_work (record { base = D.B.algebra; cap = D.B.CAP; elements = D.elements d; meaning = D.meaning d; view = D.view; IsText = D.IsText; Reads = D.Reads d; word_text = D.word_text }) (task_of (specification it.now.spec.now) it.now.image.now it.now.task))) }
+    ensures work { (steps.new ≡ steps.old) ⊎ ((d : D) × IsTrue (D.is_for d (specification it.now.spec.now)) × (OwnWork (record { base = D.B.algebra; cap = D.B.CAP; elements = D.elements d; meaning = D.meaning d; view = D.view; IsText = D.IsText; Reads = D.Reads d; word_text = D.word_text }) it.now.image.now (base_text base) (task_of (specification it.now.spec.now) it.now.image.now it.now.task) steps.old steps.new)) }
 {
     let domain = D::made(alloc, it.spec)?;
     done_in::<D, L>(alloc, &domain, it, base, steps)

@@ -8,7 +8,7 @@ ghost use Rattle.state_text.specs.Reading.{entry_of};
 ghost use Rattle.run_steps.specs.Outcomes.{Gives, answer_of};
 ghost use Rattle.analysis_domains.specs.Slices.{IsSliceText};
 ghost use Rattle.analysis_domains.specs.Tasks as asked;
-ghost use Rattle.domain_tasks.specs.Own.{own_work};
+ghost use Rattle.domain_tasks.specs.Own.{OwnWork};
 ghost use Rattle.domain_tasks.specs.Read.{IsRead, IsTextOf, problem_at};
 ghost use Rattle.domain_tasks.specs.Slices.{OwnSlices};
 
@@ -57,7 +57,7 @@ pub(crate) fn sliced_in<'a, 'b, D: NamedDomain, L: Ledger>(
     requires read { IsRead (specification it.now.spec.now) start.now.machine (entry_of start.now.entry.now) }
     requires short { length bytes.now < 2 ^ 32 }
     ensures gives { Gives (OwnSlices (record { base = D.B.algebra; cap = D.B.CAP; elements = D.elements domain.now; meaning = D.meaning domain.now; view = D.view; IsText = D.IsText; Reads = D.Reads domain.now; word_text = D.word_text }) (problem_at (specification it.now.spec.now) it.now.image.now start.now) it.now.image.now (base_text base) bytes.now at cell) answer_of result }
-    ensures work { steps.new ≤ steps.old + own_work (record { base = D.B.algebra; cap = D.B.CAP; elements = D.elements domain.now; meaning = D.meaning domain.now; view = D.view; IsText = D.IsText; Reads = D.Reads domain.now; word_text = D.word_text }) (asked.slice (problem_at (specification it.now.spec.now) it.now.image.now start.now) bytes.now at cell) }
+    ensures work { OwnWork (record { base = D.B.algebra; cap = D.B.CAP; elements = D.elements domain.now; meaning = D.meaning domain.now; view = D.view; IsText = D.IsText; Reads = D.Reads domain.now; word_text = D.word_text }) it.now.image.now (base_text base) (asked.slice (problem_at (specification it.now.spec.now) it.now.image.now start.now) bytes.now at cell) steps.old steps.new }
 {
     let table = read_table::<D>(alloc, domain, it.spec, it.image, base, bytes)?;
     let verdict = verdict_in::<D, L>(alloc, domain, it, start, &table, steps)?;

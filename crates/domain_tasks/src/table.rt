@@ -10,7 +10,7 @@ ghost use Rattle.transfer.specs.Analysis.{problem};
 ghost use Rattle.table_text.specs.Tables.{IsTableText};
 ghost use Rattle.run_steps.specs.Outcomes.{Gives, answer_of};
 ghost use Rattle.analysis_domains.specs.Tasks as asked;
-ghost use Rattle.domain_tasks.specs.Own.{OwnComesTo, own_work};
+ghost use Rattle.domain_tasks.specs.Own.{OwnComesTo, OwnWork};
 ghost use Rattle.domain_tasks.specs.Read.{IsRead, Refuses, IsTextOf, problem_at};
 
 use crate::prepared::prepare;
@@ -85,7 +85,7 @@ fn come_to<'a, 'b, D: NamedDomain, L: Ledger>(
 ) -> Result<Answer, Halt<'b>>
     requires ready { ⟦<ImageAnalysis<'a, D> as Analyser>⟧.IsReady it.now }
     ensures gives { Gives (OwnComesTo (record { base = D.B.algebra; cap = D.B.CAP; elements = D.elements it.now.domain.now; meaning = D.meaning it.now.domain.now; view = D.view; IsText = D.IsText; Reads = D.Reads it.now.domain.now; word_text = D.word_text }) (problem it.now) it.now.image.now (base_text base)) answer_of result }
-    ensures work { steps.new ≤ steps.old + own_work (record { base = D.B.algebra; cap = D.B.CAP; elements = D.elements it.now.domain.now; meaning = D.meaning it.now.domain.now; view = D.view; IsText = D.IsText; Reads = D.Reads it.now.domain.now; word_text = D.word_text }) (asked.analyse (problem it.now)) }
+    ensures work { OwnWork (record { base = D.B.algebra; cap = D.B.CAP; elements = D.elements it.now.domain.now; meaning = D.meaning it.now.domain.now; view = D.view; IsText = D.IsText; Reads = D.Reads it.now.domain.now; word_text = D.word_text }) it.now.image.now (base_text base) (asked.analyse (problem it.now)) steps.old steps.new }
 {
     match analyse(alloc, it, steps) {
         Ok(
@@ -111,7 +111,7 @@ pub(crate) fn analysed_in<'a, 'b, D: NamedDomain, L: Ledger>(
     requires made { IsTrue (D.is_for domain.now (specification it.now.spec.now)) }
     requires read { IsRead (specification it.now.spec.now) start.now.machine (entry_of start.now.entry.now) }
     ensures gives { Gives (OwnComesTo (record { base = D.B.algebra; cap = D.B.CAP; elements = D.elements domain.now; meaning = D.meaning domain.now; view = D.view; IsText = D.IsText; Reads = D.Reads domain.now; word_text = D.word_text }) (problem_at (specification it.now.spec.now) it.now.image.now start.now) it.now.image.now (base_text base)) answer_of result }
-    ensures work { steps.new ≤ steps.old + own_work (record { base = D.B.algebra; cap = D.B.CAP; elements = D.elements domain.now; meaning = D.meaning domain.now; view = D.view; IsText = D.IsText; Reads = D.Reads domain.now; word_text = D.word_text }) (asked.analyse (problem_at (specification it.now.spec.now) it.now.image.now start.now)) }
+    ensures work { OwnWork (record { base = D.B.algebra; cap = D.B.CAP; elements = D.elements domain.now; meaning = D.meaning domain.now; view = D.view; IsText = D.IsText; Reads = D.Reads domain.now; word_text = D.word_text }) it.now.image.now (base_text base) (asked.analyse (problem_at (specification it.now.spec.now) it.now.image.now start.now)) steps.old steps.new }
 {
     read_problems_are_well_posed();
     it.image.is_kept();
@@ -126,6 +126,7 @@ pub(crate) fn analysed_in<'a, 'b, D: NamedDomain, L: Ledger>(
         image: it.image,
         entry: start.entry,
         limit: start.limit,
+        joins: start.joins,
     };
     come_to::<D, L>(alloc, &analysis, base, steps)
 }

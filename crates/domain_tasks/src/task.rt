@@ -5,12 +5,14 @@ use slice_text::Asked;
 use spec_types::{Machine, Spec};
 use tsl_values::Entry;
 
-/// Where an analysis begins: a machine, an entry of its states, and how many targets an instruction may have.
+/// Where an analysis begins: a machine, an entry of its states, how many targets an instruction may have, and how many changes of an
+/// element join before later ones widen.
 #[derive(Clone, Copy)]
 pub struct Start<'a> {
     pub machine: Machine,
     pub entry: &'a Entry,
     pub limit: u32,
+    pub joins: u32,
 }
 
 /// What is asked.
@@ -18,6 +20,8 @@ pub struct Start<'a> {
 pub enum Task<'a> {
     /// The table of the analysis.
     Analyse(Start<'a>),
+    /// The same, where what has no decoding or too many targets is left open.
+    AnalyseOpen(Start<'a>),
     /// The verdict on the table that a text is.
     Check(Start<'a>, &'a [u8]),
     /// The table that a text is, written in format 2.

@@ -1,6 +1,8 @@
 //! The verdict on a table that was read, in a domain.
 
-ghost use Rattle.std.specs.Prelude.{◌≡◌, ◌≤◌, ◌+◌, IfOk, IsTrue, length};
+ghost use Rattle.std.specs.BTreeMap.{IsOrdered, btree_map_len};
+ghost use Rattle.std.specs.Ordering.{nat_cmp};
+ghost use Rattle.std.specs.Prelude.{◌≡◌, ◌≤◌, ◌+◌, IfOk, IsTrue};
 ghost use Rattle.spec_types.specs.Views.{specification};
 ghost use Rattle.fixed_point.specs.Table.{TableFits};
 ghost use Rattle.fixed_point.specs.Views.{listings};
@@ -65,10 +67,8 @@ fn verdict_on<'a, D: NamedDomain, L: Ledger>(
     requires ready { ⟦<ImageAnalysis<'a, D> as Analyser>⟧.IsReady it.now }
     requires fits { TableFits (⟦<ImageAnalysis<'a, D> as Analyser>⟧.analysis it.now) (listings D.view table.now) }
     ensures verdict { IfOk result (λ v. IsOwnVerdict (record { base = D.B.algebra; cap = D.B.CAP; elements = D.elements it.now.domain.now; meaning = D.meaning it.now.domain.now; view = D.view; IsText = D.IsText; Reads = D.Reads it.now.domain.now; word_text = D.word_text }) (problem it.now) table.now v) }
-    ensures work { steps.new ≤ steps.old + length (problem it.now).addresses }
+    ensures work { steps.new ≤ steps.old + btree_map_len table.now.blocks }
 {
-    // (that the map is in order bounds how many blocks there are)
-    let _blocks = table.blocks.len();
     check(alloc, it, table, steps)
 }
 
@@ -86,8 +86,11 @@ pub(crate) fn verdict_in<'a, D: NamedDomain, L: Ledger>(
     requires read { IsRead (specification it.now.spec.now) start.now.machine (entry_of start.now.entry.now) }
     requires fits { BlocksFit (is_word_of it.now.image.now) (λ x. (D.elements domain.now).fits (D.view x)) (listings (λ x. x) table.now) }
     ensures verdict { IfOk result (λ v. IsOwnVerdict (record { base = D.B.algebra; cap = D.B.CAP; elements = D.elements domain.now; meaning = D.meaning domain.now; view = D.view; IsText = D.IsText; Reads = D.Reads domain.now; word_text = D.word_text }) (problem_at (specification it.now.spec.now) it.now.image.now start.now) table.now v) }
-    ensures work { steps.new ≤ steps.old + length (problem_at (specification it.now.spec.now) it.now.image.now start.now).addresses }
+    ensures ordered { IsOrdered nat_cmp table.now.blocks }
+    ensures work { steps.new ≤ steps.old + btree_map_len table.now.blocks }
 {
+    // (that the map is in order bounds how many blocks there are)
+    let _blocks = table.blocks.len();
     read_problems_are_well_posed();
     it.image.is_kept();
     let with = prepare(alloc, it.spec)?;
@@ -101,6 +104,7 @@ pub(crate) fn verdict_in<'a, D: NamedDomain, L: Ledger>(
         image: it.image,
         entry: start.entry,
         limit: start.limit,
+        joins: start.joins,
     };
     verdict_on::<D, L>(alloc, &analysis, table, steps)
 }

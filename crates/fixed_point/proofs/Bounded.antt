@@ -103,7 +103,7 @@ module _ {E W S : Type 0} (A : Analysis E W S) (laws : AnalysisLaws A) where
   post_of : (stamps : List Stamped) (given : Outcome E W) → AreAmong stamps (stamps_of A.code) → IfPost A.elements.fits given
       → IfPost (λ post. AreAmong (A.elements.listed post) stamps) given → IfPost (IsOf A) given
   post_of stamps (undecodable word) k fits lists = tt
-  post_of stamps (too_many shown) k fits lists = tt
+  post_of stamps (too_many shown uses) k fits lists = tt
   post_of stamps (moves targets None uses) k fits lists = tt
   post_of stamps (moves targets (Some x) uses) k fits lists = (fits, lists_on (A.elements.listed x) stamps (stamps_of A.code) lists k)
 

@@ -13,7 +13,7 @@ module _ {E W S : Type 0} (A : Analysis E W S) (laws : AnalysisLaws A) where
   -- what a transfer gives is met at each target
   abbrev pub IsAnswered : Play E → Outcome E W → Type 0
   IsAnswered p (undecodable word) = ⊥
-  IsAnswered p (too_many shown) = ⊥
+  IsAnswered p (too_many shown uses) = ⊥
   IsAnswered p (moves targets post uses) = IfSome post (λ x. Each (λ to. IsTrue (is_code A.code to) → IsMet A laws x (p to)) targets)
 
   -- the transfers of all elements that are not pending are answered
@@ -51,7 +51,7 @@ module _ {E W S : Type 0} (A : Analysis E W S) (laws : AnalysisLaws A) where
 
   answered_above : (p q : Play E) (given : Outcome E W) → IfPost (IsOf A) given → AllFine A p → AllFine A q → AllAbove p q → IsAnswered p given → IsAnswered q given
   answered_above p q (undecodable word) fits fp fq above answered = answered
-  answered_above p q (too_many shown) fits fp fq above answered = answered
+  answered_above p q (too_many shown uses) fits fp fq above answered = answered
   answered_above p q (moves targets None uses) fits fp fq above answered = tt
   answered_above p q (moves targets (Some x) uses) fits fp fq above answered =
       each_weaker (λ to. IsTrue (is_code A.code to) → IsMet A laws x (p to)) (λ to. IsTrue (is_code A.code to) → IsMet A laws x (q to))
@@ -76,19 +76,19 @@ module _ {E W S : Type 0} (A : Analysis E W S) (laws : AnalysisLaws A) where
 
   pub sent_fine : (given : Outcome E W) (p : Play E) → IfPost (IsOf A) given → AllFine A p → AllFine A (sent A given p)
   sent_fine (undecodable word) p fits fine = fine
-  sent_fine (too_many shown) p fits fine = fine
+  sent_fine (too_many shown uses) p fits fine = fine
   sent_fine (moves targets None uses) p fits fine = fine
   sent_fine (moves targets (Some x) uses) p fits fine = all_fine A laws x targets p fits fine
 
   sent_grown : (given : Outcome E W) (p : Play E) → IfPost (IsOf A) given → AllFine A p → AllGrown A laws p (sent A given p)
   sent_grown (undecodable word) p fits fine a = grown_itself A laws a (p a) (fine a)
-  sent_grown (too_many shown) p fits fine a = grown_itself A laws a (p a) (fine a)
+  sent_grown (too_many shown uses) p fits fine a = grown_itself A laws a (p a) (fine a)
   sent_grown (moves targets None uses) p fits fine a = grown_itself A laws a (p a) (fine a)
   sent_grown (moves targets (Some x) uses) p fits fine a = all_grown A laws x targets p fits fine a
 
   sent_answers : (given : Outcome E W) (p : Play E) → Moves given → IfPost (IsOf A) given → AllFine A p → IsAnswered (sent A given p) given
   sent_answers (undecodable word) p has fits fine = has
-  sent_answers (too_many shown) p has fits fine = has
+  sent_answers (too_many shown uses) p has fits fine = has
   sent_answers (moves targets None uses) p has fits fine = tt
   sent_answers (moves targets (Some x) uses) p has fits fine = all_met A laws x targets p fits fine
 

@@ -55,7 +55,7 @@ first_passing test low (x ∷ xs) ascends =
 
 moves_or_not : {E W : Type 0} (given : Outcome E W) → Moves given ⊎ (Moves given → ⊥)
 moves_or_not (undecodable word) = inr (λ h. h)
-moves_or_not (too_many w) = inr (λ h. h)
+moves_or_not (too_many w uses) = inr (λ h. h)
 moves_or_not (moves targets post uses) = inl tt
 
 module _ {E W S : Type 0} (A : Analysis E W S) (laws : AnalysisLaws A) where

@@ -53,13 +53,13 @@ module _ {E W S : Type 0} (A : Analysis E W S) (laws : AnalysisLaws A) where
   -- ---- an arrival
   grown_fits : (changes : ℕ) (old new : E) → IsOf A old → IsOf A new → IsOf A (grown A changes old new)
   grown_fits changes old new fits_old fits_new =
-      elim (nat_lt changes 3) as (λ b. IsOf A (if b then A.elements.join old new else A.elements.widen old new))
+      elim (nat_lt changes A.joins) as (λ b. IsOf A (if b then A.elements.join old new else A.elements.widen old new))
       [ true ↦ join_of A laws old new fits_old fits_new | false ↦ widen_of A laws old new fits_old fits_new ]
 
   grown_absorbs : (changes : ℕ) (old new : E) → IsOf A old → IsOf A new
       → IsTrue (A.elements.absorbs (grown A changes old new) old) × IsTrue (A.elements.absorbs (grown A changes old new) new)
   grown_absorbs changes old new fits_old fits_new =
-      elim (nat_lt changes 3) as (λ b. IsTrue (A.elements.absorbs (if b then A.elements.join old new else A.elements.widen old new) old)
+      elim (nat_lt changes A.joins) as (λ b. IsTrue (A.elements.absorbs (if b then A.elements.join old new else A.elements.widen old new) old)
       × IsTrue (A.elements.absorbs (if b then A.elements.join old new else A.elements.widen old new) new))
       [ true ↦ join_absorbs A laws old new fits_old fits_new | false ↦ widen_absorbs A laws old new fits_old fits_new ]
 

@@ -36,11 +36,11 @@ sum_most f most (a ∷ rest) h = let more = sum_most f most rest h in let here =
 module _ {E W S : Type 0} (A : Analysis E W S) (laws : AnalysisLaws A) where
   -- how often an element may still change: before the widening, and then by its rank
   abbrev pub changes_left : ℕ → E → ℕ
-  changes_left changes x = if nat_lt changes 3 then (3 - changes) + height_of A else rank_of A laws x
+  changes_left changes x = if nat_lt changes A.joins then (A.joins - changes) + height_of A else rank_of A laws x
 
   -- how many transfers at an address are still to come, at most
   abbrev pub left_at : Option (Reached E) → ℕ
-  left_at None = height_of A + 3
+  left_at None = height_of A + A.joins + 1
   left_at (Some r) = (if r.pending then 1 else 0) + changes_left r.changes r.elem
 
   abbrev pub left_in : Play E → ℕ
@@ -54,13 +54,13 @@ module _ {E W S : Type 0} (A : Analysis E W S) (laws : AnalysisLaws A) where
       grind (arith, nat_tests)
 
   arrived_left : (a : ℕ) (new : E) (x : Option (Reached E)) → IsOf A new → IsFine A a x → left_at (arrived A new x) ≤ left_at x
-  arrived_left a new None fits fine = omega arith
+  arrived_left a new None fits fine = let low = rank_height A laws new fits in grind (arith, nat_tests)
   arrived_left a new (Some r) fits fine =
       by_bool (A.elements.absorbs r.elem new) (λ b. left_at (Some (arrival A b new r)) ≤ left_at (Some r))
       (λ e. omega arith)
       (λ e. let falls = grown_left r.changes r.elem new fine.1 fits e in grind arith)
 
-  left_most : (a : ℕ) (x : Option (Reached E)) → IsFine A a x → left_at x ≤ height_of A + 4
+  left_most : (a : ℕ) (x : Option (Reached E)) → IsFine A a x → left_at x ≤ height_of A + A.joins + 1
   left_most a None fine = omega arith
   left_most a (Some r) fine = let low = rank_height A laws r.elem fine.1 in grind (arith, nat_tests)
 
@@ -79,7 +79,7 @@ module _ {E W S : Type 0} (A : Analysis E W S) (laws : AnalysisLaws A) where
 
   sent_left : (given : Outcome E W) (p : Play E) → IfPost (IsOf A) given → AllFine A p → (a : ℕ) → left_at (sent A given p a) ≤ left_at (p a)
   sent_left (undecodable word) p fits fine a = omega arith
-  sent_left (too_many shown) p fits fine a = omega arith
+  sent_left (too_many shown uses) p fits fine a = omega arith
   sent_left (moves targets None uses) p fits fine a = omega arith
   sent_left (moves targets (Some x) uses) p fits fine a = all_left x targets p fits fine a
 
@@ -123,8 +123,8 @@ module _ {E W S : Type 0} (A : Analysis E W S) (laws : AnalysisLaws A) where
       let more = legal_left (transferred A p at) rest (transfer_fine A laws p at (p at) fine refl) legal.1 in
       omega (arith, one, more)
 
-  pub begin_left : left_in (begin A) ≤ length A.code * (height_of A + 4)
-  begin_left = sum_most (λ a. left_at (begin A a)) (height_of A + 4) A.code (λ a. left_most a (begin A a) (begin_fine A laws a))
+  pub begin_left : left_in (begin A) ≤ length A.code * (height_of A + A.joins + 1)
+  begin_left = sum_most (λ a. left_at (begin A a)) (height_of A + A.joins + 1) A.code (λ a. left_most a (begin A a) (begin_fine A laws a))
 
   pub legal_traces_are_short : LegalTracesAreShort A
   legal_traces_are_short trace legal =

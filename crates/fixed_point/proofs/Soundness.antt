@@ -62,7 +62,7 @@ module _ {E W S : Type 0} (A : Analysis E W S) (M : Machine S) (laws : AnalysisL
   step_leads : (b : Listing E) (given : Outcome E W) (next : S) (reads : List Read) → IfPost A.elements.fits given → Tells A b given → Reaches A t given
       → Describes A M given (goes next reads) → Leads b next reads
   step_leads b (undecodable word) next reads post tells reaches describes = absurd tells
-  step_leads b (too_many w) next reads post tells reaches describes = absurd tells
+  step_leads b (too_many w uses) next reads post tells reaches describes = absurd tells
   step_leads b (moves targets x uses) next reads post tells reaches describes =
       let to = M.counter next in
       let lists = listed targets to describes.0 in (
@@ -74,7 +74,7 @@ module _ {E W S : Type 0} (A : Analysis E W S) (M : Machine S) (laws : AnalysisL
   -- a run does not stop at a block but by its bound
   stops_deep : (b : Listing E) (given : Outcome E W) (w : ℕ) → Tells A b given → Describes A M given (stops (no_decoding w)) → ⊥
   stops_deep b (undecodable word) w tells describes = tells
-  stops_deep b (too_many shown) w tells describes = tells
+  stops_deep b (too_many shown uses) w tells describes = tells
   stops_deep b (moves targets x uses) w tells describes = describes
 
   module _ (d : ℕ) where

@@ -84,9 +84,9 @@ module _ {E W S : Type 0} (A : Analysis E W S) (laws : AnalysisLaws A) where
     -- where what a transfer gives is met, what the same transfer gives is absorbed
     met_absorbed : (x y : Outcome E W) → IfPost A.elements.fits x → IfPost A.elements.fits y → SameOutcome A.elements x y → IsAnswered A laws p y → Reaches A t x
     met_absorbed x (undecodable word) fx fy same answered = absurd answered
-    met_absorbed x (too_many shown) fx fy same answered = absurd answered
+    met_absorbed x (too_many shown uses) fx fy same answered = absurd answered
     met_absorbed (undecodable word) (moves ts post us) fx fy same answered = absurd same
-    met_absorbed (too_many shown) (moves ts post us) fx fy same answered = absurd same
+    met_absorbed (too_many shown uses) (moves ts post us) fx fy same answered = absurd same
     met_absorbed (moves ts None us) (moves ts' post' us') fx fy same answered = tt
     met_absorbed (moves ts (Some x) us) (moves ts' None us') fx fy same answered = absurd same.1
     met_absorbed (moves ts (Some x) us) (moves ts' (Some y) us') fx fy same answered =
@@ -130,7 +130,7 @@ module _ {E W S : Type 0} (A : Analysis E W S) (laws : AnalysisLaws A) where
   block_of_image : (at : ℕ) (b : Listing E) (given : Outcome E W) → IsTrue (is_code A.code at) → IsOf A b.elem → HasTargets given
       → IfUses (AreOfStamps (At at ∷ A.elements.listed b.elem)) given → Tells A b given → IsBlockOfImage A at b
   block_of_image at b (undecodable word) code of has uses tells = absurd tells
-  block_of_image at b (too_many shown) code of has uses tells = absurd tells
+  block_of_image at b (too_many shown us) code of has uses tells = absurd tells
   block_of_image at b (moves targets post us) code of has uses tells =
       let ascends = targets_ascend targets post us has in
       record {
@@ -155,9 +155,9 @@ module _ {E W S : Type 0} (A : Analysis E W S) (laws : AnalysisLaws A) where
   -- ---- one table
   told_alike : (b c : Listing E) (x y : Outcome E W) → A.elements.same b.elem c.elem → SameOutcome A.elements x y → Tells A b x → Tells A c y → IsSameBlock A b c
   told_alike b c (undecodable word) y same alike tells tells' = absurd tells
-  told_alike b c (too_many shown) y same alike tells tells' = absurd tells
+  told_alike b c (too_many shown uses) y same alike tells tells' = absurd tells
   told_alike b c (moves ts post us) (undecodable word) same alike tells tells' = absurd tells'
-  told_alike b c (moves ts post us) (too_many shown) same alike tells tells' = absurd tells'
+  told_alike b c (moves ts post us) (too_many shown uses) same alike tells tells' = absurd tells'
   told_alike b c (moves ts post us) (moves ts' post' us') same alike tells tells' = record {
     elem = same;
     next = tells.0 ∙ ap (inside A.code) alike.0 ∙ sym tells'.0;

@@ -146,7 +146,7 @@ module _ {E W S : Type 0} (A : Analysis E W S) (t : Listings E) where
   -- a block without a fault stands
   pub fault_none : (at : ℕ) (b : Listing E) (given : Outcome E W) → fault_of A t at b given ≡ None → Stands A t b given
   fault_none at b (undecodable word) h = cc
-  fault_none at b (too_many shown) h = cc
+  fault_none at b (too_many shown uses) h = cc
   fault_none at b (moves targets post uses) h =
       by_bool (lists_targets A b targets)
       (λ c. lists_targets A b targets ≡ c → (if not c then Some (Targets at) else (if not (same_list same_use b.uses uses) then Some (Use at) else open_from A t at post targets)) ≡ None → Stands A t b (moves targets post uses))
@@ -164,7 +164,7 @@ module _ {E W S : Type 0} (A : Analysis E W S) (t : Listings E) where
 
   pub stands_none : (at : ℕ) (b : Listing E) (given : Outcome E W) → Stands A t b given → fault_of A t at b given ≡ None
   stands_none at b (undecodable word) stands = absurd stands.tells
-  stands_none at b (too_many shown) stands = absurd stands.tells
+  stands_none at b (too_many shown uses) stands = absurd stands.tells
   stands_none at b (moves targets post uses) stands =
       let lists = lists_told b targets (stands.tells.0, stands.tells.1) in
       let same : IsTrue (same_list same_use b.uses uses) = subst (λ us. IsTrue (same_list same_use b.uses us)) stands.tells.2 (uses_itself b.uses) in
@@ -175,7 +175,7 @@ module _ {E W S : Type 0} (A : Analysis E W S) (t : Listings E) where
   -- the fault of a block is one
   pub fault_some : (at : ℕ) (b : Listing E) (given : Outcome E W) (v : Verdict W) → HasTargets given → fault_of A t at b given ≡ Some v → IsFault A t at b given v
   fault_some at b (undecodable word) v has h = let same : Undecodable at word ≡ v = cc in subst (IsFault A t at b (undecodable word)) same (refl, refl)
-  fault_some at b (too_many shown) v has h = let same : TooManyTargets at shown ≡ v = cc in subst (IsFault A t at b (too_many shown)) same (refl, refl)
+  fault_some at b (too_many shown uses) v has h = let same : TooManyTargets at shown ≡ v = cc in subst (IsFault A t at b (too_many shown uses)) same (refl, (uses, refl))
   fault_some at b (moves targets post uses) v has h =
       by_bool (lists_targets A b targets)
       (λ c. lists_targets A b targets ≡ c → (if not c then Some (Targets at) else (if not (same_list same_use b.uses uses) then Some (Use at) else open_from A t at post targets)) ≡ Some v → IsFault A t at b (moves targets post uses) v)
@@ -215,7 +215,7 @@ module _ {E W S : Type 0} (A : Analysis E W S) (t : Listings E) where
   fault_breaks at b given Accepted fault stands = fault
   fault_breaks at b given Entry fault stands = fault
   fault_breaks at b given (Undecodable a w) fault stands = subst (Tells A b) fault.1 stands.tells
-  fault_breaks at b given (TooManyTargets a w) fault stands = subst (Tells A b) fault.1 stands.tells
+  fault_breaks at b given (TooManyTargets a w) fault stands = subst (Tells A b) fault.1.1 stands.tells
   fault_breaks at b given (Targets a) fault stands = let tells = subst (Tells A b) fault.1.3 stands.tells in fault.1.4 (tells.0, tells.1)
   fault_breaks at b given (Use a) fault stands = let tells = subst (Tells A b) fault.1.3 stands.tells in fault.1.5 tells.2
   fault_breaks at b given (Open a to) fault stands =
@@ -287,17 +287,17 @@ module _ {E W S : Type 0} (A : Analysis E W S) (t : Listings E) where
   fault_one at b given v Accepted h k = absurd k
   fault_one at b given v Entry h k = absurd k
   fault_one at b given (Undecodable a x) (Undecodable c y) h k = let e = h.0 in let f = k.0 in let m = h.1 in let n = k.1 in cc
-  fault_one at b given (Undecodable a x) (TooManyTargets c y) h k = let m = h.1 in let n = k.1 in cc
+  fault_one at b given (Undecodable a x) (TooManyTargets c y) h k = let m = h.1 in let n = k.1.1 in cc
   fault_one at b given (Undecodable a x) (Targets c) h k = let m = h.1 in let n = k.1.3 in cc
   fault_one at b given (Undecodable a x) (Use c) h k = let m = h.1 in let n = k.1.3 in cc
   fault_one at b given (Undecodable a x) (Open c y) h k = let m = h.1 in let n = k.1.3 in cc
-  fault_one at b given (TooManyTargets a x) (Undecodable c y) h k = let m = h.1 in let n = k.1 in cc
-  fault_one at b given (TooManyTargets a x) (TooManyTargets c y) h k = let e = h.0 in let f = k.0 in let m = h.1 in let n = k.1 in cc
-  fault_one at b given (TooManyTargets a x) (Targets c) h k = let m = h.1 in let n = k.1.3 in cc
-  fault_one at b given (TooManyTargets a x) (Use c) h k = let m = h.1 in let n = k.1.3 in cc
-  fault_one at b given (TooManyTargets a x) (Open c y) h k = let m = h.1 in let n = k.1.3 in cc
+  fault_one at b given (TooManyTargets a x) (Undecodable c y) h k = let m = h.1.1 in let n = k.1 in cc
+  fault_one at b given (TooManyTargets a x) (TooManyTargets c y) h k = let e = h.0 in let f = k.0 in let m = h.1.1 in let n = k.1.1 in cc
+  fault_one at b given (TooManyTargets a x) (Targets c) h k = let m = h.1.1 in let n = k.1.3 in cc
+  fault_one at b given (TooManyTargets a x) (Use c) h k = let m = h.1.1 in let n = k.1.3 in cc
+  fault_one at b given (TooManyTargets a x) (Open c y) h k = let m = h.1.1 in let n = k.1.3 in cc
   fault_one at b given (Targets a) (Undecodable c y) h k = let m = h.1.3 in let n = k.1 in cc
-  fault_one at b given (Targets a) (TooManyTargets c y) h k = let m = h.1.3 in let n = k.1 in cc
+  fault_one at b given (Targets a) (TooManyTargets c y) h k = let m = h.1.3 in let n = k.1.1 in cc
   fault_one at b given (Targets a) (Targets c) h k = let e = h.0 in let f = k.0 in cc
   fault_one at b given (Targets a) (Use c) h k =
       let same : h.1.0 ≡ k.1.0 = let m = h.1.3 in let n = k.1.3 in cc in
@@ -306,7 +306,7 @@ module _ {E W S : Type 0} (A : Analysis E W S) (t : Listings E) where
       let same : h.1.0 ≡ k.1.0 = let m = h.1.3 in let n = k.1.3 in cc in
       absurd (h.1.4 (subst (ListsTargets A t b) (sym same) k.1.4))
   fault_one at b given (Use a) (Undecodable c y) h k = let m = h.1.3 in let n = k.1 in cc
-  fault_one at b given (Use a) (TooManyTargets c y) h k = let m = h.1.3 in let n = k.1 in cc
+  fault_one at b given (Use a) (TooManyTargets c y) h k = let m = h.1.3 in let n = k.1.1 in cc
   fault_one at b given (Use a) (Targets c) h k =
       let same : h.1.0 ≡ k.1.0 = let m = h.1.3 in let n = k.1.3 in cc in
       absurd (k.1.4 (subst (ListsTargets A t b) same h.1.4))
@@ -315,7 +315,7 @@ module _ {E W S : Type 0} (A : Analysis E W S) (t : Listings E) where
       let same : h.1.2 ≡ k.1.2 = let m = h.1.3 in let n = k.1.3 in cc in
       absurd (h.1.5 (k.1.5 ∙ sym same))
   fault_one at b given (Open a x) (Undecodable c y) h k = let m = h.1.3 in let n = k.1 in cc
-  fault_one at b given (Open a x) (TooManyTargets c y) h k = let m = h.1.3 in let n = k.1 in cc
+  fault_one at b given (Open a x) (TooManyTargets c y) h k = let m = h.1.3 in let n = k.1.1 in cc
   fault_one at b given (Open a x) (Targets c) h k =
       let same : h.1.0 ≡ k.1.0 = let m = h.1.3 in let n = k.1.3 in cc in
       absurd (k.1.4 (subst (ListsTargets A t b) same h.1.4))

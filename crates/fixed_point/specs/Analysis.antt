@@ -9,6 +9,8 @@ use Rattle.fixed_point.specs.Outcome.{AreOfStamps, HasTargets, IfPost, IfUses, O
 -- An analysis over elements E, with words W of the counter and states S.
 pub record Analysis (E W S : Type 0) : Type 1 where
   pub elements : Elements E S
+  -- how many changes of an element join before later ones widen
+  pub joins : ℕ
   -- the addresses of code words
   pub code : List ℕ
   -- the entry's counter and its element

@@ -23,9 +23,9 @@ module _ {E W S : Type 0} (A : Analysis E W S) where
   TablesAreOne =
       (trace : List ℕ) (t u : Listings E) → TableFits A t → TableFits A u → IsTableOf A t (play A trace) → IsTableOf A u (play A trace) → AreSameTables A t u
 
-  -- A legal trace has few addresses: of N code words and elements of the height H, at most N(H + 4).
+  -- A legal trace has few addresses: of N code words and elements of the height H, of which the first J changes join, at most N(H + J + 1).
   abbrev pub LegalTracesAreShort : Type 0
-  LegalTracesAreShort = (trace : List ℕ) → IsLegal A trace → length trace ≤ length A.code * (height_of A + 4)
+  LegalTracesAreShort = (trace : List ℕ) → IsLegal A trace → length trace ≤ length A.code * (height_of A + A.joins + 1)
 
   -- There is one legal trace to an end.
   abbrev pub LegalTracesAreOne : Type 0

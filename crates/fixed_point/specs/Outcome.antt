@@ -9,8 +9,8 @@ use Rattle.fixed_point.specs.Elements.{Elements}
 pub data Outcome (E W : Type 0) : Type 0 where
   -- the code word has no decoding
   undecodable : ℕ → Outcome E W
-  -- the new counter may be more addresses than the limit: the word that it is
-  too_many : W → Outcome E W
+  -- the new counter may be more addresses than the limit: the word that it is, and the uses
+  too_many : W → List Seen → Outcome E W
   -- the addresses that the new counter may be, ascending; the element behind the instruction, or none where no state
   -- is left; and the uses
   moves : List ℕ → Option E → List Seen → Outcome E W
@@ -19,31 +19,31 @@ module _ {E W : Type 0} where
   -- there is a list of targets
   abbrev pub Moves : Outcome E W → Type 0
   Moves (undecodable word) = ⊥
-  Moves (too_many shown) = ⊥
+  Moves (too_many shown uses) = ⊥
   Moves (moves targets post uses) = Unit {0}
 
   -- the code word has a decoding
   abbrev pub IsDecoded : Outcome E W → Type 0
   IsDecoded (undecodable word) = ⊥
-  IsDecoded (too_many shown) = Unit {0}
+  IsDecoded (too_many shown uses) = Unit {0}
   IsDecoded (moves targets post uses) = Unit {0}
 
   -- the element behind the instruction, if there is one, has the property
   abbrev pub IfPost : (E → Type 0) → Outcome E W → Type 0
   IfPost P (undecodable word) = Unit {0}
-  IfPost P (too_many shown) = Unit {0}
+  IfPost P (too_many shown uses) = Unit {0}
   IfPost P (moves targets post uses) = IfSome post P
 
   -- so do the uses
   abbrev pub IfUses : (List Seen → Type 0) → Outcome E W → Type 0
   IfUses P (undecodable word) = Unit {0}
-  IfUses P (too_many shown) = Unit {0}
+  IfUses P (too_many shown uses) = P uses
   IfUses P (moves targets post uses) = P uses
 
   -- the targets ascend, and where no state is left there are none
   abbrev pub HasTargets : Outcome E W → Type 0
   HasTargets (undecodable word) = Unit {0}
-  HasTargets (too_many shown) = Unit {0}
+  HasTargets (too_many shown uses) = Unit {0}
   HasTargets (moves targets None uses) = targets ≡ []
   HasTargets (moves targets (Some post) uses) = IsAscending targets
 
@@ -60,6 +60,6 @@ SamePost D _ _ = ⊥
 -- Two outcomes are one, up to how their elements are written.
 abbrev pub SameOutcome : {E S W : Type 0} → Elements E S → Outcome E W → Outcome E W → Type 0
 SameOutcome D (undecodable v) (undecodable w) = v ≡ w
-SameOutcome D (too_many x) (too_many y) = x ≡ y
+SameOutcome D (too_many x us) (too_many y us') = (x ≡ y) × (us ≡ us')
 SameOutcome D (moves ts x us) (moves ts' y us') = (ts ≡ ts') × SamePost D x y × (us ≡ us')
 SameOutcome D _ _ = ⊥

@@ -38,9 +38,9 @@ abbrev pub IsFull : {E : Type 0} → Play E → Type 0
 IsFull {E} p = (a : ℕ) (r : Reached E) → p a ≡ Some r → r.pending ≡ false
 
 module _ {E W S : Type 0} (A : Analysis E W S) where
-  -- what an element becomes that has changed so often: its first three changes join, later ones widen
+  -- what an element becomes that has changed so often: its first changes join, later ones widen
   abbrev pub grown : ℕ → E → E → E
-  grown changes old new = if nat_lt changes 3 then A.elements.join old new else A.elements.widen old new
+  grown changes old new = if nat_lt changes A.joins then A.elements.join old new else A.elements.widen old new
 
   -- what the arrival of a new element makes of an address, where its element absorbs the new one or not
   abbrev pub arrival : Bool → E → Reached E → Reached E
@@ -62,7 +62,7 @@ module _ {E W S : Type 0} (A : Analysis E W S) where
 
   abbrev pub sent : Outcome E W → Play E → Play E
   sent (undecodable word) p = p
-  sent (too_many shown) p = p
+  sent (too_many shown uses) p = p
   sent (moves targets post uses) p = arrive_all post targets p
 
   -- the transfer of what stands at an address, which is then no longer pending

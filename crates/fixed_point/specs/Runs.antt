@@ -52,10 +52,12 @@ module _ {E W S : Type 0} (A : Analysis E W S) (M : Machine S) where
   AreSeen uses reads = IsTrue A.stamped → Each (AreCovering uses) reads
 
   -- What a transfer gives describes a step: the next counter is a target, the element behind the instruction holds
-  -- of the next state, and the uses cover the reads. Of a step without a turn left nothing is said.
+  -- of the next state, and the uses cover the reads. Where the targets are too many the uses do alone. Of a step
+  -- without a turn left nothing is said.
   abbrev pub Describes : Outcome E W → Step S → Type 0
   Describes (undecodable word) step = Unit {0}
-  Describes (too_many shown) step = Unit {0}
+  Describes (too_many shown uses) (stops _) = Unit {0}
+  Describes (too_many shown uses) (goes next reads) = AreSeen uses reads
   Describes (moves targets post uses) (stops deep) = Unit {0}
   Describes (moves targets post uses) (stops _) = ⊥
   Describes (moves targets post uses) (goes next reads) =

@@ -26,13 +26,13 @@ module _ {E W S : Type 0} (A : Analysis E W S) where
   -- The block lists the targets that are code addresses as next, the others as exits, and the uses.
   abbrev pub Tells : Listing E → Outcome E W → Type 0
   Tells b (undecodable word) = ⊥
-  Tells b (too_many shown) = ⊥
+  Tells b (too_many shown uses) = ⊥
   Tells b (moves targets post uses) = (b.next ≡ inside A.code targets) × (b.exits ≡ outside A.code targets) × (b.uses ≡ uses)
 
   -- Each target that is a code address is listed, with an element that absorbs the one behind the instruction.
   abbrev pub Reaches : Listings E → Outcome E W → Type 0
   Reaches t (undecodable word) = ⊥
-  Reaches t (too_many shown) = ⊥
+  Reaches t (too_many shown uses) = ⊥
   Reaches t (moves targets post uses) = IfSome post (λ x. Each (λ to. IsTrue (is_code A.code to) → IsAbsorbed t x to) targets)
 
   -- A closed table is a certificate.

@@ -53,7 +53,7 @@ module _ {E W S : Type 0} (A : Analysis E W S) (t : Listings E) where
   -- the first part of a block that fails: its decoding, the number of its targets, its targets, its uses, and what it reaches
   abbrev pub fault_of : ℕ → Listing E → Outcome E W → Option (Verdict W)
   fault_of at b (undecodable word) = Some (Undecodable at word)
-  fault_of at b (too_many shown) = Some (TooManyTargets at shown)
+  fault_of at b (too_many shown uses) = Some (TooManyTargets at shown)
   fault_of at b (moves targets post uses) =
       if not (lists_targets A b targets) then Some (Targets at)
       else (if not (same_list same_use b.uses uses) then Some (Use at) else open_from at post targets)
@@ -109,7 +109,7 @@ module _ {E W S : Type 0} (A : Analysis E W S) (t : Listings E) where
   IsFault at b given Accepted = ⊥
   IsFault at b given Entry = ⊥
   IsFault at b given (Undecodable where_ word) = (where_ ≡ at) × (given ≡ undecodable word)
-  IsFault at b given (TooManyTargets where_ shown) = (where_ ≡ at) × (given ≡ too_many shown)
+  IsFault at b given (TooManyTargets where_ shown) = (where_ ≡ at) × ((uses : List Seen) × (given ≡ too_many shown uses))
   IsFault at b given (Targets where_) =
       (where_ ≡ at) × ((targets : List ℕ) × (post : Option E) × (uses : List Seen) × (given ≡ moves targets post uses) × (ListsTargets b targets → ⊥))
   IsFault at b given (Use where_) =

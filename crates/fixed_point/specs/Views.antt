@@ -15,7 +15,7 @@ use Rattle.fixed_point.specs.declared.transfer.Transferred.TheVariants.{Undecoda
 module _ {E P : Type 0} (view : E → P) where
   abbrev pub outcome_to : {W : Type 0} → Targets W → Option E → List Seen → Outcome P W
   outcome_to (Listed targets) post uses = moves targets.items (option_map view post) uses
-  outcome_to (Many shown) post uses = too_many shown
+  outcome_to (Many shown) post uses = too_many shown uses
 
   abbrev pub outcome : {W : Type 0} → Transferred E W → Outcome P W
   outcome (Undecodable word) = undecodable word

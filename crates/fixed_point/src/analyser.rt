@@ -16,7 +16,7 @@ use step_counter::Steps;
 /// Elements over a code image, with an entry and a transfer.
 ///
 /// `analysis` has the value of each call as a function, over plain elements; `laws` are what every user may rest on
-/// where the analyser is ready (`IsReady`). `is_code` and `start` may be called before that is known.
+/// where the analyser is ready (`IsReady`). `is_code`, `start` and `joins` may be called before that is known.
 pub trait Analyser {
     /// What stands at an address.
     type Elem: Drop;
@@ -48,6 +48,10 @@ pub trait Analyser {
     /// The entry's counter.
     fn start(&self) -> u32
         ensures { result ≡ (analysis self.now).start };
+
+    /// How many changes of an element join before later ones widen.
+    fn joins(&self) -> u32
+        ensures { result ≡ (analysis self.now).joins };
 
     /// The entry's element: it holds of each state of the entry.
     fn entry(&self, alloc: Global) -> Result<Self::Elem, NoMemory>
@@ -90,7 +94,7 @@ pub trait Analyser {
         ensures value { IfOk result (λ r. (analysis self.now).elements.same (view r) (view x.now)) }
         ensures fits { IfOk result (λ r. (analysis self.now).elements.fits (view r)) };
 
-    /// What the instruction at an address makes of an element. It is one step; a word without decoding may be none.
+    /// What the instruction at an address makes of an element. It is one step; a word without decoding is none.
     fn transfer<L: Ledger>(
         &self,
         alloc: Global,
@@ -104,6 +108,7 @@ pub trait Analyser {
         ensures value { IfOk result (λ r. SameOutcome (analysis self.now).elements (outcome view r) ((analysis self.now).transfer at (view x.now))) }
         ensures fits { IfOk result (λ r. IfPost (analysis self.now).elements.fits (outcome view r)) }
         ensures one { IfOk result (λ r. IsDecoded (outcome view r) → steps.new ≡ steps.old + 1) }
+        ensures none { IfOk result (λ r. (IsDecoded (outcome view r) → ⊥) → steps.new ≡ steps.old) }
         ensures most { steps.new ≤ steps.old + 1 };
 
     /// What an analysis rests on.

@@ -27,7 +27,7 @@ pub fn pairs_keep_the_laws<A: Analyser>(first: &A, second: &A)
     ensures { ElementLaws (paired (A.analysis first.now).elements (A.analysis second.now).elements) }
 {}
 
-/// A legal trace has at most so many addresses as the code words times the height and four.
+/// A legal trace has at most so many addresses as the code words times the height, the joins and one.
 pub fn legal_traces_are_short<A: Analyser>(analyser: &A)
     requires ready { A.IsReady analyser.now }
     ensures { LegalTracesAreShort (A.analysis analyser.now) }

@@ -5,11 +5,12 @@
 //! An analysis keeps one abstract element for each code address: it stands for a set of states. The entry gives an
 //! element at the entry's counter. The *transfer* of an address takes what stands there and gives the addresses
 //! that its instruction may lead to, and an element behind the instruction. That arrives at each of them. Where an
-//! element stands already, the new one changes nothing if it is absorbed; else both are joined, and from the fourth
-//! change of an address on widened. An address that changed is pending, and the least pending address is
-//! transferred next, until there is none (Kildall, POPL 1973; Cousot and Cousot, POPL 1977).
+//! element stands already, the new one changes nothing if it is absorbed; else both are joined, and once an address
+//! has had as many changes as the analysis has `joins`, widened. The first change is the first arrival; the program
+//! has 3 joins unless asked, so the fourth change widens. An address that changed is pending, and the least pending
+//! address is transferred next, until there is none (Kildall, POPL 1973; Cousot and Cousot, POPL 1977).
 //!
-//! Over intervals of the numbers 0 to 99, take four words at 4096: `x := 0`; `x := x + 1`; where x is below 50,
+//! Over intervals of the numbers 0 to 99 and with 3 joins, take four words at 4096: `x := 0`; `x := x + 1`; where x is below 50,
 //! back to 4100; leave. What stands at 4100 goes from 0..0 to 0..1 and 0..2, and then, widened, to 0..99. The
 //! transfers are made at 4096, 4100, 4104, 4100, 4104, 4100, 4104, 4100, 4104, 4108.
 //!
@@ -17,7 +18,7 @@
 //! |---|---|---|
 //! | elements | specs/Elements | the algebra: which states an element describes, joins, widening, absorption, rank and height, stamps, and its laws |
 //! | code | specs/Code | the addresses of code words, ascending, whatever the segments of the image; at most 262,144 |
-//! | outcome | specs/Outcome | what a transfer gives: no decoding, too many targets, or targets with an element and uses |
+//! | outcome | specs/Outcome | what a transfer gives: no decoding, too many targets with uses, or targets with an element and uses |
 //! | analysis | specs/Analysis | elements, code, entry and transfer in one record, and the laws that all rests on |
 //! | play | specs/Play | what stands at each address after the transfers of a trace; a trace is *legal* where each address is the least pending one at its turn and has targets, and *full* where nothing is pending at its end |
 //! | table | specs/Table | what is listed of each address; a table is *closed* where it is a certificate: it absorbs the entry, lists the targets and uses of each transfer, and absorbs what each transfer gives at each target |
@@ -28,8 +29,8 @@
 //!
 //! Each law is the contract of a function of `laws`, for every `Analyser` that is ready:
 //!
-//! - there is one legal trace to an end, and of N code words and elements of height H it has at most N(H + 4)
-//!   addresses;
+//! - there is one legal trace to an end, and of N code words, elements of height H and J joins it has at most
+//!   N(H + J + 1) addresses;
 //! - the table of a full legal trace is closed; its blocks, next addresses and stamps are of the image's addresses
 //!   alone; there is one, up to how elements are written;
 //! - a closed table is sound: from every state of the entry, after any number of steps, under every bound on turns,
@@ -40,7 +41,7 @@
 //! - pairs of elements keep the laws of their parts.
 //!
 //! The bound is shown by one number, how many transfers may still come: an address that was not reached counts H +
-//! 3, one that was 1 if it is pending, and besides H and the joins that are left, or, once it is widened, its rank.
+//! J + 1, one that was 1 if it is pending, and besides H and the joins that are left, or, once it is widened, its rank.
 //! An arrival never raises it, and a transfer lowers it.
 //!
 //! # Why plays and tables are functions from addresses
@@ -57,7 +58,7 @@
 //! definition. The rows of a submodule are so: any rows that generate it will do.
 //!
 //! Not every value of the type has to keep the laws. What has to hold of one before it is used is `IsReady`, which
-//! the instance chooses; the laws ask for it, and so does each call but `is_code` and `start`. An analyser of
+//! the instance chooses; the laws ask for it, and so does each call but `is_code`, `start` and `joins`. An analyser of
 //! instructions puts there that its specification is accepted and the problem well posed; one whose values all keep
 //! the laws puts `⊤` there.
 //!

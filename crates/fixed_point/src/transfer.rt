@@ -9,7 +9,8 @@ pub enum Targets<W> {
     Many { shown: W },
 }
 
-/// The targets, the element behind the instruction, or none where no state is left, and the uses.
+/// The targets, the element behind the instruction, or none where no state is left, and the uses, also where the
+/// targets are too many.
 #[derive(Drop)]
 pub struct Transfer<E, W> {
     pub targets: Targets<W>,

@@ -22,8 +22,16 @@
 //! So `x` is 5 whenever a run from the entry is at 4100, and it goes on at 4104. Over definitions and uses
 //! the block of 4100 lists the use of `x` from 4096 besides. `check` accepts this table, and one with `x: {5, 7}` at 4100, if the rest fits: it
 //! is true as well. Of a table with `x: {7}` there it says that 4100 is open.
+//!
+//! # Left open
+//!
+//! `analyse_open` is that of `open_tables`: where a code word has no decoding, or an instruction may lead to more addresses than the limit, the
+//! block stands without next addresses and exits, and the rest is analysed. Its table is true of the runs up to and with the first state at
+//! such an address (`IsTrueUntilOpen`, `transfer_laws` specs/OpenRuns); with no open address that is the truth above.
 #![tactic(auto)]
 
+mod left_open;
 mod tables;
 
+pub use left_open::analyse_open;
 pub use tables::{analyse, check};

@@ -37,7 +37,7 @@ pub fn analyse<'a, D: Domain, L: Ledger>(
     ensures fits { IfOk result (λ r. TableFits (⟦<ImageAnalysis<'a, D> as Analyser>⟧.analysis analysis.now) (listings D.view r.table)) }
     ensures image { IfOk result (λ r. FitsImage (⟦<ImageAnalysis<'a, D> as Analyser>⟧.analysis analysis.now) (listings D.view r.table)) }
     ensures one { IfOk result (λ r. steps.new ≡ steps.old + (vec_len r.trace + btree_map_len r.table.blocks)) }
-    ensures most { steps.new ≤ steps.old + (length (problem analysis.now).addresses * (height_of (⟦<ImageAnalysis<'a, D> as Analyser>⟧.analysis analysis.now) + 4) + length (problem analysis.now).addresses) }
+    ensures most { steps.new ≤ steps.old + (length (problem analysis.now).addresses * (height_of (⟦<ImageAnalysis<'a, D> as Analyser>⟧.analysis analysis.now) + (problem analysis.now).joins + 1) + length (problem analysis.now).addresses) }
 {
     worklist::analyse(alloc, analysis, steps)
 }

@@ -9,7 +9,7 @@ use Rattle.state_text.specs.Reading.{Entry, read}
 use Rattle.transfer_laws.specs.Problem.{IsWellPosed}
 use Rattle.posed_problems.specs.Problems.{problem_of}
 
--- The machine of an accepted specification, an image without faults and an entry that is read are a well-posed problem, under any limit.
+-- The machine of an accepted specification, an image without faults and an entry that is read are a well-posed problem, under any limit and with any number of joins.
 abbrev pub ReadProblemsAreWellPosed : Type 0
-ReadProblemsAreWellPosed = (spec : Spec) (m : Machine) (image : Image) (bytes : List ℕ) (e : Entry) (limit : ℕ)
-    → IsAccepted spec → spec.machine ≡ Some m → IsImage image → read spec bytes ≡ Ok e → IsWellPosed (problem_of spec m image e limit)
+ReadProblemsAreWellPosed = (spec : Spec) (m : Machine) (image : Image) (bytes : List ℕ) (e : Entry) (limit joins : ℕ)
+    → IsAccepted spec → spec.machine ≡ Some m → IsImage image → read spec bytes ≡ Ok e → IsWellPosed (problem_of spec m image e limit joins)

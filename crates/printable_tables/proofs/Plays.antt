@@ -48,7 +48,7 @@ module _ {E W S : Type 0} (A : Analysis E W S) (laws : AnalysisLaws A) (K : E �
 
   both_post : (given : Outcome E W) → IfPost A.elements.fits given → IfPost K given → IfPost (λ x. A.elements.fits x × K x) given
   both_post (undecodable word) h k = tt
-  both_post (too_many shown) h k = tt
+  both_post (too_many shown uses) h k = tt
   both_post (moves targets None uses) h k = tt
   both_post (moves targets (Some x) uses) h k = (h, k)
 

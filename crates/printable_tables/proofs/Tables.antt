@@ -37,7 +37,7 @@ module _ {E W S : Type 0} (A : Analysis E W S) where
   -- a block that tells an outcome
   told : (p : Problem) (K : E → Type 0) (b : Listing E) (given : Outcome E W) → K b.elem → IsOutcome p K given → Tells A b given → IsPrintable p.spec K b
   told p K b (undecodable code_word) kept is tells = absurd tells
-  told p K b (too_many shown) kept is tells = absurd tells
+  told p K b (too_many shown uses) kept is tells = absurd tells
   told p K b (moves targets post uses) kept is tells = record {
     elem = kept;
     exits = subst (Each (λ to. to < 2 ^ 32)) (sym tells.1) (each_kept (λ to. to < 2 ^ 32) (λ a. not (is_code A.code a)) targets is.targets);

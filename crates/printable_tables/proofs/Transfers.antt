@@ -35,7 +35,7 @@ use Rattle.printable_tables.proofs.Uses.{merged_of}
 -- the targets, if there are some, have the property
 abbrev pub IfTargets : {E W : Type 0} → (List ℕ → Type 0) → Outcome E W → Type 0
 IfTargets P (undecodable code_word) = Unit {0}
-IfTargets P (too_many shown) = Unit {0}
+IfTargets P (too_many shown uses) = Unit {0}
 IfTargets P (moves targets post uses) = P targets
 
 pub record IsOutcome {E W : Type 0} (p : Problem) (K : E → Type 0) (given : Outcome E W) : Type 0 where
@@ -58,7 +58,7 @@ module _ {E W N C : Type 0} (B : Algebra W N C) (laws : Laws W N C B) (cap : ℕ
   module _ (a : ℕ) (lt : a < 2 ^ 32) (code : IsTrue (has_word p a)) (x : E) (fit : D.fits x) (kept : K x) where
     moved_is : (y : Abs W N) (log : List Seen) (counter : ℕ × W) → IsStateValue B M.context cap (state_type p.spec) y → counter_of y ≡ Some counter → HasNotes F y → Each (IsUseOf p.spec) log
         → (o : Option (List ℕ)) → B.words.members M.context counter.0 counter.1 p.limit ≡ o → IsOutcome p K (moved_to B M p x y log counter.1 o)
-    moved_is y log counter state e noted each None is = record { targets = tt; uses = tt; post = tt }
+    moved_is y log counter state e noted each None is = record { targets = tt; uses = used log each; post = tt }
     moved_is y log counter state e noted each (Some targets) is =
         let word_fits = counter_fits B M.context cap y counter state.1 e in
         let members = laws.words.members_fit M.context counter.0 p.limit targets counter.1 word_fits.0 word_fits.1 is in

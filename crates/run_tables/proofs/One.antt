@@ -1,12 +1,9 @@
 -- Over the bytes that names hold, each command has one outcome, up to the rows in texts.
-use Rattle.std.proofs.Common.{◌≡◌, inl, Some, refl, sym, ◌∙◌, subst}
+use Rattle.std.proofs.Common.{◌≡◌, inl, inr, Some, refl, sym, ◌∙◌, subst}
 use Rattle.std.specs.Prelude.{Result, Ok, Err}
 use Rattle.spec_types.specs.declared.spec.Machine.{Machine as Numbers}
 use Rattle.spec_types.specs.Specification.{Spec}
-use Rattle.posed_problems.specs.Problems.{problem_of}
-use Rattle.analysis_domains.specs.Laws.{AreOne}
-use Rattle.analysis_domains.specs.Named.{Analysed, Checked, Claimed, Sliced}
-use Rattle.analysis_domains.proofs.Bases.{analyses_are_one, analyses_have_some}
+use Rattle.analysis_domains.specs.Named.{Checked, Claimed, Done, Sliced}
 use Rattle.analysis_domains.proofs.Claims.{claims_are_one, claims_have_some}
 use Rattle.analysis_domains.proofs.Readings.{checks_are_one, checks_have_some, conversions_are_one, conversions_have_some}
 use Rattle.analysis_domains.proofs.Slices.{slices_are_one, slices_have_some}
@@ -17,10 +14,12 @@ use Rattle.run_steps.proofs.OneSource.{one_held, some_held}
 use Rattle.run_steps.proofs.Steps.{IsOne, total}
 use Rattle.table_inputs.specs.Inputs.{CodedOf, PosedOf, SoughtOf, claims_cap, table_cap}
 use Rattle.table_inputs.proofs.Single.{one_coded, one_posed, one_sought, some_coded, some_posed, some_sought}
-use Rattle.table_inputs.proofs.Problems.{coded_has_states, posed_has_machine, posed_has_words, posed_is_well_posed, some_machine, sought_parts}
-use Rattle.run_tables.specs.Laws.{AnalyseHasOne, AnalyseHasSome, CheckHasOne, CheckHasSome, ClaimsHasOne, ClaimsHasSome, ConvertHasOne, ConvertHasSome, SliceHasOne, SliceHasSome}
+use Rattle.table_inputs.proofs.Problems.{coded_has_states, posed_has_machine, posed_has_words, some_machine, sought_parts}
+use Rattle.run_tables.specs.Laws.{AnalyseHasOne, AnalyseHasSome, AreOneAnalysis, AreOneConversion, CheckHasOne, CheckHasSome, ClaimsHasOne, ClaimsHasSome, ConvertHasOne, ConvertHasSome, SliceHasOne, SliceHasSome}
+use Rattle.run_tables.specs.Problems.{problem_in, task_in}
 use Rattle.run_tables.specs.Steps.{AnalysisOf, CheckOf, ClaimsOf, ConversionOf, SliceOf}
 use Rattle.run_tables.proofs.Chains.{both_behind, claims_behind, table_behind}
+use Rattle.run_tables.proofs.Problems.{either_has_some, either_is_one, read_is_well_posed}
 
 -- ---- what two chains give, where their first steps give one thing
 
@@ -45,18 +44,17 @@ one_machine spec m n p q = let same : Some m ≡ Some n = sym p ∙ q in cc
 
 pub analyse_has_one : AnalyseHasOne
 analyse_has_one held request found other few p q =
-    same_next (PosedOf (Holds held) request.spec request.code request.entry) (AnalysisOf request.base request.limit) (AreOne request.base) (λ o. inl refl) (one_posed held request.spec request.code request.entry) (λ posed is found other a b.
+    same_next (PosedOf (Holds held) request.spec request.code request.entry) (AnalysisOf request) (AreOneAnalysis held request) (λ o. inl refl) (one_posed held request.spec request.code request.entry) (λ posed is found other a b.
     let same = one_machine posed.spec a.machine b.machine a.is_machine b.is_machine in
-    analyses_are_one posed.image (problem_of posed.spec b.machine posed.image posed.entry request.limit) request.base found other
-    (posed_is_well_posed (Holds held) request.spec request.code request.entry posed b.machine request.limit few is b.is_machine)
-    (subst (λ (m : Numbers). Analysed posed.image (problem_of posed.spec m posed.image posed.entry request.limit) request.base found) same a.analysed) b.analysed) found other p q
+    let one = either_is_one (problem_in request posed b.machine) posed.image request.base (read_is_well_posed (Holds held) request posed b.machine few is b.is_machine) request.open found other
+    (subst (λ (m : Numbers). Done posed.image (task_in request (problem_in request posed m)) request.base found) same a.analysed) b.analysed in
+    inr (posed, is, one)) found other p q
 
 pub analyse_has_some : AnalyseHasSome
 analyse_has_some held request few =
-    total (PosedOf (Holds held) request.spec request.code request.entry) (AnalysisOf request.base request.limit) (some_posed held request.spec request.code request.entry) (λ posed is.
+    total (PosedOf (Holds held) request.spec request.code request.entry) (AnalysisOf request) (some_posed held request.spec request.code request.entry) (λ posed is.
     let m = some_machine posed.spec.machine (posed_has_machine (Holds held) request.spec request.code request.entry posed is) in
-    let found = analyses_have_some posed.image (problem_of posed.spec m.0 posed.image posed.entry request.limit) request.base
-    (posed_is_well_posed (Holds held) request.spec request.code request.entry posed m.0 request.limit few is m.1) in
+    let found = either_has_some (problem_in request posed m.0) posed.image request.base (read_is_well_posed (Holds held) request posed m.0 few is m.1) request.open in
     (found.0, record { machine = m.0; is_machine = m.1; analysed = found.1 }))
 
 -- ---- checks
@@ -64,30 +62,30 @@ analyse_has_some held request few =
 pub check_has_one : CheckHasOne
 check_has_one held request found other few p q =
     let asked = request.analysis in
-    same_next (PosedOf (Holds held) asked.spec asked.code asked.entry) (λ posed. table_behind request.table (CheckOf asked.base asked.limit posed) (Holds held)) (λ x y. x ≡ y) (λ o. refl) (one_posed held asked.spec asked.code asked.entry) (λ posed is.
-    same_next (Holds held table_cap request.table) (CheckOf asked.base asked.limit posed) (λ x y. x ≡ y) (λ o. refl) (one_held held table_cap request.table) (λ bytes holds found other a b.
+    same_next (PosedOf (Holds held) asked.spec asked.code asked.entry) (λ posed. table_behind request.table (CheckOf asked posed) (Holds held)) (λ x y. x ≡ y) (λ o. refl) (one_posed held asked.spec asked.code asked.entry) (λ posed is.
+    same_next (Holds held table_cap request.table) (CheckOf asked posed) (λ x y. x ≡ y) (λ o. refl) (one_held held table_cap request.table) (λ bytes holds found other a b.
     let same = one_machine posed.spec a.machine b.machine a.is_machine b.is_machine in
-    checks_are_one posed.image (problem_of posed.spec b.machine posed.image posed.entry asked.limit) asked.base bytes found other
-    (posed_is_well_posed (Holds held) asked.spec asked.code asked.entry posed b.machine asked.limit few is b.is_machine)
-    (subst (λ (m : Numbers). Checked posed.image (problem_of posed.spec m posed.image posed.entry asked.limit) asked.base bytes found) same a.checked) b.checked)) found other p q
+    checks_are_one posed.image (problem_in asked posed b.machine) asked.base bytes found other
+    (read_is_well_posed (Holds held) asked posed b.machine few is b.is_machine)
+    (subst (λ (m : Numbers). Checked posed.image (problem_in asked posed m) asked.base bytes found) same a.checked) b.checked)) found other p q
 
 pub check_has_some : CheckHasSome
 check_has_some held request few =
     let asked = request.analysis in
-    total (PosedOf (Holds held) asked.spec asked.code asked.entry) (λ posed. table_behind request.table (CheckOf asked.base asked.limit posed) (Holds held)) (some_posed held asked.spec asked.code asked.entry) (λ posed is.
-    total (Holds held table_cap request.table) (CheckOf asked.base asked.limit posed) (some_held held table_cap request.table (held request.table) refl) (λ bytes holds.
+    total (PosedOf (Holds held) asked.spec asked.code asked.entry) (λ posed. table_behind request.table (CheckOf asked posed) (Holds held)) (some_posed held asked.spec asked.code asked.entry) (λ posed is.
+    total (Holds held table_cap request.table) (CheckOf asked posed) (some_held held table_cap request.table (held request.table) refl) (λ bytes holds.
     let m = some_machine posed.spec.machine (posed_has_machine (Holds held) asked.spec asked.code asked.entry posed is) in
-    let found = checks_have_some posed.image (problem_of posed.spec m.0 posed.image posed.entry asked.limit) asked.base bytes
-    (posed_is_well_posed (Holds held) asked.spec asked.code asked.entry posed m.0 asked.limit few is m.1) (λ a there. posed_has_words (Holds held) asked.spec asked.code asked.entry posed few is a there) in
+    let found = checks_have_some posed.image (problem_in asked posed m.0) asked.base bytes
+    (read_is_well_posed (Holds held) asked posed m.0 few is m.1) (λ a there. posed_has_words (Holds held) asked.spec asked.code asked.entry posed few is a there) in
     (found.0, record { machine = m.0; is_machine = m.1; checked = found.1 })))
 
 -- ---- conversions
 
 pub convert_has_one : ConvertHasOne
 convert_has_one held request found other few p q =
-    same_next (CodedOf (Holds held) request.spec request.code) (λ coded. table_behind request.table (ConversionOf request.base coded) (Holds held)) (AreOne request.base) (λ o. inl refl) (one_coded held request.spec request.code) (λ coded is.
-    same_next (Holds held table_cap request.table) (ConversionOf request.base coded) (AreOne request.base) (λ o. inl refl) (one_held held table_cap request.table) (λ bytes holds found other a b.
-    conversions_are_one coded.image coded.spec request.base bytes found other (coded_has_states (Holds held) request.spec request.code coded is) a b)) found other p q
+    same_next (CodedOf (Holds held) request.spec request.code) (λ coded. table_behind request.table (ConversionOf request.base coded) (Holds held)) (AreOneConversion held request) (λ o. inl refl) (one_coded held request.spec request.code) (λ coded is.
+    same_next (Holds held table_cap request.table) (ConversionOf request.base coded) (AreOneConversion held request) (λ o. inl refl) (one_held held table_cap request.table) (λ bytes holds found other a b.
+    inr (coded, is, conversions_are_one coded.image coded.spec request.base bytes found other (coded_has_states (Holds held) request.spec request.code coded is) a b))) found other p q
 
 pub convert_has_some : ConvertHasSome
 convert_has_some held request few =
@@ -100,27 +98,27 @@ convert_has_some held request few =
 pub slice_has_one : SliceHasOne
 slice_has_one held request found other few p q =
     let asked = request.check.analysis in
-    same_next (SoughtOf (Holds held) asked.spec request.cell asked.code asked.entry) (λ sought. table_behind request.check.table (SliceOf asked.base asked.limit sought request.address) (Holds held)) (λ x y. x ≡ y) (λ o. refl)
+    same_next (SoughtOf (Holds held) asked.spec request.cell asked.code asked.entry) (λ sought. table_behind request.check.table (SliceOf asked sought request.address) (Holds held)) (λ x y. x ≡ y) (λ o. refl)
     (one_sought held asked.spec asked.code request.cell asked.entry) (λ sought is.
-    same_next (Holds held table_cap request.check.table) (SliceOf asked.base asked.limit sought request.address) (λ x y. x ≡ y) (λ o. refl) (one_held held table_cap request.check.table) (λ bytes holds found other a b.
+    same_next (Holds held table_cap request.check.table) (SliceOf asked sought request.address) (λ x y. x ≡ y) (λ o. refl) (one_held held table_cap request.check.table) (λ bytes holds found other a b.
     let posed = sought.posed in
     let parts = sought_parts (Holds held) asked.spec asked.code asked.entry request.cell sought is in
     let same = one_machine posed.spec a.machine b.machine a.is_machine b.is_machine in
-    slices_are_one posed.image (problem_of posed.spec b.machine posed.image posed.entry asked.limit) asked.base bytes request.address sought.asked found other
-    (posed_is_well_posed (Holds held) asked.spec asked.code asked.entry posed b.machine asked.limit few parts.posed b.is_machine)
-    (subst (λ (m : Numbers). Sliced posed.image (problem_of posed.spec m posed.image posed.entry asked.limit) asked.base bytes request.address sought.asked found) same a.sliced) b.sliced)) found other p q
+    slices_are_one posed.image (problem_in asked posed b.machine) asked.base bytes request.address sought.asked found other
+    (read_is_well_posed (Holds held) asked posed b.machine few parts.posed b.is_machine)
+    (subst (λ (m : Numbers). Sliced posed.image (problem_in asked posed m) asked.base bytes request.address sought.asked found) same a.sliced) b.sliced)) found other p q
 
 pub slice_has_some : SliceHasSome
 slice_has_some held request few =
     let asked = request.check.analysis in
-    total (SoughtOf (Holds held) asked.spec request.cell asked.code asked.entry) (λ sought. table_behind request.check.table (SliceOf asked.base asked.limit sought request.address) (Holds held))
+    total (SoughtOf (Holds held) asked.spec request.cell asked.code asked.entry) (λ sought. table_behind request.check.table (SliceOf asked sought request.address) (Holds held))
     (some_sought held asked.spec asked.code request.cell asked.entry) (λ sought is.
-    total (Holds held table_cap request.check.table) (SliceOf asked.base asked.limit sought request.address) (some_held held table_cap request.check.table (held request.check.table) refl) (λ bytes holds.
+    total (Holds held table_cap request.check.table) (SliceOf asked sought request.address) (some_held held table_cap request.check.table (held request.check.table) refl) (λ bytes holds.
     let posed = sought.posed in
     let read = (sought_parts (Holds held) asked.spec asked.code asked.entry request.cell sought is).posed in
     let m = some_machine posed.spec.machine (posed_has_machine (Holds held) asked.spec asked.code asked.entry posed read) in
-    let found = slices_have_some posed.image (problem_of posed.spec m.0 posed.image posed.entry asked.limit) asked.base bytes request.address sought.asked
-    (posed_is_well_posed (Holds held) asked.spec asked.code asked.entry posed m.0 asked.limit few read m.1) (λ a there. posed_has_words (Holds held) asked.spec asked.code asked.entry posed few read a there) in
+    let found = slices_have_some posed.image (problem_in asked posed m.0) asked.base bytes request.address sought.asked
+    (read_is_well_posed (Holds held) asked posed m.0 few read m.1) (λ a there. posed_has_words (Holds held) asked.spec asked.code asked.entry posed few read a there) in
     (found.0, record { machine = m.0; is_machine = m.1; sliced = found.1 })))
 
 -- ---- claims
@@ -128,22 +126,22 @@ slice_has_some held request few =
 pub claims_has_one : ClaimsHasOne
 claims_has_one held request found other few p q =
     let asked = request.check.analysis in
-    same_next (PosedOf (Holds held) asked.spec asked.code asked.entry) (λ posed. both_behind request.check.table request.claims (ClaimsOf asked.base asked.limit posed) (Holds held)) (λ x y. x ≡ y) (λ o. refl)
+    same_next (PosedOf (Holds held) asked.spec asked.code asked.entry) (λ posed. both_behind request.check.table request.claims (ClaimsOf asked posed) (Holds held)) (λ x y. x ≡ y) (λ o. refl)
     (one_posed held asked.spec asked.code asked.entry) (λ posed is.
-    same_next (Holds held table_cap request.check.table) (λ bytes. claims_behind request.claims (ClaimsOf asked.base asked.limit posed bytes) (Holds held)) (λ x y. x ≡ y) (λ o. refl) (one_held held table_cap request.check.table) (λ bytes holds.
-    same_next (Holds held claims_cap request.claims) (ClaimsOf asked.base asked.limit posed bytes) (λ x y. x ≡ y) (λ o. refl) (one_held held claims_cap request.claims) (λ claims claimed found other a b.
+    same_next (Holds held table_cap request.check.table) (λ bytes. claims_behind request.claims (ClaimsOf asked posed bytes) (Holds held)) (λ x y. x ≡ y) (λ o. refl) (one_held held table_cap request.check.table) (λ bytes holds.
+    same_next (Holds held claims_cap request.claims) (ClaimsOf asked posed bytes) (λ x y. x ≡ y) (λ o. refl) (one_held held claims_cap request.claims) (λ claims claimed found other a b.
     let same = one_machine posed.spec a.machine b.machine a.is_machine b.is_machine in
-    claims_are_one posed.image (problem_of posed.spec b.machine posed.image posed.entry asked.limit) asked.base bytes claims found other
-    (posed_is_well_posed (Holds held) asked.spec asked.code asked.entry posed b.machine asked.limit few is b.is_machine)
-    (subst (λ (m : Numbers). Claimed posed.image (problem_of posed.spec m posed.image posed.entry asked.limit) asked.base bytes claims found) same a.claimed) b.claimed))) found other p q
+    claims_are_one posed.image (problem_in asked posed b.machine) asked.base bytes claims found other
+    (read_is_well_posed (Holds held) asked posed b.machine few is b.is_machine)
+    (subst (λ (m : Numbers). Claimed posed.image (problem_in asked posed m) asked.base bytes claims found) same a.claimed) b.claimed))) found other p q
 
 pub claims_has_some : ClaimsHasSome
 claims_has_some held request few =
     let asked = request.check.analysis in
-    total (PosedOf (Holds held) asked.spec asked.code asked.entry) (λ posed. both_behind request.check.table request.claims (ClaimsOf asked.base asked.limit posed) (Holds held)) (some_posed held asked.spec asked.code asked.entry) (λ posed is.
-    total (Holds held table_cap request.check.table) (λ bytes. claims_behind request.claims (ClaimsOf asked.base asked.limit posed bytes) (Holds held)) (some_held held table_cap request.check.table (held request.check.table) refl) (λ bytes holds.
-    total (Holds held claims_cap request.claims) (ClaimsOf asked.base asked.limit posed bytes) (some_held held claims_cap request.claims (held request.claims) refl) (λ claims claimed.
+    total (PosedOf (Holds held) asked.spec asked.code asked.entry) (λ posed. both_behind request.check.table request.claims (ClaimsOf asked posed) (Holds held)) (some_posed held asked.spec asked.code asked.entry) (λ posed is.
+    total (Holds held table_cap request.check.table) (λ bytes. claims_behind request.claims (ClaimsOf asked posed bytes) (Holds held)) (some_held held table_cap request.check.table (held request.check.table) refl) (λ bytes holds.
+    total (Holds held claims_cap request.claims) (ClaimsOf asked posed bytes) (some_held held claims_cap request.claims (held request.claims) refl) (λ claims claimed.
     let m = some_machine posed.spec.machine (posed_has_machine (Holds held) asked.spec asked.code asked.entry posed is) in
-    let found = claims_have_some posed.image (problem_of posed.spec m.0 posed.image posed.entry asked.limit) asked.base bytes claims
-    (posed_is_well_posed (Holds held) asked.spec asked.code asked.entry posed m.0 asked.limit few is m.1) (λ a there. posed_has_words (Holds held) asked.spec asked.code asked.entry posed few is a there) in
+    let found = claims_have_some posed.image (problem_in asked posed m.0) asked.base bytes claims
+    (read_is_well_posed (Holds held) asked posed m.0 few is m.1) (λ a there. posed_has_words (Holds held) asked.spec asked.code asked.entry posed few is a there) in
     (found.0, record { machine = m.0; is_machine = m.1; claimed = found.1 }))))

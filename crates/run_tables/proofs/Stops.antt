@@ -2,28 +2,29 @@
 use Rattle.std.proofs.Common.{ℕ, List}
 use Rattle.std.specs.Prelude.{Err}
 use Rattle.command_words.specs.declared.bases.BaseName.{BaseName}
-use Rattle.posed_problems.specs.Problems.{problem_of}
+use Rattle.command_words.specs.Requests.{AnalyseRequest}
 use Rattle.analysis_domains.specs.Tasks as tasks
 use Rattle.analysis_domains.proofs.Verdicts.{MayStop, may_stop}
 use Rattle.run_steps.specs.Outcome.{Refusal}
 use Rattle.table_inputs.specs.Inputs.{Coded, Posed, Sought}
+use Rattle.run_tables.specs.Problems.{problem_in, task_in}
 use Rattle.run_tables.specs.Steps.{AnalysisOf, CheckOf, ClaimsOf, ConversionOf, SliceOf}
 
-pub analysis_stops : (base : BaseName) (limit : ℕ) (posed : Posed) (refusal : Refusal) → AnalysisOf base limit posed (Err refusal) → MayStop refusal
-analysis_stops base limit posed refusal is =
-    may_stop posed.image (tasks.analyse (problem_of posed.spec is.machine posed.image posed.entry limit)) base refusal is.analysed
+pub analysis_stops : (request : AnalyseRequest) (posed : Posed) (refusal : Refusal) → AnalysisOf request posed (Err refusal) → MayStop refusal
+analysis_stops request posed refusal is =
+    may_stop posed.image (task_in request (problem_in request posed is.machine)) request.base refusal is.analysed
 
-pub check_stops : (base : BaseName) (limit : ℕ) (posed : Posed) (bytes : List ℕ) (refusal : Refusal) → CheckOf base limit posed bytes (Err refusal) → MayStop refusal
-check_stops base limit posed bytes refusal is =
-    may_stop posed.image (tasks.check (problem_of posed.spec is.machine posed.image posed.entry limit) bytes) base refusal is.checked
+pub check_stops : (request : AnalyseRequest) (posed : Posed) (bytes : List ℕ) (refusal : Refusal) → CheckOf request posed bytes (Err refusal) → MayStop refusal
+check_stops request posed bytes refusal is =
+    may_stop posed.image (tasks.check (problem_in request posed is.machine) bytes) request.base refusal is.checked
 
 pub conversion_stops : (base : BaseName) (coded : Coded) (bytes : List ℕ) (refusal : Refusal) → ConversionOf base coded bytes (Err refusal) → MayStop refusal
 conversion_stops base coded bytes refusal is = may_stop coded.image (tasks.convert coded.spec bytes) base refusal is
 
-pub slice_stops : (base : BaseName) (limit : ℕ) (sought : Sought) (at : ℕ) (bytes : List ℕ) (refusal : Refusal) → SliceOf base limit sought at bytes (Err refusal) → MayStop refusal
-slice_stops base limit sought at bytes refusal is =
-    may_stop sought.posed.image (tasks.slice (problem_of sought.posed.spec is.machine sought.posed.image sought.posed.entry limit) bytes at sought.asked) base refusal is.sliced
+pub slice_stops : (request : AnalyseRequest) (sought : Sought) (at : ℕ) (bytes : List ℕ) (refusal : Refusal) → SliceOf request sought at bytes (Err refusal) → MayStop refusal
+slice_stops request sought at bytes refusal is =
+    may_stop sought.posed.image (tasks.slice (problem_in request sought.posed is.machine) bytes at sought.asked) request.base refusal is.sliced
 
-pub claims_stop : (base : BaseName) (limit : ℕ) (posed : Posed) (bytes claims : List ℕ) (refusal : Refusal) → ClaimsOf base limit posed bytes claims (Err refusal) → MayStop refusal
-claims_stop base limit posed bytes claims refusal is =
-    may_stop posed.image (tasks.claims (problem_of posed.spec is.machine posed.image posed.entry limit) bytes claims) base refusal is.claimed
+pub claims_stop : (request : AnalyseRequest) (posed : Posed) (bytes claims : List ℕ) (refusal : Refusal) → ClaimsOf request posed bytes claims (Err refusal) → MayStop refusal
+claims_stop request posed bytes claims refusal is =
+    may_stop posed.image (tasks.claims (problem_in request posed is.machine) bytes claims) request.base refusal is.claimed

@@ -1,14 +1,25 @@
 -- The outcomes of the commands over the bytes that names hold, where code has no more parts than an image may have segments.
-use Rattle.std.specs.Prelude.{◌≡◌, ◌≤◌, length}
+use Rattle.std.specs.Prelude.{◌≡◌, ◌⊎◌, ◌≤◌, Ok, length}
 use Rattle.command_words.specs.Requests.{AnalyseRequest, CheckRequest, ClaimsRequest, ConvertRequest, SliceRequest}
 use Rattle.analysis_domains.specs.Laws.{AreOne}
 use Rattle.run_steps.specs.Outcome.{Outcome}
 use Rattle.run_steps.specs.Reading.{Held, Holds}
+use Rattle.table_inputs.specs.Inputs.{Coded, CodedOf, Posed, PosedOf}
 use Rattle.run_tables.specs.Steps.{AnalyseSteps, CheckSteps, ClaimsSteps, ConvertSteps, SliceSteps}
 
--- `analyse` has one outcome at most, but that over affine relations two may be texts
+-- They are one outcome of an analysis; over relations both may be texts of one table of the specification and the code that were read.
+abbrev pub AreOneAnalysis : Held → AnalyseRequest → Outcome → Outcome → Type 0
+AreOneAnalysis held request found other =
+    (found ≡ other) ⊎ ((posed : Posed) × PosedOf (Holds held) request.spec request.code request.entry (Ok posed) × AreOne request.base posed.spec posed.image found other)
+
+-- So it is of a text that is written anew.
+abbrev pub AreOneConversion : Held → ConvertRequest → Outcome → Outcome → Type 0
+AreOneConversion held request found other =
+    (found ≡ other) ⊎ ((coded : Coded) × CodedOf (Holds held) request.spec request.code (Ok coded) × AreOne request.base coded.spec coded.image found other)
+
+-- `analyse` has one outcome at most, left open or not, but that over affine relations two may be texts of its table
 abbrev pub AnalyseHasOne : Type 0
-AnalyseHasOne = (held : Held) (request : AnalyseRequest) (found other : Outcome) → length request.code.parts ≤ 16 → AnalyseSteps (Holds held) request found → AnalyseSteps (Holds held) request other → AreOne request.base found other
+AnalyseHasOne = (held : Held) (request : AnalyseRequest) (found other : Outcome) → length request.code.parts ≤ 16 → AnalyseSteps (Holds held) request found → AnalyseSteps (Holds held) request other → AreOneAnalysis held request found other
 
 -- and at least one
 abbrev pub AnalyseHasSome : Type 0
@@ -23,7 +34,7 @@ CheckHasSome = (held : Held) (request : CheckRequest) → length request.analysi
 
 -- `convert` has one, as `analyse` has
 abbrev pub ConvertHasOne : Type 0
-ConvertHasOne = (held : Held) (request : ConvertRequest) (found other : Outcome) → length request.code.parts ≤ 16 → ConvertSteps (Holds held) request found → ConvertSteps (Holds held) request other → AreOne request.base found other
+ConvertHasOne = (held : Held) (request : ConvertRequest) (found other : Outcome) → length request.code.parts ≤ 16 → ConvertSteps (Holds held) request found → ConvertSteps (Holds held) request other → AreOneConversion held request found other
 
 abbrev pub ConvertHasSome : Type 0
 ConvertHasSome = (held : Held) (request : ConvertRequest) → length request.code.parts ≤ 16 → (found : Outcome) × ConvertSteps (Holds held) request found

@@ -1,70 +1,82 @@
 -- The steps of the commands on tables.
-use Rattle.std.specs.Prelude.{◌≡◌, ℕ, List, [], ◌∷◌, ◌++◌, Some}
+use Rattle.std.specs.Prelude.{◌≡◌, ℕ, List, [], ◌∷◌, ◌++◌, Some, Ok}
 use Rattle.command_words.specs.declared.bases.BaseName.{BaseName}
 use Rattle.command_words.specs.Requests.{AnalyseRequest, CheckRequest, ClaimsRequest, ConvertRequest, SliceRequest}
 use Rattle.spec_types.specs.declared.spec.Machine.{Machine}
-use Rattle.posed_problems.specs.Problems.{problem_of}
-use Rattle.analysis_domains.specs.Named.{Accepted, Analysed, Checked, Claimed, ClaimsHold, Converted, SliceHolds, Sliced}
-use Rattle.run_steps.specs.Outcome.{Outcome}
+use Rattle.analysis_domains.specs.Named.{Accepted, Analysed, AnalysedOpen, Checked, Claimed, ClaimsHold, Converted, Done, SliceHolds, Sliced}
+use Rattle.run_steps.specs.Outcome.{Outcome, text}
 use Rattle.run_steps.specs.Reading.{Capped, Reading}
 use Rattle.run_steps.specs.Steps.{Then}
 use Rattle.table_inputs.specs.Inputs.{Coded, CodedOf, Posed, PosedOf, Sought, SoughtOf, claims_cap, coded_inputs, posed_inputs, table_cap}
+use Rattle.run_tables.specs.Problems.{problem_in, task_in}
 
--- The outcome of the analysis of what was read, over a base, where an instruction may have at most so many targets.
-pub record AnalysisOf (base : BaseName) (limit : ℕ) (posed : Posed) (outcome : Outcome) : Type 0 where
+-- The outcome of the analysis of what was read, as the request asks for it: over its base and under its limit, left open or not.
+pub record AnalysisOf (request : AnalyseRequest) (posed : Posed) (outcome : Outcome) : Type 0 where
   pub machine : Machine
   pub is_machine : posed.spec.machine ≡ Some machine
-  pub analysed : Analysed posed.image (problem_of posed.spec machine posed.image posed.entry limit) base outcome
+  pub analysed : Done posed.image (task_in request (problem_in request posed machine)) request.base outcome
+
+-- The text is that of the table of the analysis, which is not left open: it is true of every run.
+pub record TabledBy (request : AnalyseRequest) (posed : Posed) (bytes : List ℕ) : Type 0 where
+  pub machine : Machine
+  pub is_machine : posed.spec.machine ≡ Some machine
+  pub analysed : Analysed posed.image (problem_in request posed machine) request.base (Ok (text bytes))
+
+-- The text is that of the table of the analysis that is left open: it is true of every run up to and with the first state at an open address.
+pub record OpenTabledBy (request : AnalyseRequest) (posed : Posed) (bytes : List ℕ) : Type 0 where
+  pub machine : Machine
+  pub is_machine : posed.spec.machine ≡ Some machine
+  pub analysed : AnalysedOpen posed.image (problem_in request posed machine) request.base (Ok (text bytes))
 
 -- That of the check of a table, which is a text.
-pub record CheckOf (base : BaseName) (limit : ℕ) (posed : Posed) (bytes : List ℕ) (outcome : Outcome) : Type 0 where
+pub record CheckOf (request : AnalyseRequest) (posed : Posed) (bytes : List ℕ) (outcome : Outcome) : Type 0 where
   pub machine : Machine
   pub is_machine : posed.spec.machine ≡ Some machine
-  pub checked : Checked posed.image (problem_of posed.spec machine posed.image posed.entry limit) base bytes outcome
+  pub checked : Checked posed.image (problem_in request posed machine) request.base bytes outcome
 
 -- That of a text which is written anew.
 abbrev pub ConversionOf : BaseName → Coded → List ℕ → Outcome → Type 0
 ConversionOf base coded = Converted coded.image coded.spec base
 
 -- The text is that of a table which a check accepts: it is closed, and true of every run.
-pub record AcceptedBy (base : BaseName) (limit : ℕ) (posed : Posed) (bytes : List ℕ) : Type 0 where
+pub record AcceptedBy (request : AnalyseRequest) (posed : Posed) (bytes : List ℕ) : Type 0 where
   pub machine : Machine
   pub is_machine : posed.spec.machine ≡ Some machine
-  pub accepted : Accepted posed.image (problem_of posed.spec machine posed.image posed.entry limit) base bytes
+  pub accepted : Accepted posed.image (problem_in request posed machine) request.base bytes
 
 -- That of the slice of a table, which is a text, for the reads of a cell by the instruction at an address.
-pub record SliceOf (base : BaseName) (limit : ℕ) (sought : Sought) (at : ℕ) (bytes : List ℕ) (outcome : Outcome) : Type 0 where
+pub record SliceOf (request : AnalyseRequest) (sought : Sought) (at : ℕ) (bytes : List ℕ) (outcome : Outcome) : Type 0 where
   pub machine : Machine
   pub is_machine : sought.posed.spec.machine ≡ Some machine
-  pub sliced : Sliced sought.posed.image (problem_of sought.posed.spec machine sought.posed.image sought.posed.entry limit) base bytes at sought.asked outcome
+  pub sliced : Sliced sought.posed.image (problem_in request sought.posed machine) request.base bytes at sought.asked outcome
 
 -- The text is that of the slice of a table which a check accepts: it holds every chain of every read that it is of.
-pub record SlicedBy (base : BaseName) (limit : ℕ) (sought : Sought) (at : ℕ) (bytes text : List ℕ) : Type 0 where
+pub record SlicedBy (request : AnalyseRequest) (sought : Sought) (at : ℕ) (bytes text : List ℕ) : Type 0 where
   pub machine : Machine
   pub is_machine : sought.posed.spec.machine ≡ Some machine
-  pub holds : SliceHolds sought.posed.image (problem_of sought.posed.spec machine sought.posed.image sought.posed.entry limit) base bytes at sought.asked text
+  pub holds : SliceHolds sought.posed.image (problem_in request sought.posed machine) request.base bytes at sought.asked text
 
 -- That of claims, which are a text, on a table, which is one.
-pub record ClaimsOf (base : BaseName) (limit : ℕ) (posed : Posed) (bytes claims : List ℕ) (outcome : Outcome) : Type 0 where
+pub record ClaimsOf (request : AnalyseRequest) (posed : Posed) (bytes claims : List ℕ) (outcome : Outcome) : Type 0 where
   pub machine : Machine
   pub is_machine : posed.spec.machine ≡ Some machine
-  pub claimed : Claimed posed.image (problem_of posed.spec machine posed.image posed.entry limit) base bytes claims outcome
+  pub claimed : Claimed posed.image (problem_in request posed machine) request.base bytes claims outcome
 
 -- The text has a line for each claim on a table which a check accepts: each that is answered with yes is true of every run.
-pub record ClaimedBy (base : BaseName) (limit : ℕ) (posed : Posed) (bytes claims text : List ℕ) : Type 0 where
+pub record ClaimedBy (request : AnalyseRequest) (posed : Posed) (bytes claims text : List ℕ) : Type 0 where
   pub machine : Machine
   pub is_machine : posed.spec.machine ≡ Some machine
-  pub holds : ClaimsHold posed.image (problem_of posed.spec machine posed.image posed.entry limit) base bytes claims text
+  pub holds : ClaimsHold posed.image (problem_in request posed machine) request.base bytes claims text
 
 -- `analyse`: the specification, the code and the entry are read and examined, one after another, and the code is analysed
 abbrev pub AnalyseSteps : Reading → AnalyseRequest → Outcome → Type 0
-AnalyseSteps reads request = Then (PosedOf reads request.spec request.code request.entry) (AnalysisOf request.base request.limit)
+AnalyseSteps reads request = Then (PosedOf reads request.spec request.code request.entry) (AnalysisOf request)
 
 -- `check`: then the table is read, and checked
 abbrev pub CheckSteps : Reading → CheckRequest → Outcome → Type 0
 CheckSteps reads request =
     Then (PosedOf reads request.analysis.spec request.analysis.code request.analysis.entry) (λ posed.
-    Then (reads table_cap request.table) (CheckOf request.analysis.base request.analysis.limit posed))
+    Then (reads table_cap request.table) (CheckOf request.analysis posed))
 
 -- `convert`: the specification, the code and the table are read, and the table is written anew
 abbrev pub ConvertSteps : Reading → ConvertRequest → Outcome → Type 0
@@ -77,14 +89,14 @@ ConvertSteps reads request =
 abbrev pub SliceSteps : Reading → SliceRequest → Outcome → Type 0
 SliceSteps reads request =
     Then (SoughtOf reads request.check.analysis.spec request.cell request.check.analysis.code request.check.analysis.entry) (λ sought.
-    Then (reads table_cap request.check.table) (SliceOf request.check.analysis.base request.check.analysis.limit sought request.address))
+    Then (reads table_cap request.check.table) (SliceOf request.check.analysis sought request.address))
 
 -- `claims`: as `check` up to the table; then the claims are read, the table and the claims are examined, and the claims are answered
 abbrev pub ClaimsSteps : Reading → ClaimsRequest → Outcome → Type 0
 ClaimsSteps reads request =
     Then (PosedOf reads request.check.analysis.spec request.check.analysis.code request.check.analysis.entry) (λ posed.
     Then (reads table_cap request.check.table) (λ bytes.
-    Then (reads claims_cap request.claims) (ClaimsOf request.check.analysis.base request.check.analysis.limit posed bytes)))
+    Then (reads claims_cap request.claims) (ClaimsOf request.check.analysis posed bytes)))
 
 -- the inputs that are opened
 abbrev pub analyse_inputs : AnalyseRequest → List Capped

@@ -1,44 +1,47 @@
 -- How many transfers the commands on tables make.
-use Rattle.std.specs.Prelude.{◌⊎◌, ℕ, ◌+◌, ◌≤◌, Option, Some, None, Ok, length}
+use Rattle.std.specs.Prelude.{◌≡◌, ◌⊎◌, ℕ, ◌≤◌, List, Some, Ok}
 use Rattle.command_words.specs.declared.bases.BaseName.{BaseName}
+use Rattle.command_words.specs.Bases.{base_text}
 use Rattle.command_words.specs.Requests.{AnalyseRequest, CheckRequest, ClaimsRequest, SliceRequest}
 use Rattle.spec_types.specs.declared.spec.Machine.{Machine}
-use Rattle.insn_decode.specs.Image.{addresses}
-use Rattle.posed_problems.specs.Problems.{problem_of}
-use Rattle.analysis_domains.specs.Tasks.{analyse}
-use Rattle.analysis_domains.specs.Work.{work_of}
+use Rattle.domain_laws.specs.States.{state_type}
+use Rattle.analysis_domains.specs.Named.{domain_of}
+use Rattle.analysis_domains.specs.Work.{IsWorkOn, WorkOf}
 use Rattle.run_steps.specs.Reading.{Reading}
-use Rattle.table_inputs.specs.Inputs.{Posed, PosedOf, SoughtOf}
+use Rattle.table_inputs.specs.Inputs.{Posed, PosedOf, Sought, SoughtOf, table_cap}
+use Rattle.run_tables.specs.Problems.{problem_in, task_in}
 
--- From so many transfers to so many: none was made, or at most as many as what was read takes.
-abbrev pub IsWork : {A : Type 0} → (A → Type 0) → (A → ℕ) → ℕ → ℕ → Type 0
-IsWork {A = A} Is most old new = (new ≤ old) ⊎ ((x : A) × Is x × (new ≤ old + most x))
+-- From so many transfers to so many: none was made, or as many as what was read takes.
+abbrev pub IsWorkFor : {A : Type 0} → (A → Type 0) → (A → ℕ → ℕ → Type 0) → ℕ → ℕ → Type 0
+IsWorkFor {A = A} Is Takes old new = (new ≤ old) ⊎ ((x : A) × Is x × Takes x old new)
 
-abbrev pub of_machine : Option Machine → (Machine → ℕ) → ℕ
-of_machine None most = 0
-of_machine (Some m) most = most m
+-- The analysis of what was read takes as many.
+pub record AnalysisTakes (request : AnalyseRequest) (posed : Posed) (old new : ℕ) : Type 0 where
+  pub machine : Machine
+  pub is_machine : posed.spec.machine ≡ Some machine
+  pub work : WorkOf posed.image (task_in request (problem_in request posed machine)) request.base old new
 
--- those of the analysis of what was read
-abbrev pub analysis_work : BaseName → ℕ → Posed → ℕ
-analysis_work base limit posed = of_machine posed.spec.machine (λ m. work_of (analyse (problem_of posed.spec m posed.image posed.entry limit)) base)
+-- The check of a table takes as many, which is a text: one for each address that it lists.
+abbrev pub CheckTakes : BaseName → Posed → List ℕ → ℕ → ℕ → Type 0
+CheckTakes base posed bytes = IsWorkOn (domain_of (state_type posed.spec) base).domain posed.image (base_text base) posed.spec bytes
 
--- those of a check: one for each code word
-abbrev pub check_work : Posed → ℕ
-check_work posed = length (addresses posed.image.segments)
-
--- `analyse` makes at most N(H + 4) + N transfers, of N code words and elements of the height H,
+-- `analyse` makes at most N(H + J + 1) + N transfers, of N code words and elements of the height H of which J changes join; left open, N more.
 abbrev pub AnalyseWork : Reading → AnalyseRequest → ℕ → ℕ → Type 0
-AnalyseWork reads request = IsWork (λ posed. PosedOf reads request.spec request.code request.entry (Ok posed)) (analysis_work request.base request.limit)
+AnalyseWork reads request = IsWorkFor (λ posed. PosedOf reads request.spec request.code request.entry (Ok posed)) (AnalysisTakes request)
 
--- `check` at most N,
+-- `check` makes at most one for each address that the table lists,
 abbrev pub CheckWork : Reading → CheckRequest → ℕ → ℕ → Type 0
-CheckWork reads request = IsWork (λ posed. PosedOf reads request.analysis.spec request.analysis.code request.analysis.entry (Ok posed)) check_work
+CheckWork reads request =
+    IsWorkFor (λ (read : Posed × List ℕ). PosedOf reads request.analysis.spec request.analysis.code request.analysis.entry (Ok read.0) × reads table_cap request.table (Ok read.1))
+    (λ read. CheckTakes request.analysis.base read.0 read.1)
 
 -- and so do `slice`
 abbrev pub SliceWork : Reading → SliceRequest → ℕ → ℕ → Type 0
 SliceWork reads request =
-    IsWork (λ sought. SoughtOf reads request.check.analysis.spec request.cell request.check.analysis.code request.check.analysis.entry (Ok sought)) (λ sought. check_work sought.posed)
+    IsWorkFor (λ (read : Sought × List ℕ). SoughtOf reads request.check.analysis.spec request.cell request.check.analysis.code request.check.analysis.entry (Ok read.0)
+    × reads table_cap request.check.table (Ok read.1))
+    (λ read. CheckTakes request.check.analysis.base read.0.posed read.1)
 
 -- and `claims`.
 abbrev pub ClaimsWork : Reading → ClaimsRequest → ℕ → ℕ → Type 0
-ClaimsWork reads request = IsWork (λ posed. PosedOf reads request.check.analysis.spec request.check.analysis.code request.check.analysis.entry (Ok posed)) check_work
+ClaimsWork reads request = CheckWork reads request.check

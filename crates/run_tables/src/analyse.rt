@@ -1,18 +1,23 @@
 //! The command `analyse`.
 
-ghost use Rattle.std.specs.Prelude.{◌≡◌, ◌<◌, ◌≤◌, ◌+◌, ◌^◌, ◌⊎◌, IsSome, IsTrue, length};
+ghost use Rattle.std.specs.Prelude.{◌≡◌, ◌<◌, ◌≤◌, ◌^◌, ◌⊎◌, IsSome, IsTrue, length};
 ghost use Rattle.tsl_io.specs.InputState.{InputsKept};
 ghost use Rattle.run_steps.specs.Faultless.{NoOtherFault};
 ghost use Rattle.run_steps.specs.Outcomes.{Gives, answer_of};
 ghost use Rattle.run_steps.specs.Reading.{Gave, IsTakenFrom};
 ghost use Rattle.command_words.specs.Views.{analyse_of};
 ghost use Rattle.table_inputs.specs.Views.{posed_of as view};
+ghost use Rattle.insn_decode.specs.Image.{Image};
+ghost use Rattle.spec_types.specs.Specification.{Spec};
+ghost use Rattle.domain_tasks.specs.Read.{IsAsked, IsRead, problem_at, task_of};
+ghost use Rattle.state_text.specs.Reading.{entry_of};
+ghost use Rattle.run_tables.specs.Problems.{task_in};
 ghost use Rattle.run_tables.specs.Read.{IsPosed};
 ghost use Rattle.run_tables.specs.Steps.{AnalyseSteps, AnalysisOf, analyse_inputs};
-ghost use Rattle.run_tables.specs.Work.{AnalyseWork, analysis_work};
+ghost use Rattle.run_tables.specs.Work.{AnalyseWork, AnalysisTakes};
 
 use base_tasks::over_base;
-use command_words::{AnalyseRequest, BaseName};
+use command_words::AnalyseRequest;
 use domain_tasks::{Start, Subject, Task};
 use run_steps::{Answer, Halt};
 use std::alloc::Global;
@@ -22,7 +27,7 @@ use table_inputs::{Posed, posed_of};
 use tsl_io::Inputs;
 
 /// The text of the table of a machine's analysis: its specification, its code and an entry are read and examined, and the
-/// code is analysed.
+/// code is analysed, where the request says so left open at what has no decoding or too many targets.
 pub fn analysed<'a, I: Inputs, L: Ledger>(
     alloc: Global,
     inputs: &mut I,
@@ -37,24 +42,23 @@ pub fn analysed<'a, I: Inputs, L: Ledger>(
     ensures taken { IsTrue (I.state inputs.old).tells → (inputs.new ≡ inputs.old)
         ⊎ (IsTrue (I.state inputs.new).is_open
         → IsTakenFrom (analyse_inputs (analyse_of request.now)) (I.state inputs.old) (I.state inputs.new)) }
-    // At most N(H + 4) + N transfers, of N code words and elements of the height H.
+    // At most N(H + J + 1) + N transfers, of N code words and elements of the height H of which J changes join; left open, N more.
     ensures work { AnalyseWork (Gave (I.state inputs.old) (I.state inputs.new)) (analyse_of request.now) steps.old steps.new }
 {
     let posed = posed_of(alloc, inputs, request.spec, &request.code, request.entry)?;
-    analysis_of::<L>(alloc, &posed, request.base, request.limit, steps)
+    analysis_of::<L>(alloc, &posed, request, steps)
 }
 
-/// What the analysis comes to over a base, where an instruction may have at most so many targets.
+/// What the analysis that is asked for comes to.
 fn analysis_of<'a, L: Ledger>(
     alloc: Global,
     posed: &Posed,
-    base: BaseName,
-    limit: u32,
+    request: &AnalyseRequest<'a>,
     steps: &mut Steps<L>,
 ) -> Result<Answer, Halt<'a>>
     requires { IsPosed (view posed.now) }
-    ensures gives { Gives (AnalysisOf base limit (view posed.now)) answer_of result }
-    ensures work { steps.new ≤ steps.old + analysis_work base limit (view posed.now) }
+    ensures gives { Gives (AnalysisOf (analyse_of request.now) (view posed.now)) answer_of result }
+    ensures work { AnalysisTakes (analyse_of request.now) (view posed.now) steps.old steps.new }
 {
     let Some(machine) = posed.spec.machine else {
         unreachable!()
@@ -62,12 +66,25 @@ fn analysis_of<'a, L: Ledger>(
     let start = Start {
         machine,
         entry: &posed.entry,
-        limit,
+        limit: request.limit,
+        joins: request.joins,
     };
     let subject = Subject {
         spec: &posed.spec,
         image: &posed.image,
-        task: Task::Analyse(start),
+        task: analysis_from(request, start),
     };
-    over_base::<L>(alloc, &subject, base, steps)
+    over_base::<L>(alloc, &subject, request.base, steps)
+}
+
+/// The analysis from a start, left open or not.
+fn analysis_from<'a, 'b>(request: &AnalyseRequest<'b>, start: Start<'a>) -> Task<'a>
+    ensures task { (spec : Spec) (image : Image) → task_of spec image result ≡ task_in (analyse_of request.now) (problem_at spec image start.entry) }
+    ensures asked { (spec : Spec) → IsRead spec start.entry.machine (entry_of start.entry.entry.now) → IsAsked spec result }
+{
+    if request.open {
+        Task::AnalyseOpen(start)
+    } else {
+        Task::Analyse(start)
+    }
 }

@@ -1,19 +1,19 @@
 //! The command `check`.
 
-ghost use Rattle.std.specs.Prelude.{◌≡◌, ◌<◌, ◌≤◌, ◌+◌, ◌^◌, ◌⊎◌, IsSome, IsTrue, length};
+ghost use Rattle.std.specs.Prelude.{◌≡◌, ◌<◌, ◌≤◌, ◌^◌, ◌⊎◌, IsSome, IsTrue, length};
 ghost use Rattle.tsl_io.specs.InputState.{InputsKept};
 ghost use Rattle.run_steps.specs.Faultless.{NoOtherFault};
 ghost use Rattle.run_steps.specs.Outcomes.{Gives, answer_of};
 ghost use Rattle.run_steps.specs.Reading.{Gave, IsTakenFrom};
-ghost use Rattle.command_words.specs.Views.{check_of};
+ghost use Rattle.command_words.specs.Views.{analyse_of, check_of};
 ghost use Rattle.table_inputs.specs.Inputs.{table_cap};
 ghost use Rattle.table_inputs.specs.Views.{posed_of as view};
 ghost use Rattle.run_tables.specs.Read.{IsPosed};
 ghost use Rattle.run_tables.specs.Steps.{CheckOf, CheckSteps, check_inputs};
-ghost use Rattle.run_tables.specs.Work.{CheckWork, check_work};
+ghost use Rattle.run_tables.specs.Work.{CheckTakes, CheckWork};
 
 use base_tasks::over_base;
-use command_words::{BaseName, CheckRequest};
+use command_words::{AnalyseRequest, CheckRequest};
 use domain_tasks::{Start, Subject, Task};
 use run_steps::{Answer, Halt, read_input};
 use std::alloc::Global;
@@ -37,28 +37,27 @@ pub fn checked<'a, I: Inputs, L: Ledger>(
     ensures taken { IsTrue (I.state inputs.old).tells → (inputs.new ≡ inputs.old)
         ⊎ (IsTrue (I.state inputs.new).is_open
         → IsTakenFrom (check_inputs (check_of request.now)) (I.state inputs.old) (I.state inputs.new)) }
-    // At most one transfer a code word.
+    // At most one transfer for each address that the table lists.
     ensures work { CheckWork (Gave (I.state inputs.old) (I.state inputs.new)) (check_of request.now) steps.old steps.new }
 {
     let asked = &request.analysis;
     let posed = posed_of(alloc, inputs, asked.spec, &asked.code, asked.entry)?;
     let table = read_input(alloc, inputs, request.table, TABLE_CAP)?;
-    verdict_of::<L>(alloc, &posed, asked.base, asked.limit, &table, steps)
+    verdict_of::<L>(alloc, &posed, asked, &table, steps)
 }
 
-/// What the check of a table comes to over a base, where an instruction may have at most so many targets.
+/// What the check of a table comes to, against the analysis that is asked for.
 fn verdict_of<'a, L: Ledger>(
     alloc: Global,
     posed: &Posed,
-    base: BaseName,
-    limit: u32,
+    asked: &AnalyseRequest<'a>,
     table: &[u8],
     steps: &mut Steps<L>,
 ) -> Result<Answer, Halt<'a>>
     requires posed { IsPosed (view posed.now) }
     requires short { length table.now ≤ table_cap }
-    ensures gives { Gives (CheckOf base limit (view posed.now) table.now) answer_of result }
-    ensures work { steps.new ≤ steps.old + check_work (view posed.now) }
+    ensures gives { Gives (CheckOf (analyse_of asked.now) (view posed.now) table.now) answer_of result }
+    ensures work { CheckTakes asked.now.base (view posed.now) table.now steps.old steps.new }
 {
     let Some(machine) = posed.spec.machine else {
         unreachable!()
@@ -66,12 +65,13 @@ fn verdict_of<'a, L: Ledger>(
     let start = Start {
         machine,
         entry: &posed.entry,
-        limit,
+        limit: asked.limit,
+        joins: asked.joins,
     };
     let subject = Subject {
         spec: &posed.spec,
         image: &posed.image,
         task: Task::Check(start, table),
     };
-    over_base::<L>(alloc, &subject, base, steps)
+    over_base::<L>(alloc, &subject, asked.base, steps)
 }

@@ -1,19 +1,19 @@
 //! The command `claims`.
 
-ghost use Rattle.std.specs.Prelude.{◌≡◌, ◌<◌, ◌≤◌, ◌+◌, ◌^◌, ◌⊎◌, IsSome, IsTrue, length};
+ghost use Rattle.std.specs.Prelude.{◌≡◌, ◌<◌, ◌≤◌, ◌^◌, ◌⊎◌, IsSome, IsTrue, length};
 ghost use Rattle.tsl_io.specs.InputState.{InputsKept};
 ghost use Rattle.run_steps.specs.Faultless.{NoOtherFault};
 ghost use Rattle.run_steps.specs.Outcomes.{Gives, answer_of};
 ghost use Rattle.run_steps.specs.Reading.{Gave, IsTakenFrom};
-ghost use Rattle.command_words.specs.Views.{claims_of};
+ghost use Rattle.command_words.specs.Views.{analyse_of, claims_of};
 ghost use Rattle.table_inputs.specs.Inputs.{claims_cap, table_cap};
 ghost use Rattle.table_inputs.specs.Views.{posed_of as view};
 ghost use Rattle.run_tables.specs.Read.{IsPosed};
 ghost use Rattle.run_tables.specs.Steps.{ClaimsOf, ClaimsSteps, claims_inputs};
-ghost use Rattle.run_tables.specs.Work.{ClaimsWork, check_work};
+ghost use Rattle.run_tables.specs.Work.{CheckTakes, ClaimsWork};
 
 use base_tasks::over_base;
-use command_words::{BaseName, ClaimsRequest};
+use command_words::{AnalyseRequest, ClaimsRequest};
 use domain_tasks::{Start, Subject, Task};
 use run_steps::{Answer, Halt, read_input};
 use std::alloc::Global;
@@ -38,30 +38,21 @@ pub fn claimed<'a, I: Inputs, L: Ledger>(
     ensures taken { IsTrue (I.state inputs.old).tells → (inputs.new ≡ inputs.old)
         ⊎ (IsTrue (I.state inputs.new).is_open
         → IsTakenFrom (claims_inputs (claims_of request.now)) (I.state inputs.old) (I.state inputs.new)) }
-    // At most one transfer a code word.
+    // At most one transfer for each address that the table lists.
     ensures work { ClaimsWork (Gave (I.state inputs.old) (I.state inputs.new)) (claims_of request.now) steps.old steps.new }
 {
     let asked = &request.check.analysis;
     let posed = posed_of(alloc, inputs, asked.spec, &asked.code, asked.entry)?;
     let table = read_input(alloc, inputs, request.check.table, TABLE_CAP)?;
     let claims = read_input(alloc, inputs, request.claims, CLAIMS_CAP)?;
-    answers_of::<L>(
-        alloc,
-        &posed,
-        asked.base,
-        asked.limit,
-        &table,
-        &claims,
-        steps,
-    )
+    answers_of::<L>(alloc, &posed, asked, &table, &claims, steps)
 }
 
-/// What claims on a table come to over a base, where an instruction may have at most so many targets.
+/// What claims on a table come to, against the analysis that is asked for.
 fn answers_of<'a, L: Ledger>(
     alloc: Global,
     posed: &Posed,
-    base: BaseName,
-    limit: u32,
+    asked: &AnalyseRequest<'a>,
     table: &[u8],
     claims: &[u8],
     steps: &mut Steps<L>,
@@ -69,8 +60,8 @@ fn answers_of<'a, L: Ledger>(
     requires posed { IsPosed (view posed.now) }
     requires short_table { length table.now ≤ table_cap }
     requires short_claims { length claims.now ≤ claims_cap }
-    ensures gives { Gives (ClaimsOf base limit (view posed.now) table.now claims.now) answer_of result }
-    ensures work { steps.new ≤ steps.old + check_work (view posed.now) }
+    ensures gives { Gives (ClaimsOf (analyse_of asked.now) (view posed.now) table.now claims.now) answer_of result }
+    ensures work { CheckTakes asked.now.base (view posed.now) table.now steps.old steps.new }
 {
     let Some(machine) = posed.spec.machine else {
         unreachable!()
@@ -78,12 +69,13 @@ fn answers_of<'a, L: Ledger>(
     let start = Start {
         machine,
         entry: &posed.entry,
-        limit,
+        limit: asked.limit,
+        joins: asked.joins,
     };
     let subject = Subject {
         spec: &posed.spec,
         image: &posed.image,
         task: Task::Claims(start, table, claims),
     };
-    over_base::<L>(alloc, &subject, base, steps)
+    over_base::<L>(alloc, &subject, asked.base, steps)
 }

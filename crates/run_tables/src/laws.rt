@@ -2,7 +2,7 @@
 
 ghost use Rattle.run_tables.specs.Laws.{AnalyseHasOne, AnalyseHasSome, CheckHasOne, CheckHasSome, ClaimsHasOne, ClaimsHasSome, ConvertHasOne, ConvertHasSome, SliceHasOne, SliceHasSome};
 
-/// Over the bytes that names hold, `analyse` has one outcome at most, but that over affine relations two may be texts of its table.
+/// Over the bytes that names hold, `analyse` has one outcome at most, left open or not, but that over affine relations two may be texts of its table.
 pub fn analyse_has_one()
     ensures { AnalyseHasOne }
 {}
@@ -22,7 +22,7 @@ pub fn check_has_some()
     ensures { CheckHasSome }
 {}
 
-/// `convert` has one outcome at most, but that over affine relations two may be texts.
+/// `convert` has one outcome at most, but that over affine relations two may be texts of one table.
 pub fn convert_has_one()
     ensures { ConvertHasOne }
 {}

@@ -1,19 +1,19 @@
 //! The command `slice`.
 
-ghost use Rattle.std.specs.Prelude.{◌≡◌, ◌<◌, ◌≤◌, ◌+◌, ◌^◌, ◌⊎◌, IsSome, IsTrue, length};
+ghost use Rattle.std.specs.Prelude.{◌≡◌, ◌<◌, ◌≤◌, ◌^◌, ◌⊎◌, IsSome, IsTrue, length};
 ghost use Rattle.tsl_io.specs.InputState.{InputsKept};
 ghost use Rattle.run_steps.specs.Faultless.{NoOtherFault};
 ghost use Rattle.run_steps.specs.Outcomes.{Gives, answer_of};
 ghost use Rattle.run_steps.specs.Reading.{Gave, IsTakenFrom};
-ghost use Rattle.command_words.specs.Views.{slice_of};
+ghost use Rattle.command_words.specs.Views.{analyse_of, slice_of};
 ghost use Rattle.table_inputs.specs.Inputs.{table_cap};
 ghost use Rattle.table_inputs.specs.Views.{sought_of as view};
 ghost use Rattle.run_tables.specs.Read.{IsPosed};
 ghost use Rattle.run_tables.specs.Steps.{SliceOf, SliceSteps, slice_inputs};
-ghost use Rattle.run_tables.specs.Work.{SliceWork, check_work};
+ghost use Rattle.run_tables.specs.Work.{CheckTakes, SliceWork};
 
 use base_tasks::over_base;
-use command_words::{BaseName, SliceRequest};
+use command_words::{AnalyseRequest, SliceRequest};
 use domain_tasks::{Start, Subject, Task};
 use run_steps::{Answer, Halt, read_input};
 use std::alloc::Global;
@@ -38,7 +38,7 @@ pub fn sliced<'a, I: Inputs, L: Ledger>(
     ensures taken { IsTrue (I.state inputs.old).tells → (inputs.new ≡ inputs.old)
         ⊎ (IsTrue (I.state inputs.new).is_open
         → IsTakenFrom (slice_inputs (slice_of request.now)) (I.state inputs.old) (I.state inputs.new)) }
-    // At most one transfer a code word.
+    // At most one transfer for each address that the table lists.
     ensures work { SliceWork (Gave (I.state inputs.old) (I.state inputs.new)) (slice_of request.now) steps.old steps.new }
 {
     let asked = &request.check.analysis;
@@ -51,31 +51,22 @@ pub fn sliced<'a, I: Inputs, L: Ledger>(
         asked.entry,
     )?;
     let table = read_input(alloc, inputs, request.check.table, TABLE_CAP)?;
-    slice_over::<L>(
-        alloc,
-        &sought,
-        asked.base,
-        asked.limit,
-        request.address,
-        &table,
-        steps,
-    )
+    slice_over::<L>(alloc, &sought, asked, request.address, &table, steps)
 }
 
-/// What the slice of a table comes to over a base, for the instruction at an address, where an instruction may have at most so many targets.
+/// What the slice of a table comes to for the instruction at an address, against the analysis that is asked for.
 fn slice_over<'a, L: Ledger>(
     alloc: Global,
     sought: &Sought,
-    base: BaseName,
-    limit: u32,
+    asked: &AnalyseRequest<'a>,
     at: u32,
     table: &[u8],
     steps: &mut Steps<L>,
 ) -> Result<Answer, Halt<'a>>
     requires posed { IsPosed (view sought.now).posed }
     requires short { length table.now ≤ table_cap }
-    ensures gives { Gives (SliceOf base limit (view sought.now) at table.now) answer_of result }
-    ensures work { steps.new ≤ steps.old + check_work (view sought.now).posed }
+    ensures gives { Gives (SliceOf (analyse_of asked.now) (view sought.now) at table.now) answer_of result }
+    ensures work { CheckTakes asked.now.base (view sought.now).posed table.now steps.old steps.new }
 {
     let posed = &sought.posed;
     let Some(machine) = posed.spec.machine else {
@@ -84,12 +75,13 @@ fn slice_over<'a, L: Ledger>(
     let start = Start {
         machine,
         entry: &posed.entry,
-        limit,
+        limit: asked.limit,
+        joins: asked.joins,
     };
     let subject = Subject {
         spec: &posed.spec,
         image: &posed.image,
         task: Task::Slice(start, table, at, sought.asked),
     };
-    over_base::<L>(alloc, &subject, base, steps)
+    over_base::<L>(alloc, &subject, asked.base, steps)
 }

@@ -45,19 +45,19 @@ module _ {E W S : Type 0} (A : Analysis E W S) (laws : AnalysisLaws A) (t u : Li
   fault_same : (at : ℕ) (b c : Listing E) → IsSameBlock A b c → (given other : Outcome E W) → IfPost A.elements.fits given → IfPost A.elements.fits other → SameOutcome A.elements given other
       → fault_of A t at b given ≡ fault_of A u at c other
   fault_same at b c blocks (undecodable v) (undecodable w) fits fits_other outcomes = ap (λ w. Some (Undecodable at w)) outcomes
-  fault_same at b c blocks (too_many x) (too_many y) fits fits_other outcomes = ap (λ w. Some (TooManyTargets at w)) outcomes
+  fault_same at b c blocks (too_many x us) (too_many y us') fits fits_other outcomes = ap (λ w. Some (TooManyTargets at w)) outcomes.0
   fault_same at b c blocks (moves ts x us) (moves ts' y us') fits fits_other outcomes =
       ap (λ l. if not l then Some (Targets at) else (if not (same_list same_use b.uses us) then Some (Use at) else open_from A t at x ts)) (lists_same b c blocks ts)
       ∙ ap (λ vs. if not (lists_targets A c ts) then Some (Targets at) else (if not (same_list same_use vs us) then Some (Use at) else open_from A t at x ts)) blocks.uses
       ∙ ap (λ o. if not (lists_targets A c ts) then Some (Targets at) else (if not (same_list same_use c.uses us) then Some (Use at) else o)) (open_from_same at x y fits fits_other outcomes.1 ts)
       ∙ ap (λ ts. fault_of A u at c (moves ts y us)) outcomes.0
       ∙ ap (λ us. fault_of A u at c (moves ts' y us)) outcomes.2
-  fault_same at b c blocks (undecodable v) (too_many y) fits fits_other outcomes = absurd outcomes
+  fault_same at b c blocks (undecodable v) (too_many y us') fits fits_other outcomes = absurd outcomes
   fault_same at b c blocks (undecodable v) (moves ts' y us') fits fits_other outcomes = absurd outcomes
-  fault_same at b c blocks (too_many x) (undecodable w) fits fits_other outcomes = absurd outcomes
-  fault_same at b c blocks (too_many x) (moves ts' y us') fits fits_other outcomes = absurd outcomes
+  fault_same at b c blocks (too_many x us) (undecodable w) fits fits_other outcomes = absurd outcomes
+  fault_same at b c blocks (too_many x us) (moves ts' y us') fits fits_other outcomes = absurd outcomes
   fault_same at b c blocks (moves ts x us) (undecodable w) fits fits_other outcomes = absurd outcomes
-  fault_same at b c blocks (moves ts x us) (too_many y) fits fits_other outcomes = absurd outcomes
+  fault_same at b c blocks (moves ts x us) (too_many y us') fits fits_other outcomes = absurd outcomes
 
   fault_at_same : (at : ℕ) (b c : Option (Listing E)) → t at ≡ b → u at ≡ c → AreSameBlocks A b c → fault_at A t at b ≡ fault_at A u at c
   fault_at_same at None None ist isu blocks = refl

@@ -1,5 +1,5 @@
 -- What follows for two runs in memory.
-use Rattle.std.proofs.Common.{◌≡◌, ◌∙◌, ◌⊎◌, ℕ, ◌<◌, ◌≤◌, List, Some, arith, inl, inr, length, refl, sym, ap, subst}
+use Rattle.std.proofs.Common.{◌≡◌, ◌∙◌, ◌⊎◌, ℕ, ◌<◌, ◌≤◌, List, Some, false, arith, inl, inr, length, refl, sym, ap, subst}
 use Rattle.std.specs.Prelude.{Ok}
 use Rattle.command_words.specs.Requests.{AnalyseRequest, Request, analyse, check}
 use Rattle.command_words.specs.Words.{asked}
@@ -12,18 +12,23 @@ use Rattle.std.specs.Prelude.{Option}
 use Rattle.table_inputs.specs.Inputs.{table_cap}
 use Rattle.analysis_domains.specs.Checks.{accepted_line}
 use Rattle.run_tables.specs.Steps.{AnalyseSteps}
+use Rattle.run_tables.proofs.Problems.{tabled_is}
 use Rattle.tsl_run.specs.Owed.{IsOwed, Owes, OwesLonger}
 use Rattle.tsl_run.specs.Steps.{Steps}
 use Rattle.tsl_run.specs.Tables.{IsTableFor}
+use Rattle.tsl_run.proofs.Parts.{few_asked}
 use Rattle.table_agreement.specs.Laws.{HoldTheSame}
 use Rattle.table_agreement.proofs.Runs.{analyse_then_check}
 
 module _ (words check_words : List (List ℕ)) (held later : Held) (request : AnalyseRequest) (table bytes : List ℕ) (asks : asked words ≡ Some (analyse request))
     (also : asked check_words ≡ Some (check (record { analysis = request; table = table }))) (same : HoldTheSame words held later) (wrote : IsTableFor held request bytes)
     (holds : later table ≡ Some bytes) (fits : length bytes ≤ table_cap) where
+  closed : request.open ≡ false
+  closed = (few_asked check_words (check (record { analysis = request; table = table })) also).1
+
   -- what was written is owed
   owed : IsOwed words held (Ok (text bytes))
-  owed = subst (λ (what : Option Request). Steps (Holds held) what (Ok (text bytes))) (sym asks) (goes_on wrote.is_posed wrote.analysed)
+  owed = subst (λ (what : Option Request). Steps (Holds held) what (Ok (text bytes))) (sym asks) (goes_on wrote.is_posed (tabled_is request wrote.posed bytes closed wrote.tabled))
 
   -- and so what the check owes is that line
   accepted : (found : Outcome) → IsOwed check_words later found → found ≡ Ok (text accepted_line)

@@ -1,5 +1,5 @@
 -- The same over what a run owes.
-use Rattle.std.proofs.Common.{◌≡◌, ◌∙◌, ◌⊎◌, ℕ, ◌≤◌, List, Option, Some, true, inl, inr, length, refl, sym, subst}
+use Rattle.std.proofs.Common.{◌≡◌, ◌∙◌, ◌⊎◌, ℕ, ◌≤◌, List, Option, Some, true, false, inl, inr, length, refl, sym, subst}
 use Rattle.std.specs.Prelude.{Err, Ok, Result}
 use Rattle.command_words.specs.declared.bases.BaseName.{BaseName}
 use Rattle.command_words.specs.Code.{Code}
@@ -10,7 +10,6 @@ use Rattle.insn_decode.specs.Image.{Image}
 use Rattle.spec_types.specs.declared.spec.Machine.{Machine as Numbers}
 use Rattle.spec_types.specs.Specification.{Spec}
 use Rattle.accepted_states.proofs.States.{accepted_have_states}
-use Rattle.posed_problems.specs.Problems.{problem_of}
 use Rattle.table_round_trip.specs.Fields.{HasUseTexts}
 use Rattle.table_round_trip.proofs.Machines.{machines_have_use_texts}
 use Rattle.domain_laws.specs.States.{has_states}
@@ -23,13 +22,15 @@ use Rattle.run_steps.proofs.OneSource.{one_held}
 use Rattle.run_steps.proofs.Steps.{Fails, opened}
 use Rattle.table_inputs.specs.Inputs.{Coded, CodedOf, Posed, PosedOf, table_cap}
 use Rattle.table_inputs.proofs.Images.{code_image}
-use Rattle.table_inputs.proofs.Problems.{coded_parts, machine_accepted, machine_there, posed_is_well_posed, posed_parts, some_machine}
+use Rattle.table_inputs.proofs.Problems.{coded_parts, machine_accepted, machine_there, posed_parts, some_machine}
 use Rattle.table_inputs.proofs.Single.{one_coded}
 use Rattle.analysis_domains.specs.Checks.{accepted_line}
 use Rattle.analysis_domains.specs.Named.{Converted}
-use Rattle.run_tables.specs.Steps.{AnalyseSteps, AnalysisOf, CheckSteps, ConversionOf, ConvertSteps}
+use Rattle.run_tables.specs.Problems.{problem_in}
+use Rattle.run_tables.specs.Steps.{AnalyseSteps, AnalysisOf, CheckSteps, ConversionOf, ConvertSteps, TabledBy}
 use Rattle.run_tables.proofs.Chains.{table_behind}
 use Rattle.run_tables.proofs.One.{check_has_one}
+use Rattle.run_tables.proofs.Problems.{is_tabled, read_is_well_posed}
 use Rattle.tsl_run.specs.Owed.{IsOwed}
 use Rattle.tsl_run.specs.Steps.{Steps}
 use Rattle.tsl_run.proofs.Others.{asked_either}
@@ -74,16 +75,16 @@ module _ (reads : Reading) (name : SpecName) (spec : Spec) where
 
 -- ---- analyses
 
--- an analysis of what was read that came to a text, and what was read
+-- an analysis of what was read that came to the text of a table, and what was read
 record Analysing (held : Held) (request : AnalyseRequest) (bytes : List ℕ) : Type 0 where
   pub posed : Posed
   pub is_posed : PosedOf (Holds held) request.spec request.code request.entry (Ok posed)
-  pub analysed : AnalysisOf request.base request.limit posed (Ok (text bytes))
+  pub tabled : TabledBy request posed bytes
 
-analysing : (held : Held) (request : AnalyseRequest) (bytes : List ℕ) → AnalyseSteps (Holds held) request (Ok (text bytes)) → Analysing held request bytes
-analysing held request bytes is =
-    let o = opened (PosedOf (Holds held) request.spec request.code request.entry) (AnalysisOf request.base request.limit) (text bytes) is in
-    record { posed = o.0; is_posed = o.1; analysed = o.2 }
+analysing : (held : Held) (request : AnalyseRequest) (bytes : List ℕ) → request.open ≡ false → AnalyseSteps (Holds held) request (Ok (text bytes)) → Analysing held request bytes
+analysing held request bytes closed is =
+    let o = opened (PosedOf (Holds held) request.spec request.code request.entry) (AnalysisOf request) (text bytes) is in
+    record { posed = o.0; is_posed = o.1; tabled = is_tabled request o.0 bytes closed o.2 }
 
 -- the check of its text
 check_of_it : (held : Held) (request : AnalyseRequest) (table bytes : List ℕ) → length request.code.parts ≤ 16 → held table ≡ Some bytes → length bytes ≤ table_cap → Analysing held request bytes
@@ -91,18 +92,19 @@ check_of_it : (held : Held) (request : AnalyseRequest) (table bytes : List ℕ) 
 check_of_it held request table bytes few holds fits a =
     let parts = posed_parts (Holds held) request.spec request.code request.entry a.posed a.is_posed in
     let code = code_for (Holds held) request.spec a.posed.spec request.code a.posed.image few parts.coded.machine parts.coded.image in
-    let p = problem_of a.posed.spec a.analysed.machine a.posed.image a.posed.entry request.limit in
-    let posed = posed_is_well_posed (Holds held) request.spec request.code request.entry a.posed a.analysed.machine request.limit few a.is_posed a.analysed.is_machine in
+    let p = problem_in request a.posed a.tabled.machine in
+    let posed = read_is_well_posed (Holds held) request a.posed a.tabled.machine few a.is_posed a.tabled.is_machine in
     let of : IsCodeOf p a.posed.image = record { addresses_are = refl; words_are = refl; code = code } in
-    goes_on a.is_posed (goes_on (whole holds fits) (record { machine = a.analysed.machine; is_machine = a.analysed.is_machine; checked = analyses_check a.posed.image p request.base bytes posed of a.analysed.analysed }))
+    goes_on a.is_posed (goes_on (whole holds fits) (record { machine = a.tabled.machine; is_machine = a.tabled.is_machine; checked = analyses_check a.posed.image p request.base bytes posed of a.tabled.analysed }))
 
 pub analyse_then_check : AnalyseThenCheck
 analyse_then_check words check_words held later request table bytes found asks also first same holds fits second =
     let few = few_asked words (analyse request) asks in
+    let closed = (few_asked check_words (check (record { analysis = request; table = table })) also).1 in
     let owed = owed_by_inputs words held later (Ok (text bytes)) same first in
     let analysed : AnalyseSteps (Holds later) request (Ok (text bytes)) = subst (λ (what : Option Request). Steps (Holds later) what (Ok (text bytes))) asks owed in
     let checked : CheckSteps (Holds later) (record { analysis = request; table = table }) found = subst (λ (what : Option Request). Steps (Holds later) what found) also second in
-    check_has_one later (record { analysis = request; table = table }) found (Ok (text accepted_line)) few checked (check_of_it later request table bytes few holds fits (analysing later request bytes analysed))
+    check_has_one later (record { analysis = request; table = table }) found (Ok (text accepted_line)) few checked (check_of_it later request table bytes few holds fits (analysing later request bytes closed analysed))
 
 -- ---- conversions
 

@@ -35,13 +35,13 @@ module _ {E W S : Type 0} (A : Analysis E W S) (laws : AnalysisLaws A) (t : List
   pub fault_same : (at : ℕ) (b : Listing E) (given told : Outcome E W) → IfPost A.elements.fits given → IfPost A.elements.fits told → SameOutcome A.elements given told
       → fault_of A t at b given ≡ fault_of A t at b told
   fault_same at b (undecodable v) (undecodable w) fx fy same = ap (λ w. fault_of A t at b (undecodable w)) same
-  fault_same at b (undecodable v) (too_many w) fx fy same = absurd same
+  fault_same at b (undecodable v) (too_many w us') fx fy same = absurd same
   fault_same at b (undecodable v) (moves ts y us) fx fy same = absurd same
-  fault_same at b (too_many v) (undecodable w) fx fy same = absurd same
-  fault_same at b (too_many v) (too_many w) fx fy same = ap (λ w. fault_of A t at b (too_many w)) same
-  fault_same at b (too_many v) (moves ts y us) fx fy same = absurd same
+  fault_same at b (too_many v us) (undecodable w) fx fy same = absurd same
+  fault_same at b (too_many v us) (too_many w us') fx fy same = ap (λ w. fault_of A t at b (too_many w us)) same.0
+  fault_same at b (too_many v us) (moves ts y us') fx fy same = absurd same
   fault_same at b (moves ts x us) (undecodable w) fx fy same = absurd same
-  fault_same at b (moves ts x us) (too_many w) fx fy same = absurd same
+  fault_same at b (moves ts x us) (too_many w us') fx fy same = absurd same
   fault_same at b (moves ts None us) (moves ts' None us') fx fy same =
       ap (λ ts. fault_of A t at b (moves ts None us)) same.0 ∙ ap (λ us. fault_of A t at b (moves ts' None us)) same.2
   fault_same at b (moves ts None us) (moves ts' (Some y) us') fx fy same = absurd same.1

@@ -17,7 +17,7 @@ module _ {X E : Type 0} (view : X → E) where
   abbrev pub seen_listing : Listing X → Listing E
   seen_listing b = record { elem = view b.elem; next = b.next; exits = b.exits; uses = b.uses }
 
-  abbrev seen_blocks : List (ℕ × Listing X) → List (ℕ × Listing E)
+  abbrev pub seen_blocks : List (ℕ × Listing X) → List (ℕ × Listing E)
   seen_blocks [] = []
   seen_blocks (b ∷ blocks) = (b.0, seen_listing b.1) ∷ seen_blocks blocks
 

@@ -1,3 +1,4 @@
 pub mod Blocking
+pub mod OpenBlocking
 pub mod Segments
 pub mod Three

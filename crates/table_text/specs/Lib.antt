@@ -1,3 +1,4 @@
 pub mod Blocks
 pub mod Heads
+pub mod Open
 pub mod Tables

@@ -25,14 +25,19 @@
 //! exit 00001008
 //! ```
 //!
+//! Of a table that is left open (`open_tables`) a block that is has neither `next` nor `exit`, and a last line that says why: `open WORD`, where the
+//! instruction's new counter may be too many addresses, with the word of it, or `undecodable WORD` (specs/Open).
+//!
 //! What the text of a table is, specs/Tables says, over the texts of its elements. It is a function of the table but where an element
 //! has several texts, as those of affine relations have.
 #![tactic(auto)]
 
 mod blocks;
 mod head;
+mod left_open;
 mod table;
 
 pub use blocks::push_use;
 pub use head::{push_order, push_segment};
+pub use left_open::open_table_text;
 pub use table::table_text;

@@ -18,9 +18,9 @@ use Rattle.posed_problems.specs.Problems.{problem_of}
 use Rattle.transfer.specs.declared.analysis.ImageAnalysis.{ImageAnalysis}
 
 module _ {D B E W N C : Type 0} (it : ImageAnalysis D B E W N C) where
-  -- the machine with its code, the entry, and how many targets an instruction may have
+  -- the machine with its code, the entry, how many targets an instruction may have, and how many changes of an element join
   abbrev pub problem : Problem
-  problem = problem_of (specification it.spec.now) it.machine it.image.now (entry_of it.entry.now) it.limit
+  problem = problem_of (specification it.spec.now) it.machine it.image.now (entry_of it.entry.now) it.limit it.joins
 
   -- The base joins, the domain is for the specification, and the problem is well posed. Code, decoder and fields of states are the
   -- specification's.

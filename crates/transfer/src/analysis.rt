@@ -13,8 +13,8 @@ use std::sync::ledger::Ledger;
 use step_counter::Steps;
 use tsl_values::Entry;
 
-/// What is analysed, and in which domain: the machine of a specification with its code, an image with its decoder, an entry, and
-/// how many targets an instruction may have.
+/// What is analysed, and in which domain: the machine of a specification with its code, an image with its decoder, an entry, how
+/// many targets an instruction may have, and how many changes of an element join.
 #[derive(Drop)]
 pub struct ImageAnalysis<'a, D: Domain> {
     pub domain: &'a D,
@@ -28,6 +28,8 @@ pub struct ImageAnalysis<'a, D: Domain> {
     pub entry: &'a Entry,
     /// The most targets that an instruction may have.
     pub limit: u32,
+    /// How many changes of an element join before later ones widen.
+    pub joins: u32,
 }
 
 impl<'a, D: Domain> Analyser for ImageAnalysis<'a, D> {
@@ -63,6 +65,10 @@ impl<'a, D: Domain> Analyser for ImageAnalysis<'a, D> {
 
     fn start(&self) -> u32 {
         self.entry.pc
+    }
+
+    fn joins(&self) -> u32 {
+        self.joins
     }
 
     fn entry(&self, alloc: Global) -> Result<D::Elem, NoMemory> {

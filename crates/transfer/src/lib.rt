@@ -15,8 +15,8 @@
 //! | the state is closed | `x: {1, 2}` |
 //! | the reads are merged | the uses |
 //!
-//! Where the word has no decoding, it is the outcome. Where the counter may be more addresses than the limit, its word is. Where the
-//! evaluation has no value there are no targets and no element, and the uses of its reads stand. One step is counted
+//! Where the word has no decoding, it is the outcome. Where the counter may be more addresses than the limit, its word is, with the
+//! uses. Where the evaluation has no value there are no targets and no element, and the uses of its reads stand. One step is counted
 //! for each word that has a decoding. No evaluation is too deep, since widening ends each activation.
 //!
 //! # What is proved

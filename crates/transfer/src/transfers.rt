@@ -180,7 +180,7 @@ impl<'a, D: Domain> ImageAnalysis<'a, D> {
                 Ok(Transferred::Made(Transfer {
                     targets: Targets::Many { shown },
                     post: None,
-                    uses: Vec::new(alloc),
+                    uses: self.uses(alloc, log)?,
                 }))
             }
         }

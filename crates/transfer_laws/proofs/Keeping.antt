@@ -29,7 +29,7 @@ module _ {E W N C : Type 0} (B : Algebra W N C) (laws : Laws W N C B) (cap : ℕ
     (a : ℕ) (lt : a < 2 ^ 32) (x y : E) (fit_x : D.fits x) (fit_y : D.fits y) (same : D.same x y) where
   moved_same : (state : Abs W N) (log : List Seen) (counter : ℕ × W) → IsStateValue B M.context cap (state_type p.spec) state → (o : Option (List ℕ))
       → SameOutcome (of_states p.spec D) (moved_to B M p x state log counter.1 o) (moved_to B M p y state log counter.1 o)
-  moved_same state log counter is None = refl
+  moved_same state log counter is None = (refl, refl)
   moved_same state log counter is (Some targets) = (refl, h.domain.close_same x y state fit_x fit_y is same, refl)
 
   answer_same : (r : Answer (Abs W N)) → IsEvaluated B cap D M p a x r → SameOutcome (of_states p.spec D) (outcome_of B M p x r) (outcome_of B M p y r)

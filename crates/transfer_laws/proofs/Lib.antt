@@ -14,3 +14,4 @@ pub mod Sound
 pub mod Alone
 pub mod Runs
 pub mod Ordered
+pub mod OpenRuns

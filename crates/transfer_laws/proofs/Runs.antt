@@ -71,9 +71,9 @@ no_other true h k = cc
 no_other false h k = cc
 
 -- a block that tells a transfer lists each address where it belongs
-listed_by : {E W : Type 0} (A : Analysis E W State) (p : Problem) (b : Listing E) (given : Outcome E W) (to : ℕ) → A.code ≡ p.addresses → Tells A b given → IsAmong to b.next ⊎ IsAmong to b.exits → IsListed p b to
+pub listed_by : {E W : Type 0} (A : Analysis E W State) (p : Problem) (b : Listing E) (given : Outcome E W) (to : ℕ) → A.code ≡ p.addresses → Tells A b given → IsAmong to b.next ⊎ IsAmong to b.exits → IsListed p b to
 listed_by A p b (undecodable code_word) to same tells h = absurd tells
-listed_by A p b (too_many shown) to same tells h = absurd tells
+listed_by A p b (too_many shown uses) to same tells h = absurd tells
 listed_by A p b (moves targets post uses) to same tells (inl h) =
     let code = passes (is_code A.code) targets to (subst (IsAmong to) tells.0 h) in
     record { next = λ c. h; exits = λ out. absurd (no_other (is_code A.code to) code (subst (λ code. is_code code to ≡ false) (sym same) out)) }

@@ -50,7 +50,7 @@ use Rattle.transfer_laws.proofs.Transfers.{counter_fits}
 -- of a step without a turn left nothing is said
 deep_described : {E W S : Type 0} (A : Analysis E W S) (M : Machine S) (given : Outcome E W) → Describes A M given (stops deep)
 deep_described A M (undecodable code_word) = tt
-deep_described A M (too_many shown) = tt
+deep_described A M (too_many shown uses) = tt
 deep_described A M (moves targets post uses) = tt
 
 each_covered : (log : List Seen) (reads : List Read) → Covered log reads → Each (AreCovering log) reads
@@ -89,7 +89,7 @@ module _ {E W N C : Type 0} (B : Algebra W N C) (laws : Laws W N C B) (cap : ℕ
         → StandsFor B (M.world s) y (value_of p.machine.state next) → (IsTrue B.notes.stamped → Covered (uses_in p log) reads)
         → (k : HasCounter p.spec p.machine (machine_is B laws cap D M p calls h) B (M.world s) next y) → (ts : Option (List ℕ)) → B.words.members M.context 32 k.counter p.limit ≡ ts
         → Describes (analysis_of B cap D M p calls) (machine_of p) (moved_to B M p x y log k.counter ts) (goes next reads)
-    moved_described y log next reads is next_typed stands covers k None members = tt
+    moved_described y log next reads is next_typed stands covers k None members = λ stamped. each_covered (uses_in p log) reads (covers stamped)
     moved_described y log next reads is next_typed stands covers k (Some targets) members =
         let state = state_value B laws cap D M p calls h y (32, k.counter) is.kept.0 k.there in
         let word_fits = counter_fits B M.context cap y (32, k.counter) state.1 k.there in

@@ -66,7 +66,13 @@ module _ {E W N C : Type 0} (B : Algebra W N C) (laws : Laws W N C B) (cap : ℕ
 
     moved_right : (y : Abs W N) (log : List Seen) (counter : ℕ × W) → IsStateValue B M.context cap (state_type p.spec) y → counter_of y ≡ Some counter → ListsStamps B (At a ∷ D.listed x) y → AreOfStamps (At a ∷ D.listed x) log
         → (B.notes.stamped ≡ false → Each (λ u. ⊥) log) → (o : Option (List ℕ)) → B.words.members M.context counter.0 counter.1 p.limit ≡ o → IsRight a x (moved_to B M p x y log counter.1 o)
-    moved_right y log counter state e lists own none None is = record { fits = tt; lists = tt; targets = tt; uses = tt; unstamped = λ e. tt }
+    moved_right y log counter state e lists own none None is = record {
+      fits = tt;
+      lists = tt;
+      targets = tt;
+      uses = merged_within (At a ∷ D.listed x) (state_type p.spec).fields log own;
+      unstamped = λ e. no_uses log (none e);
+    }
     moved_right y log counter state e lists own none (Some targets) is =
         let word_fits = counter_fits B M.context cap y counter state.1 e in
         record {

@@ -31,6 +31,7 @@ module _ {E W N C : Type 0} (B : Algebra W N C) (cap : ℕ) (D : Elements E Stat
   abbrev pub analysis_of : (calls : ℕ → ℕ → List (Abs W N) → Answer (Abs W N)) → Analysis E W State
   analysis_of calls = record {
     elements = of_states p.spec D;
+    joins = p.joins;
     code = p.addresses;
     start = p.pc;
     entry = M.entry p.lines;

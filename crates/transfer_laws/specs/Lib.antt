@@ -1,5 +1,6 @@
 pub mod Analysis
 pub mod Laws
+pub mod OpenRuns
 pub mod Problem
 pub mod Runs
 pub mod Transfer

@@ -31,7 +31,7 @@ uses_in p log = merged_uses (state_type p.spec).fields log
 module _ {E W N C : Type 0} (B : Algebra W N C) (M : Meaning E W N C) (p : Problem) where
   -- behind an instruction before which this element stood: the targets are the members of the new counter
   abbrev pub moved_to : E → Abs W N → List Seen → W → Option (List ℕ) → Outcome E W
-  moved_to before state log counter None = too_many counter
+  moved_to before state log counter None = too_many counter (uses_in p log)
   moved_to before state log counter (Some targets) = moves targets (Some (M.closed before state)) (uses_in p log)
 
   abbrev pub moved : E → Abs W N → List Seen → Option (ℕ × W) → Outcome E W

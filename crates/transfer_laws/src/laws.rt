@@ -1,6 +1,7 @@
 //! Laws of transfers, stated in specs/Laws.antt. Nothing runs.
 
 ghost use Rattle.transfer_laws.specs.Laws.{ClosedTablesAreTrue, ClosedTablesHold, EvaluationsGiveStates, ReinterpretationsExist, TransfersAreOne, TransfersAreSound, TransfersKeepTheLaws};
+ghost use Rattle.transfer_laws.specs.OpenRuns.{OpenTruthIsTruth};
 ghost use Rattle.transfer_laws.specs.Uses.{UsesAreMerged};
 
 use crate::domain::PlainDomain;
@@ -43,4 +44,9 @@ pub fn closed_tables_hold<D: PlainDomain>(domain: &D)
 /// So it is true of every run in the words of the meaning.
 pub fn closed_tables_are_true<D: PlainDomain>(domain: &D)
     ensures { ClosedTablesAreTrue D.B.algebra D.B.CAP (D.elements domain.now) (D.meaning domain.now) }
+{}
+
+/// A table that is left open nowhere is true until then exactly if it is true of every run.
+pub fn open_truth_is_truth<D: PlainDomain>(domain: &D)
+    ensures { OpenTruthIsTruth D.B.algebra (D.elements domain.now) }
 {}

@@ -1,17 +1,23 @@
 //! The program: it answers what its words ask for. All that it does is in `tsl_run`; here are the words, the files, standard
-//! output and the exit status, which is proved to be that of the run (`exit_code`).
+//! output and the exit status, which is proved to be that of the run (`exit_code`). Behind the run it says on standard error what
+//! `refusal_help` has to say of what was written.
 #![tactic(auto)]
 
 ghost use Rattle.std.specs.Prelude.{◌≡◌, ◌<◌};
 ghost use Rattle.tsl_cli.specs.Codes.{code_of};
 
-use std::io::{ErrorKind, Print};
+mod front_sink;
+mod told;
+
+use front_sink::FrontSink;
+use std::io::{Eprint, ErrorKind, Print};
 use std::marker::Brand;
 use std::process::ExitCode;
 use std::rt::{Env, Files};
 use std::sync::ledger::{Blank, Ledger};
 use std::{env, io};
 use step_counter::Steps;
+use told::tell;
 use tsl_io::{FileInputs, StdSink};
 use tsl_run::{Status, run};
 
@@ -35,7 +41,7 @@ fn exit_code(ended: Result<Status, ErrorKind>) -> u8
 }
 
 /// The run of the words over files, into standard output. A counter of transfers is on the ledger of this blank; it takes no code.
-fn ended<R: Files + Print + AllocGlobal, L: Ledger>(
+fn ended<R: Files + Print + Eprint + AllocGlobal, L: Ledger>(
     rt: &R,
     words: &[String],
     blank: Blank,
@@ -45,13 +51,16 @@ fn ended<R: Files + Print + AllocGlobal, L: Ledger>(
     requires some { 0 < blank.parts }
 {
     let mut steps: Steps<L> = Steps::new(blank);
-    run(
+    let mut sink = FrontSink::new(rt.alloc(), StdSink::new(rt));
+    let status = run(
         rt.alloc(),
         words,
         &mut FileInputs::new(rt),
-        &mut StdSink::new(rt),
+        &mut sink,
         &mut steps,
-    )
+    );
+    tell(rt, words, status, sink.front());
+    status
 }
 
 fn main(rt: HostRuntime) -> ExitCode {

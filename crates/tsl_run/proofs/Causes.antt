@@ -282,21 +282,21 @@ module _ (old new : InputState) where
       (start_known old new what refl spec request.entry (behind_among old new what (sources ++ parts) entry (λ x named. named))) (λ start started found further.
       run_known request spec image start found further))) outcome steps
 
-  analysed_known : (request : AnalyseRequest) (posed : Posed) (outcome : Outcome) → AnalysisOf request.base request.limit posed outcome → Caused (Some (analyse request)) outcome
+  analysed_known : (request : AnalyseRequest) (posed : Posed) (outcome : Outcome) → AnalysisOf request posed outcome → Caused (Some (analyse request)) outcome
   analysed_known request posed (Ok answer) is = record { posed = posed; analysed = is }
   analysed_known request posed (Err refusal) is =
-      stop_known old new (Some (analyse request)) refusal (analysis_stops request.base request.limit posed refusal is) (record { posed = posed; analysed = is })
+      stop_known old new (Some (analyse request)) refusal (analysis_stops request posed refusal is) (record { posed = posed; analysed = is })
 
   analyse_known : (request : AnalyseRequest) (outcome : Outcome) → AnalyseSteps (Gave old new) request outcome → Caused (Some (analyse request)) outcome
   analyse_known request outcome steps =
       let what = Some (analyse request) in
-      both_know (PosedOf (Gave old new) request.spec request.code request.entry) (AnalysisOf request.base request.limit) (Cause old new what) (Answers what)
+      both_know (PosedOf (Gave old new) request.spec request.code request.entry) (AnalysisOf request) (Cause old new what) (Answers what)
       (posed_known old new what refl refl request.spec request.code request.entry (λ x named. named)) (λ posed is_posed found is. analysed_known request posed found is) outcome steps
 
-  checked_known : (request : CheckRequest) (posed : Posed) (bytes : List ℕ) (outcome : Outcome) → CheckOf request.analysis.base request.analysis.limit posed bytes outcome → Caused (Some (check request)) outcome
+  checked_known : (request : CheckRequest) (posed : Posed) (bytes : List ℕ) (outcome : Outcome) → CheckOf request.analysis posed bytes outcome → Caused (Some (check request)) outcome
   checked_known request posed bytes (Ok answer) is = record { posed = posed; bytes = bytes; checked = is }
   checked_known request posed bytes (Err refusal) is =
-      stop_known old new (Some (check request)) refusal (check_stops request.analysis.base request.analysis.limit posed bytes refusal is) (record { posed = posed; bytes = bytes; checked = is })
+      stop_known old new (Some (check request)) refusal (check_stops request.analysis posed bytes refusal is) (record { posed = posed; bytes = bytes; checked = is })
 
   check_known : (request : CheckRequest) (outcome : Outcome) → CheckSteps (Gave old new) request outcome → Caused (Some (check request)) outcome
   check_known request outcome steps =
@@ -304,9 +304,9 @@ module _ (old new : InputState) where
       let wanted = request.analysis in
       let posed = analyse_inputs wanted in
       let table = (request.table, table_cap) ∷ [] in
-      both_know (PosedOf (Gave old new) wanted.spec wanted.code wanted.entry) (λ p. table_behind request.table (CheckOf wanted.base wanted.limit p) (Gave old new)) (Cause old new what) (Answers what)
+      both_know (PosedOf (Gave old new) wanted.spec wanted.code wanted.entry) (λ p. table_behind request.table (CheckOf wanted p) (Gave old new)) (Cause old new what) (Answers what)
       (posed_known old new what refl refl wanted.spec wanted.code wanted.entry (first_among old new what posed table (λ x named. named))) (λ p is_posed found further.
-      table_known old new what request.table (CheckOf wanted.base wanted.limit p) (behind_among old new what posed table (λ x named. named)) (checked_known request p) found further) outcome steps
+      table_known old new what request.table (CheckOf wanted p) (behind_among old new what posed table (λ x named. named)) (checked_known request p) found further) outcome steps
 
   converted_known : (request : ConvertRequest) (coded : Coded) (bytes : List ℕ) (outcome : Outcome) → ConversionOf request.base coded bytes outcome → Caused (Some (convert request)) outcome
   converted_known request coded bytes (Ok answer) is = record { coded = coded; bytes = bytes; converted = is }
@@ -322,10 +322,10 @@ module _ (old new : InputState) where
       (coded_known old new what refl request.spec request.code (first_among old new what coded table (λ x named. named))) (λ c is_coded found further.
       table_known old new what request.table (ConversionOf request.base c) (behind_among old new what coded table (λ x named. named)) (converted_known request c) found further) outcome steps
 
-  sliced_known : (request : SliceRequest) (sought : Sought) (bytes : List ℕ) (outcome : Outcome) → SliceOf request.check.analysis.base request.check.analysis.limit sought request.address bytes outcome → Caused (Some (slice request)) outcome
+  sliced_known : (request : SliceRequest) (sought : Sought) (bytes : List ℕ) (outcome : Outcome) → SliceOf request.check.analysis sought request.address bytes outcome → Caused (Some (slice request)) outcome
   sliced_known request sought bytes (Ok answer) is = record { sought = sought; bytes = bytes; sliced = is }
   sliced_known request sought bytes (Err refusal) is =
-      stop_known old new (Some (slice request)) refusal (slice_stops request.check.analysis.base request.check.analysis.limit sought request.address bytes refusal is) (record { sought = sought; bytes = bytes; sliced = is })
+      stop_known old new (Some (slice request)) refusal (slice_stops request.check.analysis sought request.address bytes refusal is) (record { sought = sought; bytes = bytes; sliced = is })
 
   slice_known : (request : SliceRequest) (outcome : Outcome) → SliceSteps (Gave old new) request outcome → Caused (Some (slice request)) outcome
   slice_known request outcome steps =
@@ -333,15 +333,15 @@ module _ (old new : InputState) where
       let wanted = request.check.analysis in
       let posed = analyse_inputs wanted in
       let table = (request.check.table, table_cap) ∷ [] in
-      let made = λ (s : Sought). SliceOf wanted.base wanted.limit s request.address in
+      let made = λ (s : Sought). SliceOf wanted s request.address in
       both_know (SoughtOf (Gave old new) wanted.spec request.cell wanted.code wanted.entry) (λ s. table_behind request.check.table (made s) (Gave old new)) (Cause old new what) (Answers what)
       (sought_known old new what refl refl wanted.spec request.cell wanted.code wanted.entry (λ s none. (s, none)) (first_among old new what posed table (λ x named. named))) (λ s is_sought found further.
       table_known old new what request.check.table (made s) (behind_among old new what posed table (λ x named. named)) (sliced_known request s) found further) outcome steps
 
-  claimed_known : (request : ClaimsRequest) (posed : Posed) (table_bytes claims_bytes : List ℕ) (outcome : Outcome) → ClaimsOf request.check.analysis.base request.check.analysis.limit posed table_bytes claims_bytes outcome → Caused (Some (claims request)) outcome
+  claimed_known : (request : ClaimsRequest) (posed : Posed) (table_bytes claims_bytes : List ℕ) (outcome : Outcome) → ClaimsOf request.check.analysis posed table_bytes claims_bytes outcome → Caused (Some (claims request)) outcome
   claimed_known request posed table found (Ok answer) is = record { posed = posed; table_bytes = table; claims_bytes = found; claimed = is }
   claimed_known request posed table found (Err refusal) is =
-      stop_known old new (Some (claims request)) refusal (claims_stop request.check.analysis.base request.check.analysis.limit posed table found refusal is) (record { posed = posed; table_bytes = table; claims_bytes = found; claimed = is })
+      stop_known old new (Some (claims request)) refusal (claims_stop request.check.analysis posed table found refusal is) (record { posed = posed; table_bytes = table; claims_bytes = found; claimed = is })
 
   claim_known : (request : ClaimsRequest) (outcome : Outcome) → ClaimsSteps (Gave old new) request outcome → Caused (Some (claims request)) outcome
   claim_known request outcome steps =
@@ -351,9 +351,9 @@ module _ (old new : InputState) where
       let table = (request.check.table, table_cap) ∷ [] in
       let rest = (request.claims, claims_cap) ∷ [] in
       let front = first_among old new what (check_inputs request.check) rest (λ x named. named) in
-      both_know (PosedOf (Gave old new) wanted.spec wanted.code wanted.entry) (λ p. both_behind request.check.table request.claims (ClaimsOf wanted.base wanted.limit p) (Gave old new)) (Cause old new what) (Answers what)
+      both_know (PosedOf (Gave old new) wanted.spec wanted.code wanted.entry) (λ p. both_behind request.check.table request.claims (ClaimsOf wanted p) (Gave old new)) (Cause old new what) (Answers what)
       (posed_known old new what refl refl wanted.spec wanted.code wanted.entry (first_among old new what posed table front)) (λ p is_posed found further.
-      claims_known old new what request.check.table request.claims (ClaimsOf wanted.base wanted.limit p) (behind_among old new what posed table front) (behind_among old new what (check_inputs request.check) rest (λ x named. named))
+      claims_known old new what request.check.table request.claims (ClaimsOf wanted p) (behind_among old new what posed table front) (behind_among old new what (check_inputs request.check) rest (λ x named. named))
       (claimed_known request p) found further) outcome steps
 
   list_known : (request : ListRequest) (outcome : Outcome) → ListSteps (Gave old new) request outcome → Caused (Some (list request)) outcome

@@ -1,5 +1,5 @@
 -- What follows from how a run ends.
-use Rattle.std.proofs.Common.{◌≡◌, ◌≢◌, ℕ, ◌<◌, ◌⊎◌, inl, inr, All, Bool, List, Option, Some, None, IsTrue, length, refl, sym, ◌∙◌, ap, subst, arith}
+use Rattle.std.proofs.Common.{◌≡◌, ◌≢◌, ℕ, ◌<◌, ◌⊎◌, inl, inr, All, Bool, List, Option, Some, None, IsTrue, length, true, false, refl, sym, ◌∙◌, ap, subst, arith}
 use Rattle.std.specs.Prelude.{Contains, IsSomeAnd, Result, Ok, Err}
 use Rattle.std.specs.Bool.{IsFalse}
 use Rattle.std.proofs.lemmas.List.Elements.{All-contains}
@@ -25,12 +25,12 @@ use Rattle.tsl_run.specs.Owed.{ComesTo, IsOwed, Owes}
 use Rattle.tsl_run.specs.Possible as possible
 use Rattle.tsl_run.specs.Possible.{IsLineOf, IsPossible}
 use Rattle.tsl_run.specs.Steps.{Steps}
-use Rattle.tsl_run.specs.Tables.{AreClaimsFor, IsAcceptedFor, IsSliceFor, IsTableFor}
+use Rattle.tsl_run.specs.Tables.{AreClaimsFor, IsAcceptedFor, IsOpenTableFor, IsSliceFor, IsTableFor}
 use Rattle.tsl_run.specs.Words.{IsUnbuilt, capped_in, input_names, names_in}
 use Rattle.tsl_run.proofs.Causes.{Caused, asked_known, is_named}
 use Rattle.tsl_run.proofs.Exists.{some_answer}
 use Rattle.tsl_run.proofs.Others.{asked_either}
-use Rattle.tsl_run.proofs.Tables.{owed_acceptance, owed_claims, owed_slice, owed_table}
+use Rattle.tsl_run.proofs.Tables.{owed_acceptance, owed_claims, owed_open_table, owed_slice, owed_table}
 use Rattle.tsl_run.proofs.Unique.{one_answer}
 
 -- ---- the cause of each outcome
@@ -316,9 +316,14 @@ module _ (words : List (List ℕ)) (old new : InputState) (sink_old sink_new : S
   of_ok told ok (output.no_memory is) = absurd (let wrong : s.Ok ≡ s.NoMemory = sym ok ∙ is in cc)
 
   -- an analysis
-  by_table : IsTrue old.tells → (request : AnalyseRequest) → asked words ≡ Some (analyse request) → result ≡ s.Ok → End
+  by_table : IsTrue old.tells → (request : AnalyseRequest) → asked words ≡ Some (analyse request) → request.open ≡ false → result ≡ s.Ok → End
       → (text : List ℕ) × IsTableFor old.held request text × Appends sink_old sink_new text
-  by_table told request asks ok end = let found = of_ok told ok end in (found.0, owed_table words old.held request found.0 asks found.1, found.2)
+  by_table told request asks closed ok end = let found = of_ok told ok end in (found.0, owed_table words old.held request found.0 asks closed found.1, found.2)
+
+  -- one that is left open
+  by_open_table : IsTrue old.tells → (request : AnalyseRequest) → asked words ≡ Some (analyse request) → request.open ≡ true → result ≡ s.Ok → End
+      → (text : List ℕ) × IsOpenTableFor old.held request text × Appends sink_old sink_new text
+  by_open_table told request asks left_open ok end = let found = of_ok told ok end in (found.0, owed_open_table words old.held request found.0 asks left_open found.1, found.2)
 
   -- a check
   by_accepted : IsTrue old.tells → (request : CheckRequest) → asked words ≡ Some (check request) → result ≡ s.Ok → End
@@ -345,7 +350,8 @@ module _ (words : List (List ℕ)) (old new : InputState) (sink_old sink_new : S
 pub ends_follow : EndsFollow
 ends_follow words old new sink_old sink_new result end write_fault = record {
   answered = λ told answer. by_answered words old new sink_old sink_new result told answer end;
-  table = λ told request asks ok. by_table words old new sink_old sink_new result told request asks ok end;
+  table = λ told request asks closed ok. by_table words old new sink_old sink_new result told request asks closed ok end;
+  open_table = λ told request asks left_open ok. by_open_table words old new sink_old sink_new result told request asks left_open ok end;
   accepted = λ told request asks ok. by_accepted words old new sink_old sink_new result told request asks ok end;
   sliced = λ told request asks ok. by_slice words old new sink_old sink_new result told request asks ok end;
   claimed = λ told request asks ok. by_claims words old new sink_old sink_new result told request asks ok end;

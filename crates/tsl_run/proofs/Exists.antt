@@ -25,7 +25,7 @@ some_asked held (Some (call request)) few =
     (answered (call_end spec request.calls request.fun request.numbers), refl)))
 some_asked held (Some (emulate request)) few = emulate_has_some held request
 some_asked held (Some (analyse request)) few = analyse_has_some held request few
-some_asked held (Some (check request)) few = check_has_some held request few
+some_asked held (Some (check request)) few = check_has_some held request few.0
 some_asked held (Some (convert request)) few = convert_has_some held request few
 some_asked held (Some (list request)) few = list_has_some held request
 some_asked held (Some (slice request)) few = slice_has_some held request few.0

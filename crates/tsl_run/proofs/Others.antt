@@ -138,7 +138,7 @@ module _ (reads other : Reading) (fault : Refusal → Type 0) where
 
   analyse_either : (request : AnalyseRequest) → Either (analyse_inputs request) → (outcome : Outcome) → AnalyseSteps reads request outcome → AnalyseSteps other request outcome ⊎ Fails fault outcome
   analyse_either request by outcome steps =
-      either (PosedOf reads request.spec request.code request.entry) (PosedOf other request.spec request.code request.entry) (AnalysisOf request.base request.limit) (AnalysisOf request.base request.limit) fault
+      either (PosedOf reads request.spec request.code request.entry) (PosedOf other request.spec request.code request.entry) (AnalysisOf request) (AnalysisOf request) fault
       (posed_either request.spec request.code request.entry by) (λ posed found further. inl further) outcome steps
 
   check_either : (request : CheckRequest) → Either (check_inputs request) → (outcome : Outcome) → CheckSteps reads request outcome → CheckSteps other request outcome ⊎ Fails fault outcome
@@ -146,8 +146,8 @@ module _ (reads other : Reading) (fault : Refusal → Type 0) where
       let wanted = request.analysis in
       let posed = analyse_inputs wanted in
       let table = (request.table, table_cap) ∷ [] in
-      either (PosedOf reads wanted.spec wanted.code wanted.entry) (PosedOf other wanted.spec wanted.code wanted.entry) (λ p. table_behind request.table (CheckOf wanted.base wanted.limit p) reads) (λ p. table_behind request.table (CheckOf wanted.base wanted.limit p) other) fault
-      (posed_either wanted.spec wanted.code wanted.entry (first posed table by)) (λ p. table_either request.table (CheckOf wanted.base wanted.limit p) (behind posed table by)) outcome steps
+      either (PosedOf reads wanted.spec wanted.code wanted.entry) (PosedOf other wanted.spec wanted.code wanted.entry) (λ p. table_behind request.table (CheckOf wanted p) reads) (λ p. table_behind request.table (CheckOf wanted p) other) fault
+      (posed_either wanted.spec wanted.code wanted.entry (first posed table by)) (λ p. table_either request.table (CheckOf wanted p) (behind posed table by)) outcome steps
 
   convert_either : (request : ConvertRequest) → Either (convert_inputs request) → (outcome : Outcome) → ConvertSteps reads request outcome → ConvertSteps other request outcome ⊎ Fails fault outcome
   convert_either request by outcome steps =
@@ -161,7 +161,7 @@ module _ (reads other : Reading) (fault : Refusal → Type 0) where
       let wanted = request.check.analysis in
       let posed = analyse_inputs wanted in
       let table = (request.check.table, table_cap) ∷ [] in
-      let made = λ (s : Sought). SliceOf wanted.base wanted.limit s request.address in
+      let made = λ (s : Sought). SliceOf wanted s request.address in
       either (SoughtOf reads wanted.spec request.cell wanted.code wanted.entry) (SoughtOf other wanted.spec request.cell wanted.code wanted.entry) (λ s. table_behind request.check.table (made s) reads) (λ s. table_behind request.check.table (made s) other) fault
       (sought_either wanted.spec request.cell wanted.code wanted.entry (first posed table by)) (λ s. table_either request.check.table (made s) (behind posed table by)) outcome steps
 
@@ -172,7 +172,7 @@ module _ (reads other : Reading) (fault : Refusal → Type 0) where
       let table = (request.check.table, table_cap) ∷ [] in
       let rest = (request.claims, claims_cap) ∷ [] in
       let front = first (check_inputs request.check) rest by in
-      let made = λ (p : Posed). ClaimsOf wanted.base wanted.limit p in
+      let made = λ (p : Posed). ClaimsOf wanted p in
       either (PosedOf reads wanted.spec wanted.code wanted.entry) (PosedOf other wanted.spec wanted.code wanted.entry) (λ p. both_behind request.check.table request.claims (made p) reads) (λ p. both_behind request.check.table request.claims (made p) other) fault
       (posed_either wanted.spec wanted.code wanted.entry (first posed table front)) (λ p. claims_after_either request.check.table request.claims (made p) (behind posed table front) (behind (check_inputs request.check) rest by)) outcome steps
 

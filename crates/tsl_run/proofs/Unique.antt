@@ -1,11 +1,13 @@
 -- What is owed has one status, and one text where it may have no other.
-use Rattle.std.proofs.Common.{◌≡◌, inl, inr, Bool, Option, Some, None, IsTrue, refl, sym, ◌∙◌, ap, subst}
+use Rattle.std.proofs.Common.{◌≡◌, ℕ, inl, inr, Bool, List, Option, Some, None, IsTrue, refl, sym, ◌∙◌, ap, subst}
 use Rattle.std.specs.Prelude.{Ok, not}
-use Rattle.command_words.specs.Requests.{CallRequest, Request, call, emulate, analyse, check, convert, list, slice, claims}
+use Rattle.command_words.specs.Requests.{AnalyseRequest, CallRequest, ConvertRequest, Request, call, emulate, analyse, check, convert, list, slice, claims}
 use Rattle.command_words.specs.Words.{asked}
 use Rattle.command_words.specs.declared.bases.BaseName.{BaseName}
+use Rattle.spec_types.specs.Specification.{Spec}
+use Rattle.insn_decode.specs.Image.{Image}
 use Rattle.spec_types.specs.declared.spec.Use.TheVariants.{Library}
-use Rattle.analysis_domains.specs.Laws.{AreOne, AreTexts}
+use Rattle.analysis_domains.specs.Laws.{AreOne, AreTexts, AreTextsOfOne}
 use Rattle.analysis_domains.specs.Named.{has_relations}
 use Rattle.run_steps.specs.declared.status.Status.{Status}
 use Rattle.run_steps.specs.declared.status.Status.TheVariants as s
@@ -16,53 +18,72 @@ use Rattle.run_steps.specs.Sources.{SourceOf, Specifies}
 use Rattle.run_steps.proofs.OneSource.{one_source, one_specified}
 use Rattle.run_steps.proofs.Steps.{IsOne, one}
 use Rattle.run_emulate.proofs.Single.{emulate_has_one, list_has_one}
+use Rattle.run_tables.specs.Laws.{AreOneAnalysis, AreOneConversion}
 use Rattle.run_tables.proofs.One.{analyse_has_one, check_has_one, claims_has_one, convert_has_one, slice_has_one}
-use Rattle.tsl_run.specs.Laws.{OneAnswer}
+use Rattle.tsl_run.specs.Laws.{OneAnswer, TellTheSame}
 use Rattle.tsl_run.specs.Steps.{CallSteps, Steps}
 use Rattle.tsl_run.specs.Words.{has_one_text}
 use Rattle.tsl_run.proofs.Chain.{Called, Ended}
 use Rattle.tsl_run.proofs.Parts.{AreFew, few_wanted}
 
--- Both have one status, and one text where it may have no other.
-abbrev AreAsOne : Option Request → Outcome → Outcome → Type 0
-AreAsOne what found other = (status_of found ≡ status_of other) × (IsTrue (has_one_text what (status_of found)) → line_of found ≡ line_of other)
+-- Both have one status, and one text where it may have no other; their texts tell one table.
+abbrev AreAsOne : Held → Option Request → Outcome → Outcome → Type 0
+AreAsOne held what found other = (status_of found ≡ status_of other) × (IsTrue (has_one_text what (status_of found)) → line_of found ≡ line_of other) × TellTheSame held what (line_of found) (line_of other)
 
-as_same : (what : Option Request) (found other : Outcome) → found ≡ other → AreAsOne what found other
-as_same what found other same = (ap status_of same, λ alone. ap line_of same)
+same_tells : (held : Held) (what : Option Request) (text line : List ℕ) → text ≡ line → TellTheSame held what text line
+same_tells held None text line same = same
+same_tells held (Some (analyse request)) text line same = inl same
+same_tells held (Some (convert request)) text line same = inl same
+same_tells held (Some _) text line same = same
+
+as_same : (held : Held) (what : Option Request) (found other : Outcome) → found ≡ other → AreAsOne held what found other
+as_same held what found other same = (ap status_of same, λ alone. ap line_of same, same_tells held what (line_of found) (line_of other) (ap line_of same))
 
 never_both : (b : Bool) → IsTrue b → IsTrue (not b) → ⊥
 never_both b is is_not = cc
 
 -- texts, where what is asked for may have several
-as_texts : (what : Option Request) (found other : Outcome) → (IsTrue (has_one_text what s.Ok) → ⊥) → AreTexts found other → AreAsOne what found other
-as_texts what (Ok (answers.text bytes)) (Ok (answers.text more)) several both = (refl, λ alone. absurd (several alone))
-as_texts what _ _ several both = absurd both
+module _ (held : Held) (what : Option Request) (base : BaseName) (spec : Spec) (image : Image) (tells : (text line : List ℕ) → AreTextsOfOne base spec image text line → TellTheSame held what text line) where
+  as_texts : (found other : Outcome) → (IsTrue (has_one_text what s.Ok) → ⊥) → AreTexts base spec image found other → AreAsOne held what found other
+  as_texts (Ok (answers.text bytes)) (Ok (answers.text more)) several both = (refl, λ alone. absurd (several alone), tells bytes more both)
+  as_texts _ _ several both = absurd both
 
-over_relations : (what : Option Request) (base : BaseName) (found other : Outcome) → has_one_text what s.Ok ≡ not (has_relations base) → AreOne base found other → AreAsOne what found other
-over_relations what base found other is (inl same) = as_same what found other same
-over_relations what base found other is (inr several) =
-    as_texts what found other (λ alone. never_both (has_relations base) several.0 (subst (λ (b : Bool). IsTrue b) is alone)) several.1
+  over_relations : (found other : Outcome) → has_one_text what s.Ok ≡ not (has_relations base) → AreOne base spec image found other → AreAsOne held what found other
+  over_relations found other is (inl same) = as_same held what found other same
+  over_relations found other is (inr several) = as_texts found other (λ alone. never_both (has_relations base) several.0 (subst (λ (b : Bool). IsTrue b) is alone)) several.1
+
+of_analyses : (held : Held) (request : AnalyseRequest) (found other : Outcome) → AreOneAnalysis held request found other → AreAsOne held (Some (analyse request)) found other
+of_analyses held request found other (inl same) = as_same held (Some (analyse request)) found other same
+of_analyses held request found other (inr (posed, is, one)) =
+    over_relations held (Some (analyse request)) request.base posed.spec posed.image (λ text line are. inr (posed, is, are)) found other refl one
+
+of_conversions : (held : Held) (request : ConvertRequest) (found other : Outcome) → AreOneConversion held request found other → AreAsOne held (Some (convert request)) found other
+of_conversions held request found other (inl same) = as_same held (Some (convert request)) found other same
+of_conversions held request found other (inr (coded, is, one)) =
+    over_relations held (Some (convert request)) request.base coded.spec coded.image (λ text line are. inr (coded, is, are)) found other refl one
 
 one_call : (held : Held) (request : CallRequest) → IsOne (CallSteps (Holds held) request)
 one_call held request =
     one (SourceOf (Holds held) request.spec) (Called request) (one_source held request.spec) (λ source.
     one (Specifies Library source) (Ended request) (one_specified Library source) (λ spec found other p q. p ∙ sym q))
 
-one_asked : (held : Held) (what : Option Request) → AreFew what → (found other : Outcome) → Steps (Holds held) what found → Steps (Holds held) what other → AreAsOne what found other
-one_asked held None few found other p q = as_same None found other (p ∙ sym q)
-one_asked held (Some (call request)) few found other p q = as_same (Some (call request)) found other (one_call held request found other p q)
-one_asked held (Some (emulate request)) few found other p q = as_same (Some (emulate request)) found other (emulate_has_one held request found other p q)
-one_asked held (Some (analyse request)) few found other p q = over_relations (Some (analyse request)) request.base found other refl (analyse_has_one held request found other few p q)
-one_asked held (Some (check request)) few found other p q = as_same (Some (check request)) found other (check_has_one held request found other few p q)
-one_asked held (Some (convert request)) few found other p q = over_relations (Some (convert request)) request.base found other refl (convert_has_one held request found other few p q)
-one_asked held (Some (list request)) few found other p q = as_same (Some (list request)) found other (list_has_one held request found other p q)
-one_asked held (Some (slice request)) few found other p q = as_same (Some (slice request)) found other (slice_has_one held request found other few.0 p q)
-one_asked held (Some (claims request)) few found other p q = as_same (Some (claims request)) found other (claims_has_one held request found other few p q)
-one_asked held (Some what) few found other p q = as_same (Some what) found other (p ∙ sym q)
+one_asked : (held : Held) (what : Option Request) → AreFew what → (found other : Outcome) → Steps (Holds held) what found → Steps (Holds held) what other → AreAsOne held what found other
+one_asked held None few found other p q = as_same held None found other (p ∙ sym q)
+one_asked held (Some (call request)) few found other p q = as_same held (Some (call request)) found other (one_call held request found other p q)
+one_asked held (Some (emulate request)) few found other p q = as_same held (Some (emulate request)) found other (emulate_has_one held request found other p q)
+one_asked held (Some (analyse request)) few found other p q = of_analyses held request found other (analyse_has_one held request found other few p q)
+one_asked held (Some (check request)) few found other p q = as_same held (Some (check request)) found other (check_has_one held request found other few.0 p q)
+one_asked held (Some (convert request)) few found other p q = of_conversions held request found other (convert_has_one held request found other few p q)
+one_asked held (Some (list request)) few found other p q = as_same held (Some (list request)) found other (list_has_one held request found other p q)
+one_asked held (Some (slice request)) few found other p q = as_same held (Some (slice request)) found other (slice_has_one held request found other few.0 p q)
+one_asked held (Some (claims request)) few found other p q = as_same held (Some (claims request)) found other (claims_has_one held request found other few p q)
+one_asked held (Some what) few found other p q = as_same held (Some what) found other (p ∙ sym q)
 
 pub one_answer : OneAnswer
 one_answer words held status other text line owes too =
     let same = one_asked held (asked words) (few_wanted words) owes.outcome too.outcome owes.owed too.owed in (
       owes.has_status ∙ same.0 ∙ sym too.has_status,
       λ alone. owes.has_line ∙ same.1 (subst (λ (found : Status). IsTrue (has_one_text (asked words) found)) owes.has_status alone) ∙ sym too.has_line,
+      subst (λ (bytes : List ℕ). TellTheSame held (asked words) bytes line) (sym owes.has_line)
+          (subst (λ (bytes : List ℕ). TellTheSame held (asked words) (line_of owes.outcome) bytes) (sym too.has_line) same.2),
     )

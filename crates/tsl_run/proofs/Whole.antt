@@ -1,5 +1,5 @@
 -- A run over memory that does not fail.
-use Rattle.std.proofs.Common.{◌≡◌, ℕ, ◌<◌, ◌≤◌, ◌⊎◌, ◌++◌, [], Bool, List, Option, Some, None, IsTrue, length, refl, sym, ◌∙◌, ap, subst, inl, inr}
+use Rattle.std.proofs.Common.{◌≡◌, ℕ, ◌<◌, ◌≤◌, ◌⊎◌, ◌++◌, [], Bool, List, Option, Some, None, IsTrue, length, true, false, refl, sym, ◌∙◌, ap, subst, inl, inr}
 use Rattle.std.specs.Bool.{IsFalse}
 use Rattle.std.specs.Prelude.{Contains, is_some}
 use Rattle.tsl_io.specs.Faults.{RoseByOne}
@@ -15,7 +15,7 @@ use Rattle.tsl_run.specs.Output.{Ends}
 use Rattle.run_steps.specs.Reading.{Held}
 use Rattle.tsl_run.specs.Follows.{Follows}
 use Rattle.tsl_run.specs.Owed.{Owes, OwesAlone, OwesLonger}
-use Rattle.tsl_run.specs.Tables.{AreClaimsFor, IsAcceptedFor, IsSliceFor, IsTableFor}
+use Rattle.tsl_run.specs.Tables.{AreClaimsFor, IsAcceptedFor, IsOpenTableFor, IsSliceFor, IsTableFor}
 use Rattle.tsl_run.specs.Words.{input_names}
 use Rattle.tsl_run.proofs.Ending.{ends_follow}
 use Rattle.tsl_run.proofs.Exact.{exact_answers}
@@ -66,10 +66,16 @@ module _ (words : List (List ℕ)) (old new : InputState) (sink_old sink_new : S
         ]
 
     -- a table is the copy
-    pub tables : (request : AnalyseRequest) → asked words ≡ Some (analyse request) → result ≡ s.Ok → IsTableFor held request copy
-    tables request asks ok =
-        let found = follows.table told request asks ok in
+    pub tables : (request : AnalyseRequest) → asked words ≡ Some (analyse request) → request.open ≡ false → result ≡ s.Ok → IsTableFor held request copy
+    tables request asks closed ok =
+        let found = follows.table told request asks closed ok in
         subst (λ (h : Held). IsTableFor h request copy) holds (subst (λ (text : List ℕ). IsTableFor old.held request text) (sym (all_of found.0 found.2)) found.1)
+
+    -- and so is one that is left open
+    pub open_tables : (request : AnalyseRequest) → asked words ≡ Some (analyse request) → request.open ≡ true → result ≡ s.Ok → IsOpenTableFor held request copy
+    open_tables request asks left_open ok =
+        let found = follows.open_table told request asks left_open ok in
+        subst (λ (h : Held). IsOpenTableFor h request copy) holds (subst (λ (text : List ℕ). IsOpenTableFor old.held request text) (sym (all_of found.0 found.2)) found.1)
 
     -- and what says that a table is accepted
     pub acceptances : (request : CheckRequest) → asked words ≡ Some (check request) → result ≡ s.Ok → IsAcceptedFor held request × (copy ≡ accepted_line)

@@ -1,5 +1,5 @@
 -- What follows from how a run ends.
-use Rattle.std.specs.Prelude.{◌≡◌, ◌≢◌, ◌⊎◌, ℕ, ◌<◌, List, Some, None, All, Contains, IsTrue, length}
+use Rattle.std.specs.Prelude.{◌≡◌, ◌≢◌, ◌⊎◌, ℕ, ◌<◌, List, Some, None, All, Contains, IsTrue, length, true, false}
 use Rattle.std.specs.Bool.{IsFalse}
 use Rattle.tsl_io.specs.Faults.{Rose}
 use Rattle.tsl_io.specs.InputState.{InputState}
@@ -14,7 +14,7 @@ use Rattle.tsl_run.specs.Possible.{IsLineOf}
 use Rattle.run_steps.specs.Statuses.{IsAnswer}
 use Rattle.command_words.specs.Requests.{AnalyseRequest, CheckRequest, ClaimsRequest, SliceRequest, analyse, check, claims, slice}
 use Rattle.command_words.specs.Words.{asked}
-use Rattle.tsl_run.specs.Tables.{AreClaimsFor, IsAcceptedFor, IsSliceFor, IsTableFor}
+use Rattle.tsl_run.specs.Tables.{AreClaimsFor, IsAcceptedFor, IsOpenTableFor, IsSliceFor, IsTableFor}
 use Rattle.tsl_run.specs.Words.{input_names, IsUnbuilt}
 
 -- An input of the words could not be read, as the text says.
@@ -59,11 +59,15 @@ module _ (words : List (List ℕ)) (old new : InputState) (sink_old sink_new : S
         → (text : List ℕ) × Owes words old.held result text × Appends sink_old sink_new text
     -- Over inputs that tell: what is owed is answered, but for a fault and want of memory.
     pub owed : IsTrue old.tells → (status : Status) (text : List ℕ) → Owes words old.held status text → (result ≡ status) ⊎ ¬ IsAnswer result
-    -- Over inputs that tell: an analysis that ends well has written a table that is true of every run of the machine: the element at each address
+    -- Over inputs that tell: an analysis that is not left open and ends well has written a table that is true of every run of the machine: the element at each address
     -- describes every state that the meaning puts there, and where the base tells stamps each use list holds every definition that a read sees.
     -- (specs/Tables names the definition of this, `IsTrueOfRuns`.)
-    pub table : IsTrue old.tells → (request : AnalyseRequest) → asked words ≡ Some (analyse request) → result ≡ s.Ok
+    pub table : IsTrue old.tells → (request : AnalyseRequest) → asked words ≡ Some (analyse request) → request.open ≡ false → result ≡ s.Ok
         → (text : List ℕ) × IsTableFor old.held request text × Appends sink_old sink_new text
+    -- Over inputs that tell: an analysis that is left open and ends well has written a table that is true of every run of the machine up to and with
+    -- the first state at an address that is open, in the same sense. (specs/Tables names the definition of this, `IsTrueUntilOpen`.)
+    pub open_table : IsTrue old.tells → (request : AnalyseRequest) → asked words ≡ Some (analyse request) → request.open ≡ true → result ≡ s.Ok
+        → (text : List ℕ) × IsOpenTableFor old.held request text × Appends sink_old sink_new text
     -- Over inputs that tell: a check that ends well was of a table that is true of every run of the machine, in the same sense, and says so.
     pub accepted : IsTrue old.tells → (request : CheckRequest) → asked words ≡ Some (check request) → result ≡ s.Ok
         → IsAcceptedFor old.held request × Appends sink_old sink_new accepted_line

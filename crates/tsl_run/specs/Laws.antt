@@ -1,22 +1,34 @@
 -- What holds of what is owed, and of how a run ends.
-use Rattle.std.specs.Prelude.{◌≡◌, ℕ, List, IsTrue}
+use Rattle.std.specs.Prelude.{◌≡◌, ◌⊎◌, ℕ, List, Ok, Option, Some, IsTrue}
 use Rattle.tsl_io.specs.Faults.{RoseByOne}
 use Rattle.tsl_io.specs.InputState.{InputState}
 use Rattle.tsl_io.specs.SinkState.{SinkState}
 use Rattle.run_steps.specs.declared.status.Status.{Status}
 use Rattle.run_steps.specs.declared.status.Status.TheVariants as s
+use Rattle.command_words.specs.Requests.{Request, analyse, convert}
 use Rattle.command_words.specs.Words.{asked}
+use Rattle.analysis_domains.specs.Laws.{AreTextsOfOne}
 use Rattle.tsl_run.specs.Exact.{IsExact}
 use Rattle.tsl_run.specs.Follows.{Follows}
 use Rattle.tsl_run.specs.Output.{Ends}
-use Rattle.run_steps.specs.Reading.{Held}
+use Rattle.run_steps.specs.Reading.{Held, Holds}
+use Rattle.table_inputs.specs.Inputs.{Coded, CodedOf, Posed, PosedOf}
 use Rattle.tsl_run.specs.Owed.{Owes}
 use Rattle.tsl_run.specs.Words.{has_one_text}
 
--- one status is owed at most, and one text with it, but of a table over relations
+-- The two texts are one; where a table is asked for, both may be texts of one table of the specification and the code that are held.
+abbrev pub TellTheSame : Held → Option Request → List ℕ → List ℕ → Type 0
+TellTheSame held (Some (analyse request)) text line =
+    (text ≡ line) ⊎ ((posed : Posed) × PosedOf (Holds held) request.spec request.code request.entry (Ok posed) × AreTextsOfOne request.base posed.spec posed.image text line)
+TellTheSame held (Some (convert request)) text line =
+    (text ≡ line) ⊎ ((coded : Coded) × CodedOf (Holds held) request.spec request.code (Ok coded) × AreTextsOfOne request.base coded.spec coded.image text line)
+TellTheSame held _ text line = text ≡ line
+
+-- One status is owed at most, and one text with it, but of a table over relations. Of such a table all texts tell that one table.
 abbrev pub OneAnswer : Type 0
 OneAnswer = (words : List (List ℕ)) (held : Held) (status other : Status) (text line : List ℕ)
-    → Owes words held status text → Owes words held other line → (status ≡ other) × (IsTrue (has_one_text (asked words) status) → text ≡ line)
+    → Owes words held status text → Owes words held other line
+    → (status ≡ other) × (IsTrue (has_one_text (asked words) status) → text ≡ line) × TellTheSame held (asked words) text line
 
 -- and at least one
 abbrev pub SomeAnswer : Type 0

@@ -41,13 +41,13 @@ pub record IsRun (request : EmulateRequest) (answer : Answer) : Type 0 where
 -- The outcome is that of an analysis of a machine.
 pub record IsAnalysed (request : AnalyseRequest) (outcome : Outcome) : Type 0 where
   pub posed : Posed
-  pub analysed : AnalysisOf request.base request.limit posed outcome
+  pub analysed : AnalysisOf request posed outcome
 
 -- It is that of the check of a text.
 pub record IsChecked (request : CheckRequest) (outcome : Outcome) : Type 0 where
   pub posed : Posed
   pub bytes : List ℕ
-  pub checked : CheckOf request.analysis.base request.analysis.limit posed bytes outcome
+  pub checked : CheckOf request.analysis posed bytes outcome
 
 -- It is that of a text that is written anew.
 pub record IsConverted (request : ConvertRequest) (outcome : Outcome) : Type 0 where
@@ -59,14 +59,14 @@ pub record IsConverted (request : ConvertRequest) (outcome : Outcome) : Type 0 w
 pub record IsSliced (request : SliceRequest) (outcome : Outcome) : Type 0 where
   pub sought : Sought
   pub bytes : List ℕ
-  pub sliced : SliceOf request.check.analysis.base request.check.analysis.limit sought request.address bytes outcome
+  pub sliced : SliceOf request.check.analysis sought request.address bytes outcome
 
 -- It is that of claims, which are a text, on another.
 pub record AreClaimed (request : ClaimsRequest) (outcome : Outcome) : Type 0 where
   pub posed : Posed
   pub table_bytes : List ℕ
   pub claims_bytes : List ℕ
-  pub claimed : ClaimsOf request.check.analysis.base request.check.analysis.limit posed table_bytes claims_bytes outcome
+  pub claimed : ClaimsOf request.check.analysis posed table_bytes claims_bytes outcome
 
 -- It is a listing of code.
 pub record IsListing (answer : Answer) : Type 0 where

@@ -1,20 +1,30 @@
 -- The tables that analyses write, those that checks accept, and what slices and claims tell of them.
 use Rattle.std.specs.Prelude.{◌≡◌, ℕ, List, Some, Ok}
 use Rattle.command_words.specs.Requests.{AnalyseRequest, CheckRequest, ClaimsRequest, SliceRequest}
-use Rattle.run_steps.specs.Outcome.{text}
 use Rattle.run_steps.specs.Reading.{Held, Holds}
-use Rattle.run_tables.specs.Steps.{AcceptedBy, AnalysisOf, ClaimedBy, SlicedBy}
+use Rattle.run_tables.specs.Steps.{AcceptedBy, ClaimedBy, OpenTabledBy, SlicedBy, TabledBy}
 use Rattle.table_inputs.specs.Inputs.{Posed, PosedOf, Sought, SoughtOf}
 
 -- The bytes are the text of the table of an analysis: of the machine, the code and the entry that the names of a request hold.
 --
 -- So the table is true of every run of that machine, on that code, from every state that the entry describes: the element at each address
 -- describes every state that the meaning puts there, and where the base tells stamps each use list holds every definition that a read sees. This is `is_true` of
--- `IsTable` (analysis_domains specs/Analyses), to which `analysed` comes; `IsTrueOfRuns` (transfer_laws specs/Runs) says it in full.
+-- `IsTable` (analysis_domains specs/Analyses), to which `tabled` comes; `IsTrueOfRuns` (transfer_laws specs/Runs) says it in full.
 pub record IsTableFor (held : Held) (request : AnalyseRequest) (bytes : List ℕ) : Type 0 where
   pub posed : Posed
   pub is_posed : PosedOf (Holds held) request.spec request.code request.entry (Ok posed)
-  pub analysed : AnalysisOf request.base request.limit posed (Ok (text bytes))
+  pub tabled : TabledBy request posed bytes
+
+-- The bytes are the text of the table of an analysis that is left open: of the machine, the code and the entry that the names of a request hold.
+--
+-- Its open blocks are those whose instruction has no decoding, or may lead to too many addresses: they list no address that comes next. So the table is
+-- true of every run of that machine, on that code, from every state that the entry describes, up to and with the first state at an open address: to
+-- there it says what a table of an analysis says that is not left open. This is `is_true` of `IsOpenTable` (analysis_domains specs/OpenAnalyses), to
+-- which `tabled` comes; `IsTrueUntilOpen` (transfer_laws specs/OpenRuns) says it in full.
+pub record IsOpenTableFor (held : Held) (request : AnalyseRequest) (bytes : List ℕ) : Type 0 where
+  pub posed : Posed
+  pub is_posed : PosedOf (Holds held) request.spec request.code request.entry (Ok posed)
+  pub tabled : OpenTabledBy request posed bytes
 
 -- The table of a request holds the text of a table that is accepted for the machine, the code and the entry that the other names hold.
 --
@@ -25,7 +35,7 @@ pub record IsAcceptedFor (held : Held) (request : CheckRequest) : Type 0 where
   pub bytes : List ℕ
   pub is_posed : PosedOf (Holds held) request.analysis.spec request.analysis.code request.analysis.entry (Ok posed)
   pub is_held : held request.table ≡ Some bytes
-  pub accepted : AcceptedBy request.analysis.base request.analysis.limit posed bytes
+  pub accepted : AcceptedBy request.analysis posed bytes
 
 -- The text is that of the slice of a table that is accepted: of the table that a request names, for the machine, the code and the entry that the other
 -- names hold, and for the reads of the cell by the instruction at the address that the words give.
@@ -38,7 +48,7 @@ pub record IsSliceFor (held : Held) (request : SliceRequest) (text : List ℕ) :
   pub bytes : List ℕ
   pub is_sought : SoughtOf (Holds held) request.check.analysis.spec request.cell request.check.analysis.code request.check.analysis.entry (Ok sought)
   pub is_held : held request.check.table ≡ Some bytes
-  pub sliced : SlicedBy request.check.analysis.base request.check.analysis.limit sought request.address bytes text
+  pub sliced : SlicedBy request.check.analysis sought request.address bytes text
 
 -- The text has a line, yes or open, for each claim that a request names, on a table that is accepted: the one that it names, for the machine, the code and
 -- the entry that the other names hold.
@@ -52,4 +62,4 @@ pub record AreClaimsFor (held : Held) (request : ClaimsRequest) (text : List ℕ
   pub is_posed : PosedOf (Holds held) request.check.analysis.spec request.check.analysis.code request.check.analysis.entry (Ok posed)
   pub is_held : held request.check.table ≡ Some table_bytes
   pub are_held : held request.claims ≡ Some claims_bytes
-  pub claimed : ClaimedBy request.check.analysis.base request.check.analysis.limit posed table_bytes claims_bytes text
+  pub claimed : ClaimedBy request.check.analysis posed table_bytes claims_bytes text

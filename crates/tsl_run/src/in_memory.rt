@@ -1,6 +1,6 @@
 //! A run over files in memory, into memory.
 
-ghost use Rattle.std.specs.Prelude.{◌≡◌, ◌≤◌, ◌⊎◌, IfOk, List, Some, ℕ, length};
+ghost use Rattle.std.specs.Prelude.{◌≡◌, ◌≤◌, ◌⊎◌, IfOk, List, Some, ℕ, length, true, false};
 ghost use Rattle.tsl_io.specs.FileList.{first_file};
 ghost use Rattle.run_steps.specs.declared.status.Status.{Status};
 ghost use Rattle.run_steps.specs.declared.status.Status.TheVariants as Statuses;
@@ -9,7 +9,7 @@ ghost use Rattle.command_words.specs.Requests.{AnalyseRequest, CheckRequest, Cla
 ghost use Rattle.command_words.specs.Views.{texts};
 ghost use Rattle.command_words.specs.Words.{asked};
 ghost use Rattle.tsl_run.specs.Owed.{Owes, OwesAlone, OwesLonger};
-ghost use Rattle.tsl_run.specs.Tables.{AreClaimsFor, IsAcceptedFor, IsSliceFor, IsTableFor};
+ghost use Rattle.tsl_run.specs.Tables.{AreClaimsFor, IsAcceptedFor, IsOpenTableFor, IsSliceFor, IsTableFor};
 
 use crate::uncounted::run_uncounted;
 use run_steps::Status;
@@ -41,10 +41,15 @@ pub fn run_in_memory(
         → length text ≤ 67_108_864
         → IfOk result (λ ended. (ended.status ≡ status) × (ended.text.items ≡ text)) }
 
-    // Where an analysis ends well, its text is that of a table which is true of every run of the machine.
-    ensures table { (request : AnalyseRequest) → asked (texts words.now) ≡ Some (analyse request)
+    // Where an analysis that is not left open ends well, its text is that of a table which is true of every run of the machine.
+    ensures table { (request : AnalyseRequest) → asked (texts words.now) ≡ Some (analyse request) → request.open ≡ false
         → IfOk result (λ ended. ended.status ≡ Statuses.Ok
         → IsTableFor (first_file files.items) request ended.text.items) }
+
+    // Where one that is left open ends well, its text is that of a table which is true of every run up to and with the first state at an open address.
+    ensures open_table { (request : AnalyseRequest) → asked (texts words.now) ≡ Some (analyse request) → request.open ≡ true
+        → IfOk result (λ ended. ended.status ≡ Statuses.Ok
+        → IsOpenTableFor (first_file files.items) request ended.text.items) }
 
     // Where a check ends well, the table that it was asked for is true of every run of the machine, and the text says that it is accepted.
     ensures accepted { (request : CheckRequest) → asked (texts words.now) ≡ Some (check request)

@@ -20,7 +20,8 @@
 //! What is promised of analyses is the clause `table` of that law. Where the words ask for `analyse` and the run ends with `Ok`, what was written is
 //! the text of a table for the machine, the code and the entry that the inputs hold (specs/Tables). That table is true of every run of
 //! the machine: the element at each address describes every state that the meaning puts there, and each use list holds every
-//! definition that a read sees. The clause `accepted` promises the same of checks: where the words ask for `check` and the run ends with `Ok`, the
+//! definition that a read sees. With `--open` it is the clause `open_table`: the table is true so of every run up to and with the first state at an
+//! address that is left open. The clause `accepted` promises the same of checks: where the words ask for `check` and the run ends with `Ok`, the
 //! table that was asked for is true of every run. The clauses `sliced` and `claimed` promise what such a table tells: where the words ask for `slice`
 //! and the run ends with `Ok`, what was written is a slice that holds every chain of every read that it is of; where they ask for `claims`, each
 //! claim that is answered with `yes` is true of every state that a run has at its address.
@@ -94,7 +95,8 @@ pub fn run<I: Inputs, S: Sink, L: Ledger>(
         ⊎ (IsTrue (I.state inputs.new).is_open
         → IsTakenFrom (capped_inputs (texts words.now)) (I.state inputs.old) (I.state inputs.new)) }
 
-    // How many transfers it makes: an analysis at most N(H + 4) + N, of N code words and elements of the height H; a check, a slice and claims at most N.
+    // How many transfers it makes: an analysis at most N(H + J + 1) + N, of N code words and elements of the height H of which J changes join, and N
+    // more where it is left open; a check, a slice and claims at most one for each address that the table lists.
     ensures work { RunWork (Gave (I.state inputs.old) (I.state inputs.new)) (asked (texts words.now)) steps.old steps.new }
 
     // Where memory runs out nothing is written.

@@ -1,15 +1,16 @@
 -- Arrivals at a worklist.
-use Rattle.std.proofs.Common.{◌≡◌, ℕ, ◌+◌, List, take, length, get_or, ◌<◌, Option, None, Some, sym, subst}
+use Rattle.std.proofs.Common.{◌≡◌, ◌∙◌, ℕ, ◌+◌, List, take, length, get_or, ◌<◌, Option, None, Some, ap, sym, subst}
 use Rattle.std.specs.Prelude.{IsSomeAnd, fold}
 use Rattle.std.proofs.lemmas.List.Sums.{fold_more}
+use Rattle.base_trait.specs.Uses.{Seen}
 use Rattle.fixed_point.specs.Analysis.{Analysis, AnalysisLaws}
-use Rattle.fixed_point.specs.Outcome.{IfPost, Moves, Outcome, SameOutcome}
+use Rattle.fixed_point.specs.Outcome.{IfPost, Moves, Outcome, SameOutcome, too_many}
 use Rattle.fixed_point.specs.Play.{Play, Reached, arrive, arrive_all, changed, done, sent, transferred, transferred_from}
 use Rattle.worklist.specs.Fitting.{AllFit, IsFit}
 use Rattle.worklist.specs.Likeness.{AllLike}
 use Rattle.worklist.proofs.Fitting.{all_fit, one_done_fit}
 use Rattle.worklist.proofs.Likeness.{arrive_like, like_itself, like_on, sent_like}
-use Rattle.worklist.proofs.Traces.{has_too}
+use Rattle.worklist.proofs.Traces.{has_too, same_too_many}
 
 module _ {E W S : Type 0} (A : Analysis E W S) (laws : AnalysisLaws A) where
   -- one more target
@@ -39,6 +40,15 @@ module _ {E W S : Type 0} (A : Analysis E W S) (laws : AnalysisLaws A) where
                 (sent_like A laws given (A.transfer at r.elem) (changed at done p) (changed at done p)
                 post (laws.transfer_fits at r.elem fit.0 fit.1) (one_done_fit A laws at p fp) (one_done_fit A laws at p fp) told (λ a. like_itself A laws (changed at done p a)) a),
           )
+
+-- Where a transfer is that of what stands at an address and has too many targets, that one has too.
+pub many_from : {E W S : Type 0} (A : Analysis E W S) (p : Play E) (at changes : ℕ) (x : E) (shown : W) (uses : List Seen) → IsSomeAnd (p at) (λ r. (r.elem ≡ x) × (r.changes ≡ changes))
+    → SameOutcome A.elements (too_many shown uses) (A.transfer at x) → IsSomeAnd (p at) (λ r. (uses : List Seen) × (A.transfer at r.elem ≡ too_many shown uses))
+many_from {E} A p at changes x shown uses stands same = from (p at) stands
+  where
+    from : (y : Option (Reached E)) → IsSomeAnd y (λ r. (r.elem ≡ x) × (r.changes ≡ changes)) → IsSomeAnd y (λ r. (uses : List Seen) × (A.transfer at r.elem ≡ too_many shown uses))
+    from None h = absurd h
+    from (Some r) h = (uses, ap (A.transfer at) h.0 ∙ same_too_many A shown uses (A.transfer at x) same)
 
 -- plays that have the same at each address are one
 pub one_play : {E : Type 0} (p q : Play E) → ((a : ℕ) → p a ≡ q a) → p ≡ q

@@ -17,7 +17,7 @@ module _ {E W S : Type 0} (A : Analysis E W S) (laws : AnalysisLaws A) where
 
   grown_fits : (changes : ℕ) (old new : E) → A.elements.fits old → A.elements.fits new → A.elements.fits (grown A changes old new)
   grown_fits changes old new fits_old fits_new =
-      elim (nat_lt changes 3) as (λ b. A.elements.fits (if b then A.elements.join old new else A.elements.widen old new))
+      elim (nat_lt changes A.joins) as (λ b. A.elements.fits (if b then A.elements.join old new else A.elements.widen old new))
       [ true ↦ laws.elements.join_fits old new fits_old fits_new | false ↦ laws.elements.widen_fits old new fits_old fits_new ]
 
   arrived_fit : (a : ℕ) (new : E) (x : Option (Reached E)) → IsTrue (is_code A.code a) → A.elements.fits new → IsFit A a x → IsFit A a (arrived A new x)

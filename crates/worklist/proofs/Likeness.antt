@@ -35,18 +35,18 @@ module _ {E W S : Type 0} (A : Analysis E W S) (laws : AnalysisLaws A) where
   like_back (Some r) (Some s) h = record { elem = laws.elements.same_back r.elem s.elem h.elem; changes = sym h.changes; pending = sym h.pending }
 
   -- a test of changes up to three
-  few_told : (m n : ℕ) → min m 3 ≡ min n 3 → nat_lt m 3 ≡ nat_lt n 3
+  few_told : (m n : ℕ) → min m A.joins ≡ min n A.joins → nat_lt m A.joins ≡ nat_lt n A.joins
   few_told m n h = grind (arith, nat_tests)
 
-  more_told : (m n : ℕ) → min m 3 ≡ min n 3 → min (m + 1) 3 ≡ min (n + 1) 3
+  more_told : (m n : ℕ) → min m A.joins ≡ min n A.joins → min (m + 1) A.joins ≡ min (n + 1) A.joins
   more_told m n h = omega arith
 
-  pub grown_same : (m n : ℕ) (x x' y y' : E) → A.elements.fits x → A.elements.fits x' → A.elements.fits y → A.elements.fits y' → min m 3 ≡ min n 3 → A.elements.same x x' → A.elements.same y y'
+  pub grown_same : (m n : ℕ) (x x' y y' : E) → A.elements.fits x → A.elements.fits x' → A.elements.fits y → A.elements.fits y' → min m A.joins ≡ min n A.joins → A.elements.same x x' → A.elements.same y y'
       → A.elements.same (grown A m x y) (grown A n x' y')
   grown_same m n x x' y y' fx fx' fy fy' few sx sy =
       let told = few_told m n few in
       subst (λ b. A.elements.same (grown A m x y) (if b then A.elements.join x' y' else A.elements.widen x' y')) told
-      (elim (nat_lt m 3) as (λ b. A.elements.same (if b then A.elements.join x y else A.elements.widen x y) (if b then A.elements.join x' y' else A.elements.widen x' y'))
+      (elim (nat_lt m A.joins) as (λ b. A.elements.same (if b then A.elements.join x y else A.elements.widen x y) (if b then A.elements.join x' y' else A.elements.widen x' y'))
       [ true ↦ laws.elements.same_join x x' y y' fx fx' fy fy' sx sy | false ↦ laws.elements.same_widen x x' y y' fx fx' fy fy' sx sy ])
 
   pub arrived_like : (a : ℕ) (x y : E) (u v : Option (Reached E)) → A.elements.fits x → A.elements.fits y → IsFit A a u → IsFit A a v → A.elements.same x y → IsLike A u v
@@ -84,13 +84,13 @@ module _ {E W S : Type 0} (A : Analysis E W S) (laws : AnalysisLaws A) where
 
   pub sent_like : (given told : Outcome E W) (p q : Play E) → IfPost A.elements.fits given → IfPost A.elements.fits told → AllFit A p → AllFit A q → SameOutcome A.elements given told → AllLike A p q → AllLike A (sent A given p) (sent A told q)
   sent_like (undecodable word) (undecodable other) p q fx fy fp fq same like = like
-  sent_like (undecodable word) (too_many w) p q fx fy fp fq same like = absurd same
+  sent_like (undecodable word) (too_many w us') p q fx fy fp fq same like = absurd same
   sent_like (undecodable word) (moves ts y us) p q fx fy fp fq same like = absurd same
-  sent_like (too_many v) (undecodable other) p q fx fy fp fq same like = absurd same
-  sent_like (too_many v) (too_many w) p q fx fy fp fq same like = like
-  sent_like (too_many v) (moves ts y us) p q fx fy fp fq same like = absurd same
+  sent_like (too_many v us) (undecodable other) p q fx fy fp fq same like = absurd same
+  sent_like (too_many v us) (too_many w us') p q fx fy fp fq same like = like
+  sent_like (too_many v us) (moves ts y us') p q fx fy fp fq same like = absurd same
   sent_like (moves ts x us) (undecodable other) p q fx fy fp fq same like = absurd same
-  sent_like (moves ts x us) (too_many w) p q fx fy fp fq same like = absurd same
+  sent_like (moves ts x us) (too_many w us') p q fx fy fp fq same like = absurd same
   sent_like (moves ts None us) (moves ts' None us') p q fx fy fp fq same like = like
   sent_like (moves ts None us) (moves ts' (Some y) us') p q fx fy fp fq same like = absurd same.1
   sent_like (moves ts (Some x) us) (moves ts' None us') p q fx fy fp fq same like = absurd same.1

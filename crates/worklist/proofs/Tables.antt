@@ -66,7 +66,7 @@ few_places {X} code m ascends sorted inside =
 module _ {E P W S : Type 0} (view : E → P) (A : Analysis P W S) (laws : AnalysisLaws A) where
   answered_moves : (p : Play P) (given : Outcome P W) → IsAnswered A laws p given → Moves given
   answered_moves p (undecodable w) answered = answered
-  answered_moves p (too_many w) answered = answered
+  answered_moves p (too_many w us) answered = answered
   answered_moves p (moves ts post us) answered = tt
 
   moves_from : (a : ℕ) (x y : Option (Reached P)) (r : Reached P) → IsFit A a x → IsFit A a y → ((s : Reached P) → y ≡ Some s → Moves (A.transfer a s.elem)) → IsLike A x y

@@ -1,6 +1,7 @@
 -- Legal traces that grow.
 use Rattle.std.proofs.Common.{◌≡◌, ◌∙◌, ℕ, ◌+◌, ◌*◌, ◌≤◌, List, [], ◌∷◌, ◌++◌, length, Option, None, Some, arith, refl, sym, subst}
 use Rattle.std.specs.Prelude.{IsSomeAnd, fold}
+use Rattle.base_trait.specs.Uses.{Seen}
 use Rattle.fixed_point.specs.Analysis.{Analysis, AnalysisLaws, height_of}
 use Rattle.fixed_point.specs.Outcome.{Moves, Outcome, SameOutcome, moves, too_many, undecodable}
 use Rattle.fixed_point.specs.Play.{IsFull, IsLeastPending, IsLegal, IsLegalFrom, IsStopped, Play, Reached, begin, play, transferred}
@@ -15,19 +16,19 @@ use Rattle.worklist.proofs.Likeness.{like_back, like_on, transferred_like}
 pub has_too : {E W S : Type 0} (A : Analysis E W S) (given told : Outcome E W) → SameOutcome A.elements given told → Moves given → Moves told
 has_too A (moves ts y us) (moves ts' z us') same has = tt
 has_too A (undecodable v) told same has = absurd has
-has_too A (too_many v) told same has = absurd has
+has_too A (too_many v us) told same has = absurd has
 has_too A (moves ts y us) (undecodable w) same has = same
-has_too A (moves ts y us) (too_many w) same has = same
+has_too A (moves ts y us) (too_many w us') same has = same
 
 same_undecodable : {E W S : Type 0} (A : Analysis E W S) (w : ℕ) (told : Outcome E W) → SameOutcome A.elements (undecodable w) told → told ≡ undecodable w
 same_undecodable A w (undecodable v) same = cc
-same_undecodable A w (too_many v) same = absurd same
+same_undecodable A w (too_many v us) same = absurd same
 same_undecodable A w (moves ts y us) same = absurd same
 
-same_too_many : {E W S : Type 0} (A : Analysis E W S) (w : W) (told : Outcome E W) → SameOutcome A.elements (too_many w) told → told ≡ too_many w
-same_too_many A w (undecodable v) same = absurd same
-same_too_many A w (too_many v) same = cc
-same_too_many A w (moves ts y us) same = absurd same
+pub same_too_many : {E W S : Type 0} (A : Analysis E W S) (w : W) (uses : List Seen) (told : Outcome E W) → SameOutcome A.elements (too_many w uses) told → told ≡ too_many w uses
+same_too_many A w uses (undecodable v) same = absurd same
+same_too_many A w uses (too_many v us) same = let word = same.0 in let list = same.1 in cc
+same_too_many A w uses (moves ts y us) same = absurd same
 
 fold_push : {B : Type 0} (f : B → ℕ → B) (b : B) (xs : List ℕ) (x : ℕ) → fold f b (xs ++ x ∷ []) ≡ f (fold f b xs) x
 fold_push f b [] x = refl
@@ -85,9 +86,8 @@ module _ {E W S : Type 0} (A : Analysis E W S) (laws : AnalysisLaws A) where
 
   -- The least pending address has a transfer without targets.
   stops_like : (trace : List ℕ) (p : Play E) (at : ℕ) (r : Reached E) (given : Outcome E W) → AllFit A p → AllLike A p (play A trace) → IsLeastPending p at r
-      → (Moves given → ⊥) → ((told : Outcome E W) → SameOutcome A.elements given told → told ≡ given) → IsSomeAnd (p at) (λ r. A.transfer at r.elem ≡ given) → IsStopped A (play A trace) at given
-  stops_like trace p at r given fp like least none told gives =
-      let here = some_at p at r (λ r. A.transfer at r.elem ≡ given) least.stands gives in
+      → (Moves given → ⊥) → ((told : Outcome E W) → SameOutcome A.elements given told → told ≡ given) → A.transfer at r.elem ≡ given → IsStopped A (play A trace) at given
+  stops_like trace p at r given fp like least none told here =
       let there = least_like p (play A trace) at r like least in
       let one = fit_at A laws p at r fp least.stands in
       let other = fit_at A laws (play A trace) at there.0 (fit_if_fine A laws (play A trace) (legal_fine A laws (begin A) trace (begin_fine A laws))) there.1.stands in
@@ -96,15 +96,18 @@ module _ {E W S : Type 0} (A : Analysis E W S) (laws : AnalysisLaws A) where
 
   pub stops_undecodable : (trace : List ℕ) (p : Play E) (at word : ℕ) (r : Reached E) → AllFit A p → AllLike A p (play A trace) → IsLeastPending p at r
       → IsSomeAnd (p at) (λ r. A.transfer at r.elem ≡ undecodable word) → IsStopped A (play A trace) at (undecodable word)
-  stops_undecodable trace p at word r fp like least gives = stops_like trace p at r (undecodable word) fp like least (λ h. h) (same_undecodable A word) gives
+  stops_undecodable trace p at word r fp like least gives =
+      stops_like trace p at r (undecodable word) fp like least (λ h. h) (same_undecodable A word) (some_at p at r (λ r. A.transfer at r.elem ≡ undecodable word) least.stands gives)
 
   pub stops_too_many : (trace : List ℕ) (p : Play E) (at : ℕ) (shown : W) (r : Reached E) → AllFit A p → AllLike A p (play A trace) → IsLeastPending p at r
-      → IsSomeAnd (p at) (λ r. A.transfer at r.elem ≡ too_many shown) → IsStopped A (play A trace) at (too_many shown)
-  stops_too_many trace p at shown r fp like least gives = stops_like trace p at r (too_many shown) fp like least (λ h. h) (same_too_many A shown) gives
+      → IsSomeAnd (p at) (λ r. (uses : List Seen) × (A.transfer at r.elem ≡ too_many shown uses)) → (uses : List Seen) × IsStopped A (play A trace) at (too_many shown uses)
+  stops_too_many trace p at shown r fp like least gives =
+      let here = some_at p at r (λ r. (uses : List Seen) × (A.transfer at r.elem ≡ too_many shown uses)) least.stands gives in
+      (here.0, stops_like trace p at r (too_many shown here.0) fp like least (λ h. h) (same_too_many A shown here.0) here.1)
 
   -- While an address is pending, there is room for one more transfer.
   pub room_for_one : (trace : List ℕ) (p : Play E) (at : ℕ) (r : Reached E) → IsLegal A trace → AllLike A p (play A trace) → IsLeastPending p at r
-      → length trace + 1 ≤ length A.code * (height_of A + 4)
+      → length trace + 1 ≤ length A.code * (height_of A + A.joins + 1)
   room_for_one trace p at r legal like least =
       let there = least_like p (play A trace) at r like least in
       let falls = transferred_left A laws (play A trace) at there.0 (legal_fine A laws (begin A) trace (begin_fine A laws)) there.1.stands there.1.pending in

@@ -1,6 +1,7 @@
 -- What an analysis answers.
 use Rattle.std.specs.Prelude.{ℕ, List, Result, Ok, Err, Vec}
 use Rattle.std.specs.declared.alloc.Global.{Global}
+use Rattle.base_trait.specs.Uses.{Seen}
 use Rattle.fixed_point.specs.Analysis.{Analysis}
 use Rattle.fixed_point.specs.Outcome.{Outcome, too_many, undecodable}
 use Rattle.fixed_point.specs.Play.{IsFull, IsLegal, IsStopped, Play, play}
@@ -18,7 +19,7 @@ module _ {P W S : Type 0} (A : Analysis P W S) where
 
   abbrev pub IsErrorOf : AnalyseError W → Type 0
   IsErrorOf (Undecodable at word trace) = IsStopOf trace.items at (undecodable word)
-  IsErrorOf (TooManyTargets at shown trace) = IsStopOf trace.items at (too_many shown)
+  IsErrorOf (TooManyTargets at shown trace) = (uses : List Seen) × IsStopOf trace.items at (too_many shown uses)
   IsErrorOf NoMemory = Unit {0}
 
   -- The trace is legal and full, and the table lists what it reached.

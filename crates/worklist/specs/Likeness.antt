@@ -1,4 +1,4 @@
--- When two plays stand for one: elements that are the same, and changes counted up to three.
+-- When two plays stand for one: elements that are the same, and changes counted up to the joins of the analysis.
 use Rattle.std.specs.Prelude.{◌≡◌, ℕ, min, Option, Some, None}
 use Rattle.fixed_point.specs.Analysis.{Analysis}
 use Rattle.fixed_point.specs.Play.{Play, Reached}
@@ -6,7 +6,7 @@ use Rattle.fixed_point.specs.Play.{Play, Reached}
 module _ {E W S : Type 0} (A : Analysis E W S) where
   pub record IsLikeReached (r s : Reached E) : Type 0 where
     pub elem : A.elements.same r.elem s.elem
-    pub changes : min r.changes 3 ≡ min s.changes 3
+    pub changes : min r.changes A.joins ≡ min s.changes A.joins
     pub pending : r.pending ≡ s.pending
 
   abbrev pub IsLike : Option (Reached E) → Option (Reached E) → Type 0

@@ -1,5 +1,6 @@
 -- What a step of a worklist comes to.
-use Rattle.std.specs.Prelude.{◌≡◌, ℕ, IsSomeAnd}
+use Rattle.std.specs.Prelude.{◌≡◌, ℕ, List, IsSomeAnd}
+use Rattle.base_trait.specs.Uses.{Seen}
 use Rattle.fixed_point.specs.Analysis.{Analysis}
 use Rattle.fixed_point.specs.Outcome.{Moves, too_many, undecodable}
 use Rattle.fixed_point.specs.Play.{Play, transferred}
@@ -13,7 +14,7 @@ module _ {E W S : Type 0} (A : Analysis E W S) where
   abbrev pub IsStepped : Play E → Play E → ℕ → Stepped W → Type 0
   IsStepped p q at Moved = IsSomeAnd (p at) (λ r. Moves (A.transfer at r.elem)) × AllLike A q (transferred A p at)
   IsStepped p q at (Undecodable word) = IsSomeAnd (p at) (λ r. A.transfer at r.elem ≡ undecodable word)
-  IsStepped p q at (TooMany shown) = IsSomeAnd (p at) (λ r. A.transfer at r.elem ≡ too_many shown)
+  IsStepped p q at (TooMany shown) = IsSomeAnd (p at) (λ r. (uses : List Seen) × (A.transfer at r.elem ≡ too_many shown uses))
 
 -- the transfer was made
 abbrev pub IsMove : {W : Type 0} → Stepped W → Type 0

@@ -51,7 +51,7 @@ pub fn analyse<A: Described, L: Ledger>(
     ensures fits { IfOk result (λ r. TableFits (A.analysis analyser.now) (listings A.view r.table)) }
     ensures image { IfOk result (λ r. FitsImage (A.analysis analyser.now) (listings A.view r.table)) }
     ensures one { IfOk result (λ r. steps.new ≡ steps.old + (vec_len r.trace + btree_map_len r.table.blocks)) }
-    ensures most { steps.new ≤ steps.old + (length (A.analysis analyser.now).code * (height_of (A.analysis analyser.now) + 4) + length (A.analysis analyser.now).code) }
+    ensures most { steps.new ≤ steps.old + (length (A.analysis analyser.now).code * (height_of (A.analysis analyser.now) + (A.analysis analyser.now).joins + 1) + length (A.analysis analyser.now).code) }
 {
     let mut work = begun(analyser, alloc)?;
     let trace = run(analyser, alloc, &mut work, steps)?;

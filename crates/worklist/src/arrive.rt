@@ -14,7 +14,7 @@ use crate::worklist::{Worklist, place_at, put};
 use fixed_point::Analyser;
 use std::alloc::{AllocError as NoMemory, Global};
 
-/// What an element becomes that does not absorb a new one: the first three changes join, later ones widen.
+/// What an element becomes that does not absorb a new one: its first changes join, later ones widen.
 fn grow<A: Analyser>(
     analyser: &A,
     alloc: Global,
@@ -26,9 +26,9 @@ fn grow<A: Analyser>(
     requires new_fits { (A.analysis analyser.now).elements.fits (A.view new.now) }
     ensures value { IfOk result (λ r. (A.analysis analyser.now).elements.same (A.view r.elem) (grown (A.analysis analyser.now) old.now.changes (A.view old.now.elem) (A.view new.now))) }
     ensures fits { IfOk result (λ r. (A.analysis analyser.now).elements.fits (A.view r.elem)) }
-    ensures changes { IfOk result (λ r. min r.changes 3 ≡ min (old.now.changes + 1) 3) }
+    ensures changes { IfOk result (λ r. min r.changes (A.analysis analyser.now).joins ≡ min (old.now.changes + 1) (A.analysis analyser.now).joins) }
 {
-    if old.changes < 3 {
+    if old.changes < analyser.joins() {
         Ok(Place {
             elem: analyser.join(alloc, &old.elem, new)?,
             changes: old.changes + 1,

@@ -5,12 +5,12 @@
 //! works over any `Analyser` that is ready (`IsReady`) and sound for its machine (`Described`).
 //!
 //! *What stands.* A map has the element of each reached address with the number of its changes, counted up to
-//! three, and a set has the pending addresses. Seen together they are a play (`play_in`, specs/Views). It is like
-//! the play of the trace so far: elements are the same, changes agree up to three, the same addresses are pending
-//! (specs/Likeness). Each function's contract says one step of the definition, from the play before it to the play
+//! the joins of the analysis, and a set has the pending addresses. Seen together they are a play (`play_in`,
+//! specs/Views). It is like the play of the trace so far: elements are the same, changes agree up to the joins, the
+//! same addresses are pending (specs/Likeness). Each function's contract says one step of the definition, from the play before it to the play
 //! after it; that such steps keep likeness is a lemma for each step.
 //!
-//! *Why it ends.* A legal trace has at most N(H + 4) addresses, and while an address is pending there is room for
+//! *Why it ends.* A legal trace has at most N(H + J + 1) addresses, and while an address is pending there is room for
 //! one more (`fixed_point`, `legal_traces_are_short`). So the loop's measure is that number less the length of the
 //! trace, and no contract speaks of ranks.
 //!
@@ -18,7 +18,7 @@
 //! trace's play, and it is closed. So it is sound: the element at each address describes every state that a run has
 //! there, each step goes to an address that its block lists, and the block's uses cover what the step reads. Its
 //! addresses and stamps are the image's. A refusal comes exactly where the least pending address of the trace's
-//! play has no decoding, or too many targets. The steps are as many as transfers, at most N(H + 4) + N, also where
+//! play has no decoding, or too many targets. The steps are as many as transfers, at most N(H + J + 1) + N, also where
 //! memory runs out.
 #![tactic(auto)]
 

@@ -34,7 +34,7 @@ pub(crate) fn run<A: Analyser, L: Ledger>(
     ensures fine { OnOk result (AllFit (A.analysis analyser.now) (play_in A.view work.new)) }
     ensures reached { OnOk result (IsReached work.new) }
     ensures one { IfOk result (λ trace. steps.new ≡ steps.old + vec_len trace) }
-    ensures most { steps.new ≤ steps.old + length (A.analysis analyser.now).code * (height_of (A.analysis analyser.now) + 4) }
+    ensures most { steps.new ≤ steps.old + length (A.analysis analyser.now).code * (height_of (A.analysis analyser.now) + (A.analysis analyser.now).joins + 1) }
 {
     let mut trace = Vec::new(alloc);
     while let Some(at) = first(analyser, work) {

@@ -49,7 +49,7 @@ executed at (Set n) x = moves (behind at ∷ []) (Some (record { low = min n 99;
 executed at (Add n) x = moves (behind at ∷ []) (Some (record { low = min (min x.low 99 + min n 99) 99; high = min (x.high + min n 99) 99 })) number_used
 executed at (Goto to) x = moves (to ∷ []) (Some x) []
 executed at (Fork to) x = moves (fork_targets (behind at) to) (Some x) number_used
-executed at Wild x = too_many x
+executed at Wild x = too_many x number_used
 executed at Spin x = moves [] None []
 executed at Bad x = undecodable 0
 
@@ -74,6 +74,7 @@ instr_at (w ∷ rest) at = if w.at == at then Some w.instr else instr_at rest at
 abbrev pub analysis_of : List Word → ℕ → Interval → Analysis Interval Interval State
 analysis_of code start entry = record {
   elements = intervals;
+  joins = 3;
   code = addresses code;
   start = start;
   entry = entry;
@@ -90,7 +91,7 @@ stepped (Set n) s = goes (record { counter = behind s.counter; number = min n 99
 stepped (Add n) s = goes (record { counter = behind s.counter; number = min (s.number + min n 99) 99 }) (number_read ∷ [])
 stepped (Goto to) s = goes (record { counter = to; number = s.number }) []
 stepped (Fork to) s = goes (record { counter = if nat_lt s.number 50 then to else behind s.counter; number = s.number }) (number_read ∷ [])
-stepped Wild s = goes (record { counter = s.number; number = s.number }) []
+stepped Wild s = goes (record { counter = s.number; number = s.number }) (number_read ∷ [])
 stepped Spin s = stops deep
 stepped Bad s = stops (no_decoding 0)
 

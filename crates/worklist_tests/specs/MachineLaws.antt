@@ -78,7 +78,7 @@ uses_list at (Some (Set n)) x = tt
 uses_list at (Some (Add n)) x = ((inr (inl refl), tt), tt)
 uses_list at (Some (Goto to)) x = tt
 uses_list at (Some (Fork to)) x = ((inr (inl refl), tt), tt)
-uses_list at (Some Wild) x = tt
+uses_list at (Some Wild) x = ((inr (inl refl), tt), tt)
 uses_list at (Some Spin) x = tt
 uses_list at (Some Bad) x = tt
 
@@ -107,7 +107,7 @@ has_targets at (Some Bad) x = tt
 
 pub same_as_itself : (o : Outcome Interval Interval) → SameOutcome intervals o o
 same_as_itself (undecodable w) = refl
-same_as_itself (too_many x) = refl
+same_as_itself (too_many x us) = (refl, refl)
 same_as_itself (moves ts None us) = (refl, tt, refl)
 same_as_itself (moves ts (Some x) us) = (refl, refl, refl)
 

@@ -47,7 +47,7 @@ module _ (code : List Word) (start : ℕ) (entry : Interval) where
   executed_sound (Some (Goto to)) x s fits within = (inl refl, within, λ stamped. tt)
   executed_sound (Some (Fork to)) x s fits within =
       (fork_has (behind s.counter) to (if nat_lt s.number 50 then to else behind s.counter) (nat_lt s.number 50) refl, within, λ stamped. covers_read)
-  executed_sound (Some Wild) x s fits within = tt
+  executed_sound (Some Wild) x s fits within = λ stamped. covers_read
   executed_sound (Some Spin) x s fits within = tt
   executed_sound (Some Bad) x s fits within = tt
 

@@ -1,7 +1,7 @@
 //! Programs of the machine, analysed with intervals.
 
 use crate::execute::execute;
-use crate::machine::{Interval, TOP};
+use crate::machine::{Instr, Interval, TOP};
 use crate::program::Program;
 use fixed_point::{Analyser, Described, Transferred};
 use std::alloc::{AllocError as NoMemory, Global};
@@ -40,6 +40,10 @@ impl Analyser for Program {
         self.start
     }
 
+    fn joins(&self) -> u32 {
+        3
+    }
+
     fn entry(&self, _alloc: Global) -> Result<Interval, NoMemory> {
         Ok(self.entry)
     }
@@ -74,10 +78,12 @@ impl Analyser for Program {
         x: &Interval,
         steps: &mut Steps<L>,
     ) -> Result<Transferred<Interval, Interval>, NoMemory> {
-        steps.tick();
         match self.instr_at(at) {
-            Some(instr) => execute(alloc, at, instr, *x),
-            None => Ok(Transferred::Undecodable { word: 0 }),
+            None | Some(Instr::Bad) => Ok(Transferred::Undecodable { word: 0 }),
+            Some(instr) => {
+                steps.tick();
+                execute(alloc, at, instr, *x)
+            }
         }
     }
 }

@@ -5,9 +5,10 @@ ghost use Rattle.fixed_point.specs.Table.{TableFits};
 ghost use Rattle.fixed_point.specs.Views.{listings};
 ghost use Rattle.worklist_tests.specs.Machine.{IsProgram, analysis_of};
 
+use crate::left_open::{analysed_open, checked_open, endings};
 use crate::machine::Interval;
 use crate::program::Program;
-use crate::reading::{program, table};
+use crate::reading::{parts, program, table};
 use crate::writing::{joined, table_text, verdict_text};
 use fixed_point::Table;
 use std::alloc::{AllocError as NoMemory, Global};
@@ -62,8 +63,31 @@ fn checked<L: Ledger>(
     verdict_text(alloc, &verdict)
 }
 
-/// What a line gives: a program is analysed, and a program with a table behind a `;` is checked.
+/// What a line gives whose table is left open: behind the table stand its endings, after another `;`.
+fn open_answer(alloc: Global, line: &str) -> Result<String, NoMemory> {
+    let (code, listed) = parts(line, ';');
+    let Some(program) = program(alloc, code)? else {
+        return format!(in alloc; "no program");
+    };
+    if listed.is_empty() {
+        return analysed_open::<Brand>(alloc, &program, Blank::new(1));
+    }
+    let (listed, ends) = parts(listed.trim(), ';');
+    let Some(table) = table(alloc, &program, listed)? else {
+        return format!(in alloc; "no table");
+    };
+    match endings(alloc, ends.trim())? {
+        Some(endings) => { checked_open::<Brand>(alloc, &program, &table, &endings, Blank::new(1)) }
+        None => format!(in alloc; "no endings"),
+    }
+}
+
+/// What a line gives: a program is analysed, and a program with a table behind a `;` is checked. Where the line begins with
+/// `open`, tables are left open.
 pub(crate) fn answer(alloc: Global, line: &str) -> Result<String, NoMemory> {
+    if let Some(rest) = line.strip_prefix("open ") {
+        return open_answer(alloc, rest);
+    }
     let (code, listed) = match line.split_once("; ") {
         Some((code, listed)) => (code, Some(listed)),
         None => (line, None),

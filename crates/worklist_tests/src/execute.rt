@@ -106,7 +106,7 @@ pub(crate) fn execute(
         Instr::Wild => Ok(Transferred::Made(Transfer {
             targets: Targets::Many { shown: x },
             post: None,
-            uses: Vec::new(alloc),
+            uses: use_of_number(alloc)?,
         })),
         Instr::Spin => Ok(Transferred::Made(Transfer {
             targets: Targets::List(Vec::new(alloc)),

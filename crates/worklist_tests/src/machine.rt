@@ -1,7 +1,7 @@
 //! A machine with one number from 0 to 99, and intervals of it.
 
 /// The numbers from `low` to `high`.
-#[derive(Clone, Copy)]
+#[derive(Clone, Copy, PartialEq, Eq)]
 pub(crate) struct Interval {
     pub(crate) low: u32,
     pub(crate) high: u32,
@@ -21,7 +21,7 @@ pub(crate) enum Instr {
     Goto(u32),
     /// Goes on at an address where the number is below 50, and else behind the instruction. It reads the number.
     Fork(u32),
-    /// Goes on wherever the number says.
+    /// Goes on wherever the number says. It reads the number.
     Wild,
     /// Never comes to an end.
     Spin,

@@ -13,7 +13,7 @@ use std::alloc::{AllocError as NoMemory, Global};
 use std::collections::BTreeMap;
 
 /// The text up to the first mark, and what is behind it.
-fn parts<'a>(text: &'a str, mark: char) -> (&'a str, &'a str) {
+pub(crate) fn parts<'a>(text: &'a str, mark: char) -> (&'a str, &'a str) {
     match text.split_once(mark) {
         Some(parts) => parts,
         None => (text, ""),
@@ -21,7 +21,7 @@ fn parts<'a>(text: &'a str, mark: char) -> (&'a str, &'a str) {
 }
 
 /// An interval of the machine, as `0..9`.
-fn interval(text: &str) -> Option<Interval>
+pub(crate) fn interval(text: &str) -> Option<Interval>
     ensures { IfSome result (λ x. x.high ≤ 99) }
 {
     let (low, high) = text.split_once("..")?;

@@ -2,7 +2,9 @@
 
 use crate::machine::Interval;
 use fixed_point::{Block, Table, Verdict};
+use open_tables::Ending;
 use std::alloc::{AllocError as NoMemory, Global};
+use std::collections::BTreeMap;
 
 /// Addresses, as `4100+4104`, or `-` where there are none.
 pub(crate) fn joined(alloc: Global, addresses: &[u32]) -> Result<String, NoMemory> {
@@ -59,4 +61,25 @@ pub(crate) fn verdict_text(alloc: Global, verdict: &Verdict<Interval>) -> Result
         Verdict::Targets { at } => format!(in alloc; "targets {at}"),
         Verdict::Use { at } => format!(in alloc; "use {at}"),
     }
+}
+
+/// The endings of open blocks, by their addresses, as `4104 undecodable 0, 4108 open 0..9`, or `-`.
+pub(crate) fn endings_text(
+    alloc: Global,
+    endings: &BTreeMap<u32, Ending<Interval>>,
+) -> Result<String, NoMemory> {
+    let mut text = String::new(alloc);
+    for (at, ending) in endings.iter() {
+        if !text.is_empty() {
+            text.push_str(", ")?;
+        }
+        match ending {
+            Ending::Undecodable { word } => write!(text, "{at} undecodable {word}")?,
+            Ending::Open { shown } => write!(text, "{at} open {}..{}", shown.low, shown.high)?,
+        }
+    }
+    if text.is_empty() {
+        text.push('-')?;
+    }
+    Ok(text)
 }

@@ -1,3 +1,4 @@
+use Rattle.std.proofs.Common.{arith, inl}
 use Rattle.command_words.specs.Bases.{base_text}
 use Rattle.spec_types.specs.Views.{specification}
 use Rattle.state_text.specs.Reading.{entry_of}
@@ -7,6 +8,7 @@ use Rattle.domain_tasks.specs.Own.{OwnJudges, refused}
 use Rattle.domain_tasks.specs.Read.{problem_at}
 use Rattle.domain_tasks.proofs.Asked.{read_states}
 use Rattle.domain_tasks.proofs.Owning.{checked_answer, checked_refusal, gives_unread}
+use Rattle.domain_tasks.proofs.Working.{own_works}
 use Rattle.domain_tasks.proofs.check.checked_in.Goals as goal
 
 pub read_table-requires-clause-states : goal.read_table-requires-clause-states
@@ -33,3 +35,30 @@ returns-clause-gives g c =
     checked_answer (record { base = g.D.B.Base.algebra; cap = g.D.B.Base.CAP; elements = g.D.Domain.elements c.args.domain.now; meaning = g.D.Domain.meaning c.args.domain.now; view = g.D.Domain.view; IsText = g.D.ElemText.IsText; Reads = g.D.ReadElement.Reads c.args.domain.now; word_text = g.D.ElemText.word_text })
     (problem_at (specification s.spec.now) s.image.now c.args.start.now) s.image.now (base_text c.args.base) c.args.bytes.now c.in_ok-table.table c.in_ok-verdict.verdict c.in_ok-table.ensures.table c.in_ok-verdict.ensures.verdict
     (answer_of c.in_ok-accepted.field-0) c.in_ok-closed.ensures c.in_ok-accepted.ensures
+
+pub returns-in_err-table-clause-work : goal.returns-in_err-table-clause-work
+returns-in_err-table-clause-work g c = inl (omega (arith))
+
+pub returns-in_err-verdict-clause-work : goal.returns-in_err-verdict-clause-work
+returns-in_err-verdict-clause-work g c =
+    let s = c.args.it.now in
+    own_works (record { base = g.D.B.Base.algebra; cap = g.D.B.Base.CAP; elements = g.D.Domain.elements c.args.domain.now; meaning = g.D.Domain.meaning c.args.domain.now; view = g.D.Domain.view; IsText = g.D.ElemText.IsText; Reads = g.D.ReadElement.Reads c.args.domain.now; word_text = g.D.ElemText.word_text })
+    (specification s.spec.now) s.image.now (base_text c.args.base) c.args.bytes.now c.in_ok-table.table c.in_ok-table.ensures.table c.in_err-verdict.ensures.ordered c.args.steps.now c.verdict_in.new.steps c.in_err-verdict.ensures.work
+
+pub returns-in_err-closed-clause-work : goal.returns-in_err-closed-clause-work
+returns-in_err-closed-clause-work g c =
+    let s = c.args.it.now in
+    own_works (record { base = g.D.B.Base.algebra; cap = g.D.B.Base.CAP; elements = g.D.Domain.elements c.args.domain.now; meaning = g.D.Domain.meaning c.args.domain.now; view = g.D.Domain.view; IsText = g.D.ElemText.IsText; Reads = g.D.ReadElement.Reads c.args.domain.now; word_text = g.D.ElemText.word_text })
+    (specification s.spec.now) s.image.now (base_text c.args.base) c.args.bytes.now c.in_ok-table.table c.in_ok-table.ensures.table c.in_ok-verdict.ensures.ordered c.args.steps.now c.verdict_in.new.steps c.in_ok-verdict.ensures.work
+
+pub returns-in_err-accepted-clause-work : goal.returns-in_err-accepted-clause-work
+returns-in_err-accepted-clause-work g c =
+    let s = c.args.it.now in
+    own_works (record { base = g.D.B.Base.algebra; cap = g.D.B.Base.CAP; elements = g.D.Domain.elements c.args.domain.now; meaning = g.D.Domain.meaning c.args.domain.now; view = g.D.Domain.view; IsText = g.D.ElemText.IsText; Reads = g.D.ReadElement.Reads c.args.domain.now; word_text = g.D.ElemText.word_text })
+    (specification s.spec.now) s.image.now (base_text c.args.base) c.args.bytes.now c.in_ok-table.table c.in_ok-table.ensures.table c.in_ok-verdict.ensures.ordered c.args.steps.now c.verdict_in.new.steps c.in_ok-verdict.ensures.work
+
+pub returns-clause-work : goal.returns-clause-work
+returns-clause-work g c =
+    let s = c.args.it.now in
+    own_works (record { base = g.D.B.Base.algebra; cap = g.D.B.Base.CAP; elements = g.D.Domain.elements c.args.domain.now; meaning = g.D.Domain.meaning c.args.domain.now; view = g.D.Domain.view; IsText = g.D.ElemText.IsText; Reads = g.D.ReadElement.Reads c.args.domain.now; word_text = g.D.ElemText.word_text })
+    (specification s.spec.now) s.image.now (base_text c.args.base) c.args.bytes.now c.in_ok-table.table c.in_ok-table.ensures.table c.in_ok-verdict.ensures.ordered c.args.steps.now c.verdict_in.new.steps c.in_ok-verdict.ensures.work

@@ -1,4 +1,4 @@
-use Rattle.std.proofs.Common.{◌≡◌, map, subst, sym}
+use Rattle.std.proofs.Common.{◌≡◌, map, subst, sym, arith, inl}
 use Rattle.command_words.specs.Bases.{base_text}
 use Rattle.spec_types.specs.Views.{specification}
 use Rattle.state_text.specs.Reading.{entry_of}
@@ -15,6 +15,7 @@ use Rattle.domain_tasks.specs.Claims.{OwnClaims, refused, unread}
 use Rattle.domain_tasks.specs.Read.{IsTextOf, problem_at}
 use Rattle.domain_tasks.proofs.Asked.{read_states}
 use Rattle.domain_tasks.proofs.Owning.{claimed_answer, claimed_refusal, gives_unclaimed, gives_unread, of_cells}
+use Rattle.domain_tasks.proofs.Working.{own_works}
 use Rattle.domain_tasks.proofs.claims.claimed_in.Goals as goal
 
 pub read_table-requires-clause-states : goal.read_table-requires-clause-states
@@ -60,3 +61,33 @@ returns-clause-gives g c =
     (problem_at (specification s.spec.now) s.image.now c.args.start.now) s.image.now (base_text c.args.base) c.args.bytes.now c.in_ok-table.table c.in_ok-verdict.verdict c.in_ok-table.ensures.table c.in_ok-verdict.ensures.verdict
     (g.D.ClaimElem.telling c.args.domain.now) c.args.list.now (claims_of c.in_ok-claims.claims) c.in_ok-claims.ensures.answer (answer_of c.in_ok-answered.field-0) c.in_ok-closed.ensures
     (subst (λ claims. IsTextOf (λ text. text ≡ answers (g.D.ClaimElem.telling c.args.domain.now) (listings (λ x. x) c.in_ok-table.table) (map claim claims)) (answer_of c.in_ok-answered.field-0)) c.deref.ensures.value c.in_ok-answered.ensures)
+
+pub returns-in_err-table-clause-work : goal.returns-in_err-table-clause-work
+returns-in_err-table-clause-work g c = inl (omega (arith))
+
+pub returns-in_err-claims-clause-work : goal.returns-in_err-claims-clause-work
+returns-in_err-claims-clause-work g c = inl (omega (arith))
+
+pub returns-in_err-verdict-clause-work : goal.returns-in_err-verdict-clause-work
+returns-in_err-verdict-clause-work g c =
+    let s = c.args.it.now in
+    own_works (record { base = g.D.B.Base.algebra; cap = g.D.B.Base.CAP; elements = g.D.Domain.elements c.args.domain.now; meaning = g.D.Domain.meaning c.args.domain.now; view = g.D.Domain.view; IsText = g.D.ElemText.IsText; Reads = g.D.ReadElement.Reads c.args.domain.now; word_text = g.D.ElemText.word_text })
+    (specification s.spec.now) s.image.now (base_text c.args.base) c.args.bytes.now c.in_ok-table.table c.in_ok-table.ensures.table c.in_err-verdict.ensures.ordered c.args.steps.now c.verdict_in.new.steps c.in_err-verdict.ensures.work
+
+pub returns-in_err-closed-clause-work : goal.returns-in_err-closed-clause-work
+returns-in_err-closed-clause-work g c =
+    let s = c.args.it.now in
+    own_works (record { base = g.D.B.Base.algebra; cap = g.D.B.Base.CAP; elements = g.D.Domain.elements c.args.domain.now; meaning = g.D.Domain.meaning c.args.domain.now; view = g.D.Domain.view; IsText = g.D.ElemText.IsText; Reads = g.D.ReadElement.Reads c.args.domain.now; word_text = g.D.ElemText.word_text })
+    (specification s.spec.now) s.image.now (base_text c.args.base) c.args.bytes.now c.in_ok-table.table c.in_ok-table.ensures.table c.in_ok-verdict.ensures.ordered c.args.steps.now c.verdict_in.new.steps c.in_ok-verdict.ensures.work
+
+pub returns-in_err-answered-clause-work : goal.returns-in_err-answered-clause-work
+returns-in_err-answered-clause-work g c =
+    let s = c.args.it.now in
+    own_works (record { base = g.D.B.Base.algebra; cap = g.D.B.Base.CAP; elements = g.D.Domain.elements c.args.domain.now; meaning = g.D.Domain.meaning c.args.domain.now; view = g.D.Domain.view; IsText = g.D.ElemText.IsText; Reads = g.D.ReadElement.Reads c.args.domain.now; word_text = g.D.ElemText.word_text })
+    (specification s.spec.now) s.image.now (base_text c.args.base) c.args.bytes.now c.in_ok-table.table c.in_ok-table.ensures.table c.in_ok-verdict.ensures.ordered c.args.steps.now c.verdict_in.new.steps c.in_ok-verdict.ensures.work
+
+pub returns-clause-work : goal.returns-clause-work
+returns-clause-work g c =
+    let s = c.args.it.now in
+    own_works (record { base = g.D.B.Base.algebra; cap = g.D.B.Base.CAP; elements = g.D.Domain.elements c.args.domain.now; meaning = g.D.Domain.meaning c.args.domain.now; view = g.D.Domain.view; IsText = g.D.ElemText.IsText; Reads = g.D.ReadElement.Reads c.args.domain.now; word_text = g.D.ElemText.word_text })
+    (specification s.spec.now) s.image.now (base_text c.args.base) c.args.bytes.now c.in_ok-table.table c.in_ok-table.ensures.table c.in_ok-verdict.ensures.ordered c.args.steps.now c.verdict_in.new.steps c.in_ok-verdict.ensures.work

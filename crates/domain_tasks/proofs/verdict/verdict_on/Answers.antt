@@ -1,6 +1,4 @@
-use Rattle.std.proofs.Common.{arith}
 use Rattle.transfer.specs.Analysis.{problem}
-use Rattle.domain_tasks.proofs.Fitting.{few_blocks}
 use Rattle.domain_tasks.proofs.Owning.{own_verdict}
 use Rattle.domain_tasks.proofs.verdict.verdict_on.Goals as goal
 
@@ -9,9 +7,3 @@ returns-clause-verdict g c =
     let it = c.args.it.now in
     own_verdict (record { base = g.D.B.Base.algebra; cap = g.D.B.Base.CAP; elements = g.D.Domain.elements it.domain.now; meaning = g.D.Domain.meaning it.domain.now; view = g.D.Domain.view; IsText = g.D.ElemText.IsText; Reads = g.D.ReadElement.Reads it.domain.now; word_text = g.D.ElemText.word_text }) (problem it)
     c.args.table.now c.check.result c.requires.fits c.check.ensures.value c.check.ensures.runs
-
-pub returns-clause-work : goal.returns-clause-work
-returns-clause-work g c =
-    let it = c.args.it.now in
-    let few = few_blocks g.D.Domain.view (g.D.Domain.elements it.domain.now).fits (problem it).addresses c.args.table.now c.requires.ready.posed.image.ascends c.len-blocks.ensures.ordered c.requires.fits in
-    omega (arith, few, c.check.ensures.most)

@@ -12,14 +12,14 @@ use Rattle.run_tables.proofs.analyse.analysed.Goals as goal
 pub returns-in_err-posed-clause-gives : goal.returns-in_err-posed-clause-gives
 returns-in_err-posed-clause-gives g c =
     let request = analyse_of c.args.request.now in
-    let gives = first_stops (PosedOf (Gave (g.I.Inputs.state c.args.inputs.now) (g.I.Inputs.state c.posed_of.new.inputs)) request.spec request.code request.entry) (AnalysisOf request.base request.limit)
+    let gives = first_stops (PosedOf (Gave (g.I.Inputs.state c.args.inputs.now) (g.I.Inputs.state c.posed_of.new.inputs)) request.spec request.code request.entry) (AnalysisOf request)
     c.in_err-posed.field-0.0 c.in_err-posed.ensures.gives in
     search (rules, gives)
 
 pub returns-clause-gives : goal.returns-clause-gives
 returns-clause-gives g c =
     let request = analyse_of c.args.request.now in
-    gives_next (PosedOf (Gave (g.I.Inputs.state c.args.inputs.now) (g.I.Inputs.state c.posed_of.new.inputs)) request.spec request.code request.entry) (AnalysisOf request.base request.limit) answer_of
+    gives_next (PosedOf (Gave (g.I.Inputs.state c.args.inputs.now) (g.I.Inputs.state c.posed_of.new.inputs)) request.spec request.code request.entry) (AnalysisOf request) answer_of
     (posed_of c.in_ok-posed.posed) c.analysis_of.result c.in_ok-posed.ensures.gives c.analysis_of.ensures.gives
 
 pub returns-clause-no_other_fault : goal.returns-clause-no_other_fault

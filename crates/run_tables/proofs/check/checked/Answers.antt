@@ -1,14 +1,16 @@
 use Rattle.std.proofs.Common.{◌∙◌, ℕ, List, [], ◌∷◌, inr, rules, subst}
+use Rattle.std.specs.Prelude.{Ok}
 use Rattle.command_words.specs.Views.{check_of}
 use Rattle.run_steps.specs.Outcomes.{Gives, answer_of}
 use Rattle.run_steps.specs.Reading.{Gave}
 use Rattle.run_steps.proofs.Giving.{no_other_fault}
-use Rattle.run_steps.proofs.Readings.{gave_still, took_both, took_first}
+use Rattle.run_steps.proofs.Readings.{gave_later, gave_still, took_both, took_first}
 use Rattle.run_steps.proofs.Steps.{first_stops, gives_next}
 use Rattle.table_inputs.specs.Inputs.{Posed, PosedOf, table_cap}
 use Rattle.table_inputs.specs.Views.{posed_of}
 use Rattle.table_inputs.proofs.Chains.{both_give, both_stop, posed_still}
 use Rattle.run_tables.specs.Steps.{CheckOf, analyse_inputs}
+use Rattle.run_tables.specs.Work.{CheckTakes}
 use Rattle.run_tables.proofs.Chains.{table_behind, table_behind_wider}
 use Rattle.run_tables.proofs.check.checked.Goals as goal
 
@@ -17,7 +19,7 @@ returns-in_err-posed-clause-gives g c =
     let request = check_of c.args.request.now in
     let asked = request.analysis in
     let reads = Gave (g.I.Inputs.state c.args.inputs.now) (g.I.Inputs.state c.posed_of.new.inputs) in
-    let gives = first_stops (PosedOf reads asked.spec asked.code asked.entry) (λ posed. table_behind request.table (CheckOf asked.base asked.limit posed) reads)
+    let gives = first_stops (PosedOf reads asked.spec asked.code asked.entry) (λ posed. table_behind request.table (CheckOf asked posed) reads)
     c.in_err-posed.field-0.0 c.in_err-posed.ensures.gives in
     search (rules, gives)
 
@@ -32,10 +34,10 @@ returns-in_err-table-clause-gives g c =
     let asked = request.analysis in
     let mid = g.I.Inputs.state c.posed_of.new.inputs in
     let new = g.I.Inputs.state c.read_input.new.inputs in
-    let gives = both_stop (λ reads. PosedOf reads asked.spec asked.code asked.entry) (λ (posed : Posed). table_behind request.table (CheckOf asked.base asked.limit posed))
-    (g.I.Inputs.state c.args.inputs.now) mid new c.posed_of.ensures.kept c.in_ok-posed.ensures.no_other_fault (posed_still asked.spec asked.code asked.entry) (λ posed. table_behind_wider request.table (CheckOf asked.base asked.limit posed))
+    let gives = both_stop (λ reads. PosedOf reads asked.spec asked.code asked.entry) (λ (posed : Posed). table_behind request.table (CheckOf asked posed))
+    (g.I.Inputs.state c.args.inputs.now) mid new c.posed_of.ensures.kept c.in_ok-posed.ensures.no_other_fault (posed_still asked.spec asked.code asked.entry) (λ posed. table_behind_wider request.table (CheckOf asked posed))
     (posed_of c.in_ok-posed.posed) c.in_ok-posed.ensures.gives c.in_err-table.field-0.0
-    (first_stops (Gave mid new table_cap request.table) (CheckOf asked.base asked.limit (posed_of c.in_ok-posed.posed)) c.in_err-table.field-0.0 c.in_err-table.ensures.gives) in
+    (first_stops (Gave mid new table_cap request.table) (CheckOf asked (posed_of c.in_ok-posed.posed)) c.in_err-table.field-0.0 c.in_err-table.ensures.gives) in
     search (rules, gives)
 
 pub returns-in_err-table-clause-taken : goal.returns-in_err-table-clause-taken
@@ -50,11 +52,11 @@ returns-clause-gives g c =
     let asked = request.analysis in
     let mid = g.I.Inputs.state c.posed_of.new.inputs in
     let new = g.I.Inputs.state c.read_input.new.inputs in
-    let verdict = subst (λ (bytes : List ℕ). Gives (CheckOf asked.base asked.limit (posed_of c.in_ok-posed.posed) bytes) answer_of c.verdict_of.result) c.deref.ensures.value c.verdict_of.ensures.gives in
-    both_give (λ reads. PosedOf reads asked.spec asked.code asked.entry) (λ (posed : Posed). table_behind request.table (CheckOf asked.base asked.limit posed))
-    (g.I.Inputs.state c.args.inputs.now) mid new c.posed_of.ensures.kept c.in_ok-posed.ensures.no_other_fault (posed_still asked.spec asked.code asked.entry) (λ posed. table_behind_wider request.table (CheckOf asked.base asked.limit posed))
+    let verdict = subst (λ (bytes : List ℕ). Gives (CheckOf asked (posed_of c.in_ok-posed.posed) bytes) answer_of c.verdict_of.result) c.deref.ensures.value c.verdict_of.ensures.gives in
+    both_give (λ reads. PosedOf reads asked.spec asked.code asked.entry) (λ (posed : Posed). table_behind request.table (CheckOf asked posed))
+    (g.I.Inputs.state c.args.inputs.now) mid new c.posed_of.ensures.kept c.in_ok-posed.ensures.no_other_fault (posed_still asked.spec asked.code asked.entry) (λ posed. table_behind_wider request.table (CheckOf asked posed))
     (posed_of c.in_ok-posed.posed) c.in_ok-posed.ensures.gives answer_of c.verdict_of.result
-    (gives_next (Gave mid new table_cap request.table) (CheckOf asked.base asked.limit (posed_of c.in_ok-posed.posed)) answer_of c.in_ok-table.table.items c.verdict_of.result c.in_ok-table.ensures.gives verdict)
+    (gives_next (Gave mid new table_cap request.table) (CheckOf asked (posed_of c.in_ok-posed.posed)) answer_of c.in_ok-table.table.items c.verdict_of.result c.in_ok-table.ensures.gives verdict)
 
 pub returns-clause-no_other_fault : goal.returns-clause-no_other_fault
 returns-clause-no_other_fault g c =
@@ -71,7 +73,13 @@ verdict_of-requires-clause-posed g c = record { accepted = c.in_ok-posed.ensures
 
 pub returns-clause-work : goal.returns-clause-work
 returns-clause-work g c =
-    let asked = (check_of c.args.request.now).analysis in
+    let request = check_of c.args.request.now in
+    let asked = request.analysis in
+    let old = g.I.Inputs.state c.args.inputs.now in
     let mid = g.I.Inputs.state c.posed_of.new.inputs in
     let new = g.I.Inputs.state c.read_input.new.inputs in
-    inr (posed_of c.in_ok-posed.posed, posed_still asked.spec asked.code asked.entry (Gave (g.I.Inputs.state c.args.inputs.now) mid) (Gave (g.I.Inputs.state c.args.inputs.now) new) (gave_still (g.I.Inputs.state c.args.inputs.now) mid new) (posed_of c.in_ok-posed.posed) c.in_ok-posed.ensures.gives, c.verdict_of.ensures.work)
+    let posed = posed_of c.in_ok-posed.posed in
+    let bytes = c.in_ok-table.table.items in
+    let was_posed = posed_still asked.spec asked.code asked.entry (Gave old mid) (Gave old new) (gave_still old mid new) posed c.in_ok-posed.ensures.gives in
+    let was_read = gave_later old mid new c.posed_of.ensures.kept c.in_ok-posed.ensures.no_other_fault table_cap request.table (Ok bytes) c.in_ok-table.ensures.gives in
+    inr ((posed, bytes), (was_posed, was_read), subst (λ (text : List ℕ). CheckTakes asked.base posed text c.args.steps.now c.verdict_of.new.steps) c.deref.ensures.value c.verdict_of.ensures.work)

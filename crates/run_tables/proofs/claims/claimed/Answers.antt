@@ -1,14 +1,16 @@
 use Rattle.std.proofs.Common.{◌∙◌, ℕ, List, [], ◌∷◌, inr, rules, subst}
+use Rattle.std.specs.Prelude.{Ok}
 use Rattle.command_words.specs.Views.{claims_of}
 use Rattle.run_steps.specs.Outcomes.{Gives, answer_of}
 use Rattle.run_steps.specs.Reading.{Gave}
 use Rattle.run_steps.proofs.Giving.{no_other_fault}
-use Rattle.run_steps.proofs.Readings.{gave_still, kept_both, took_both, took_first}
+use Rattle.run_steps.proofs.Readings.{gave_later, gave_still, kept_both, took_both, took_first}
 use Rattle.run_steps.proofs.Steps.{first_stops, gives_next}
 use Rattle.table_inputs.specs.Inputs.{Posed, PosedOf, claims_cap, table_cap}
 use Rattle.table_inputs.specs.Views.{posed_of}
 use Rattle.table_inputs.proofs.Chains.{both_give, both_stop, input, input_still, posed_still}
 use Rattle.run_tables.specs.Steps.{ClaimsOf, analyse_inputs, check_inputs}
+use Rattle.run_tables.specs.Work.{CheckTakes}
 use Rattle.run_tables.proofs.Chains.{both_behind, both_behind_wider, claims_behind, claims_behind_wider}
 use Rattle.run_tables.proofs.claims.claimed.Goals as goal
 
@@ -17,7 +19,7 @@ returns-in_err-posed-clause-gives g c =
     let request = claims_of c.args.request.now in
     let asked = request.check.analysis in
     let reads = Gave (g.I.Inputs.state c.args.inputs.now) (g.I.Inputs.state c.posed_of.new.inputs) in
-    let gives = first_stops (PosedOf reads asked.spec asked.code asked.entry) (λ posed. both_behind request.check.table request.claims (ClaimsOf asked.base asked.limit posed) reads)
+    let gives = first_stops (PosedOf reads asked.spec asked.code asked.entry) (λ posed. both_behind request.check.table request.claims (ClaimsOf asked posed) reads)
     c.in_err-posed.field-0.0 c.in_err-posed.ensures.gives in
     search (rules, gives)
 
@@ -34,10 +36,10 @@ returns-in_err-table-clause-gives g c =
     let mid = g.I.Inputs.state c.posed_of.new.inputs in
     let new = g.I.Inputs.state c.read_input.new.inputs in
     let posed = posed_of c.in_ok-posed.posed in
-    let gives = both_stop (λ reads. PosedOf reads asked.spec asked.code asked.entry) (λ (p : Posed). both_behind request.check.table request.claims (ClaimsOf asked.base asked.limit p))
-    (g.I.Inputs.state c.args.inputs.now) mid new c.posed_of.ensures.kept c.in_ok-posed.ensures.no_other_fault (posed_still asked.spec asked.code asked.entry) (λ p. both_behind_wider request.check.table request.claims (ClaimsOf asked.base asked.limit p))
+    let gives = both_stop (λ reads. PosedOf reads asked.spec asked.code asked.entry) (λ (p : Posed). both_behind request.check.table request.claims (ClaimsOf asked p))
+    (g.I.Inputs.state c.args.inputs.now) mid new c.posed_of.ensures.kept c.in_ok-posed.ensures.no_other_fault (posed_still asked.spec asked.code asked.entry) (λ p. both_behind_wider request.check.table request.claims (ClaimsOf asked p))
     posed c.in_ok-posed.ensures.gives c.in_err-table.field-0.0
-    (first_stops (Gave mid new table_cap request.check.table) (λ bytes. claims_behind request.claims (ClaimsOf asked.base asked.limit posed bytes) (Gave mid new)) c.in_err-table.field-0.0 c.in_err-table.ensures.gives) in
+    (first_stops (Gave mid new table_cap request.check.table) (λ bytes. claims_behind request.claims (ClaimsOf asked posed bytes) (Gave mid new)) c.in_err-table.field-0.0 c.in_err-table.ensures.gives) in
     search (rules, gives)
 
 pub returns-in_err-table-clause-taken : goal.returns-in_err-table-clause-taken
@@ -55,9 +57,9 @@ returns-in_err-claims-clause-gives g c =
     let late = g.I.Inputs.state c.read_input.new.inputs in
     let new = g.I.Inputs.state c.read_input-2.new.inputs in
     let posed = posed_of c.in_ok-posed.posed in
-    let made = λ (bytes : List ℕ). ClaimsOf asked.base asked.limit posed bytes in
-    let gives = both_stop (λ reads. PosedOf reads asked.spec asked.code asked.entry) (λ (p : Posed). both_behind request.check.table request.claims (ClaimsOf asked.base asked.limit p))
-    (g.I.Inputs.state c.args.inputs.now) mid new c.posed_of.ensures.kept c.in_ok-posed.ensures.no_other_fault (posed_still asked.spec asked.code asked.entry) (λ p. both_behind_wider request.check.table request.claims (ClaimsOf asked.base asked.limit p))
+    let made = λ (bytes : List ℕ). ClaimsOf asked posed bytes in
+    let gives = both_stop (λ reads. PosedOf reads asked.spec asked.code asked.entry) (λ (p : Posed). both_behind request.check.table request.claims (ClaimsOf asked p))
+    (g.I.Inputs.state c.args.inputs.now) mid new c.posed_of.ensures.kept c.in_ok-posed.ensures.no_other_fault (posed_still asked.spec asked.code asked.entry) (λ p. both_behind_wider request.check.table request.claims (ClaimsOf asked p))
     posed c.in_ok-posed.ensures.gives c.in_err-claims.field-0.0
     (both_stop (input table_cap request.check.table) (λ (bytes : List ℕ). claims_behind request.claims (made bytes)) mid late new c.read_input.ensures.kept c.in_ok-table.ensures.no_other_fault (input_still table_cap request.check.table)
     (λ bytes. claims_behind_wider request.claims (made bytes)) c.in_ok-table.table.items c.in_ok-table.ensures.gives c.in_err-claims.field-0.0
@@ -83,11 +85,11 @@ returns-clause-gives g c =
     let late = g.I.Inputs.state c.read_input.new.inputs in
     let new = g.I.Inputs.state c.read_input-2.new.inputs in
     let posed = posed_of c.in_ok-posed.posed in
-    let made = λ (bytes : List ℕ). ClaimsOf asked.base asked.limit posed bytes in
+    let made = λ (bytes : List ℕ). ClaimsOf asked posed bytes in
     let by_table = subst (λ (bytes : List ℕ). Gives (made bytes c.deref-2.result.now) answer_of c.answers_of.result) c.deref.ensures.value c.answers_of.ensures.gives in
     let answers = subst (λ (claims : List ℕ). Gives (made c.in_ok-table.table.items claims) answer_of c.answers_of.result) c.deref-2.ensures.value by_table in
-    both_give (λ reads. PosedOf reads asked.spec asked.code asked.entry) (λ (p : Posed). both_behind request.check.table request.claims (ClaimsOf asked.base asked.limit p))
-    (g.I.Inputs.state c.args.inputs.now) mid new c.posed_of.ensures.kept c.in_ok-posed.ensures.no_other_fault (posed_still asked.spec asked.code asked.entry) (λ p. both_behind_wider request.check.table request.claims (ClaimsOf asked.base asked.limit p))
+    both_give (λ reads. PosedOf reads asked.spec asked.code asked.entry) (λ (p : Posed). both_behind request.check.table request.claims (ClaimsOf asked p))
+    (g.I.Inputs.state c.args.inputs.now) mid new c.posed_of.ensures.kept c.in_ok-posed.ensures.no_other_fault (posed_still asked.spec asked.code asked.entry) (λ p. both_behind_wider request.check.table request.claims (ClaimsOf asked p))
     posed c.in_ok-posed.ensures.gives answer_of c.answers_of.result
     (both_give (input table_cap request.check.table) (λ (bytes : List ℕ). claims_behind request.claims (made bytes)) mid late new c.read_input.ensures.kept c.in_ok-table.ensures.no_other_fault (input_still table_cap request.check.table)
     (λ bytes. claims_behind_wider request.claims (made bytes)) c.in_ok-table.table.items c.in_ok-table.ensures.gives answer_of c.answers_of.result
@@ -113,9 +115,18 @@ answers_of-requires-clause-posed g c = record { accepted = c.in_ok-posed.ensures
 
 pub returns-clause-work : goal.returns-clause-work
 returns-clause-work g c =
-    let asked = (claims_of c.args.request.now).check.analysis in
+    let request = claims_of c.args.request.now in
+    let asked = request.check.analysis in
     let old = g.I.Inputs.state c.args.inputs.now in
     let mid = g.I.Inputs.state c.posed_of.new.inputs in
+    let late = g.I.Inputs.state c.read_input.new.inputs in
     let new = g.I.Inputs.state c.read_input-2.new.inputs in
     let posed = posed_of c.in_ok-posed.posed in
-    inr (posed, posed_still asked.spec asked.code asked.entry (Gave old mid) (Gave old new) (gave_still old mid new) posed c.in_ok-posed.ensures.gives, c.answers_of.ensures.work)
+    let bytes = c.in_ok-table.table.items in
+    let was_posed = posed_still asked.spec asked.code asked.entry (Gave old mid) (Gave old new) (gave_still old mid new) posed c.in_ok-posed.ensures.gives in
+    let was_read = gave_later old mid late c.posed_of.ensures.kept c.in_ok-posed.ensures.no_other_fault table_cap request.check.table (Ok bytes) c.in_ok-table.ensures.gives in
+    inr (
+      (posed, bytes),
+      (was_posed, gave_still old late new table_cap request.check.table bytes was_read),
+      subst (λ (text : List ℕ). CheckTakes asked.base posed text c.args.steps.now c.answers_of.new.steps) c.deref.ensures.value c.answers_of.ensures.work,
+    )

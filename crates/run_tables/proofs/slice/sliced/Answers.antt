@@ -1,14 +1,16 @@
 use Rattle.std.proofs.Common.{◌∙◌, ℕ, List, [], ◌∷◌, inr, rules, subst}
+use Rattle.std.specs.Prelude.{Ok}
 use Rattle.command_words.specs.Views.{slice_of}
 use Rattle.run_steps.specs.Outcomes.{Gives, answer_of}
 use Rattle.run_steps.specs.Reading.{Gave}
 use Rattle.run_steps.proofs.Giving.{no_other_fault}
-use Rattle.run_steps.proofs.Readings.{gave_still, took_both, took_first}
+use Rattle.run_steps.proofs.Readings.{gave_later, gave_still, took_both, took_first}
 use Rattle.run_steps.proofs.Steps.{first_stops, gives_next}
 use Rattle.table_inputs.specs.Inputs.{Sought, SoughtOf, table_cap}
 use Rattle.table_inputs.specs.Views.{sought_of}
 use Rattle.table_inputs.proofs.Chains.{both_give, both_stop, sought_still}
 use Rattle.run_tables.specs.Steps.{SliceOf, analyse_inputs}
+use Rattle.run_tables.specs.Work.{CheckTakes}
 use Rattle.run_tables.proofs.Chains.{table_behind, table_behind_wider}
 use Rattle.run_tables.proofs.slice.sliced.Goals as goal
 
@@ -17,7 +19,7 @@ returns-in_err-sought-clause-gives g c =
     let request = slice_of c.args.request.now in
     let asked = request.check.analysis in
     let reads = Gave (g.I.Inputs.state c.args.inputs.now) (g.I.Inputs.state c.sought_of.new.inputs) in
-    let gives = first_stops (SoughtOf reads asked.spec request.cell asked.code asked.entry) (λ sought. table_behind request.check.table (SliceOf asked.base asked.limit sought request.address) reads)
+    let gives = first_stops (SoughtOf reads asked.spec request.cell asked.code asked.entry) (λ sought. table_behind request.check.table (SliceOf asked sought request.address) reads)
     c.in_err-sought.field-0.0 c.in_err-sought.ensures.gives in
     search (rules, gives)
 
@@ -32,7 +34,7 @@ returns-in_err-table-clause-gives g c =
     let asked = request.check.analysis in
     let mid = g.I.Inputs.state c.sought_of.new.inputs in
     let new = g.I.Inputs.state c.read_input.new.inputs in
-    let made = λ (sought : Sought). SliceOf asked.base asked.limit sought request.address in
+    let made = λ (sought : Sought). SliceOf asked sought request.address in
     let gives = both_stop (λ reads. SoughtOf reads asked.spec request.cell asked.code asked.entry) (λ (sought : Sought). table_behind request.check.table (made sought))
     (g.I.Inputs.state c.args.inputs.now) mid new c.sought_of.ensures.kept c.in_ok-sought.ensures.no_other_fault (sought_still asked.spec request.cell asked.code asked.entry) (λ sought. table_behind_wider request.check.table (made sought))
     (sought_of c.in_ok-sought.sought) c.in_ok-sought.ensures.gives c.in_err-table.field-0.0
@@ -51,7 +53,7 @@ returns-clause-gives g c =
     let asked = request.check.analysis in
     let mid = g.I.Inputs.state c.sought_of.new.inputs in
     let new = g.I.Inputs.state c.read_input.new.inputs in
-    let made = λ (sought : Sought). SliceOf asked.base asked.limit sought request.address in
+    let made = λ (sought : Sought). SliceOf asked sought request.address in
     let slice = subst (λ (bytes : List ℕ). Gives (made (sought_of c.in_ok-sought.sought) bytes) answer_of c.slice_over.result) c.deref.ensures.value c.slice_over.ensures.gives in
     both_give (λ reads. SoughtOf reads asked.spec request.cell asked.code asked.entry) (λ (sought : Sought). table_behind request.check.table (made sought))
     (g.I.Inputs.state c.args.inputs.now) mid new c.sought_of.ensures.kept c.in_ok-sought.ensures.no_other_fault (sought_still asked.spec request.cell asked.code asked.entry) (λ sought. table_behind_wider request.check.table (made sought))
@@ -79,4 +81,7 @@ returns-clause-work g c =
     let mid = g.I.Inputs.state c.sought_of.new.inputs in
     let new = g.I.Inputs.state c.read_input.new.inputs in
     let sought = sought_of c.in_ok-sought.sought in
-    inr (sought, sought_still asked.spec request.cell asked.code asked.entry (Gave old mid) (Gave old new) (gave_still old mid new) sought c.in_ok-sought.ensures.gives, c.slice_over.ensures.work)
+    let bytes = c.in_ok-table.table.items in
+    let was_sought = sought_still asked.spec request.cell asked.code asked.entry (Gave old mid) (Gave old new) (gave_still old mid new) sought c.in_ok-sought.ensures.gives in
+    let was_read = gave_later old mid new c.sought_of.ensures.kept c.in_ok-sought.ensures.no_other_fault table_cap request.check.table (Ok bytes) c.in_ok-table.ensures.gives in
+    inr ((sought, bytes), (was_sought, was_read), subst (λ (text : List ℕ). CheckTakes asked.base sought.posed text c.args.steps.now c.slice_over.new.steps) c.deref.ensures.value c.slice_over.ensures.work)

@@ -1,5 +1,5 @@
 use Rattle.std.proofs.Common.{◌∙◌}
-use Rattle.tsl_run.proofs.Whole.{acceptances, answers, exactly, slices, tables, whole}
+use Rattle.tsl_run.proofs.Whole.{acceptances, answers, exactly, open_tables, slices, tables, whole}
 use Rattle.tsl_run.proofs.in_memory.run_in_memory.Goals as goal
 
 pub returns-clause-owed : goal.returns-clause-owed
@@ -15,10 +15,16 @@ returns-clause-exact c status text alone fits =
     _ _ (c.in_ok-to_vec-in_default.ensures.items_if_clones_equal (λ x y same. same) ∙ c.bytes.ensures) c.in_ok-sink.ensures.room status text alone fits
 
 pub returns-clause-table : goal.returns-clause-table
-returns-clause-table c request asks ok =
+returns-clause-table c request asks closed ok =
     tables _ _ _ _ _ _ _ c.in_ok-inputs.ensures.tells c.in_ok-inputs.ensures.held c.in_ok-inputs.ensures.sure c.in_ok-sink.ensures.tells c.in_ok-sink.ensures.written
     c.run_uncounted.ensures.ends c.run_uncounted.ensures.write_fault (let not = c.in_default.not-NoMemory in λ is. not is)
-    _ _ (c.in_ok-to_vec-in_default.ensures.items_if_clones_equal (λ x y same. same) ∙ c.bytes.ensures) c.in_ok-sink.ensures.room request asks ok
+    _ _ (c.in_ok-to_vec-in_default.ensures.items_if_clones_equal (λ x y same. same) ∙ c.bytes.ensures) c.in_ok-sink.ensures.room request asks closed ok
+
+pub returns-clause-open_table : goal.returns-clause-open_table
+returns-clause-open_table c request asks left_open ok =
+    open_tables _ _ _ _ _ _ _ c.in_ok-inputs.ensures.tells c.in_ok-inputs.ensures.held c.in_ok-inputs.ensures.sure c.in_ok-sink.ensures.tells c.in_ok-sink.ensures.written
+    c.run_uncounted.ensures.ends c.run_uncounted.ensures.write_fault (let not = c.in_default.not-NoMemory in λ is. not is)
+    _ _ (c.in_ok-to_vec-in_default.ensures.items_if_clones_equal (λ x y same. same) ∙ c.bytes.ensures) c.in_ok-sink.ensures.room request asks left_open ok
 
 pub returns-clause-accepted : goal.returns-clause-accepted
 returns-clause-accepted c request asks ok =

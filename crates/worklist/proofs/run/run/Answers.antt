@@ -54,7 +54,8 @@ returns-in-TooMany-clause-value g c =
     let A = g.A.Analyser.analysis c.args.analyser.now in
     let least = c.in-Some.ensures.least in
     let value = rw c.in-TooMany.is at c.in_ok-step.ensures.value in
-    (c.loop-at.invariant.legal, stops_too_many A (g.met.A.Analyser.laws c.args.analyser.now c.requires.ready) c.loop-at.trace.items (play_in g.A.Analyser.view c.loop-at.work) c.in-Some.at c.in-TooMany.shown least.0 c.loop-at.invariant.fine c.loop-at.invariant.like least.1 value)
+    let stopped = stops_too_many A (g.met.A.Analyser.laws c.args.analyser.now c.requires.ready) c.loop-at.trace.items (play_in g.A.Analyser.view c.loop-at.work) c.in-Some.at c.in-TooMany.shown least.0 c.loop-at.invariant.fine c.loop-at.invariant.like least.1 value in
+    (stopped.0, (c.loop-at.invariant.legal, stopped.1))
 
 pub returns-clause-value : goal.returns-clause-value
 returns-clause-value g c =

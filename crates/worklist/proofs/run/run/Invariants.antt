@@ -16,4 +16,4 @@ invariant-loop-at g l = let A = g.A.Analyser.analysis l.analyser in record {
 }
 
 abbrev pub decreases-loop-at : goal.decreases-loop-at
-decreases-loop-at g l = let A = g.A.Analyser.analysis l.analyser in length A.code * (height_of A + 4) - vec_len l.trace
+decreases-loop-at g l = let A = g.A.Analyser.analysis l.analyser in length A.code * (height_of A + A.joins + 1) - vec_len l.trace

@@ -2,8 +2,13 @@ use Rattle.std.proofs.Common.{map, option_map}
 use Rattle.base_trait.specs.Uses.{seen}
 use Rattle.fixed_point.specs.Outcome.{moves}
 use Rattle.worklist.specs.Views.{play_in}
-use Rattle.worklist.proofs.Arrivals.{stepped_from}
+use Rattle.worklist.proofs.Arrivals.{many_from, stepped_from}
 use Rattle.worklist.proofs.step.step.Goals as goal
+
+pub returns-in-Many-clause-value : goal.returns-in-Many-clause-value
+returns-in-Many-clause-value g c =
+    many_from (g.A.Analyser.analysis c.args.analyser.now) (play_in g.A.Analyser.view c.args.work.now) c.args.at c.in-Some.place.now.changes (g.A.Analyser.view c.in-Some.place.now.elem) c.in-Many.shown
+    (map seen c.in-Made.made.uses.items) c.in-Some.ensures.some (rw c.in-Many.is at (rw c.in-Made.is at c.in_ok-word.ensures.value))
 
 pub returns-clause-value : goal.returns-clause-value
 returns-clause-value g c =

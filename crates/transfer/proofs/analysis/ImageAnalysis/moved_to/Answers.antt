@@ -22,12 +22,12 @@ returns-in_ok-uses-in-Some g c =
     (ap (λ (k : g.row.D-B-Ctx.Denot). B.words.members k 32 c.args.counter.now it.limit) (sym c.requires.context) ∙ sym c.in_ok-targets.ensures ∙ ap items_of c.in-Some.is)
     c.in_ok-post-in-Some.ensures.value c.in_ok-post-in-Some.ensures.fits c.in_ok-uses-in-Some.ensures
 
-pub returns-in_ok-shown-in-None : goal.returns-in_ok-shown-in-None
-returns-in_ok-shown-in-None g c =
+pub returns-in_ok-uses-in-None : goal.returns-in_ok-uses-in-None
+returns-in_ok-uses-in-None g c =
     let B = g.D.B.Base.algebra in
     let it = c.args.self.now in
     let D = g.D.Domain.elements it.domain.now in
     let M = g.D.Domain.meaning it.domain.now in
-    without_members B D M (problem it) g.D.Domain.view _ (g.D.Domain.view c.args.before.now) (abs c.args.state.now) (uses_of c.args.log.now) c.args.counter.now _ _ refl
+    without_members B D M (problem it) g.D.Domain.view _ (g.D.Domain.view c.args.before.now) (abs c.args.state.now) (uses_of c.args.log.now) c.args.counter.now _ _ _ refl
     (ap (λ (k : g.row.D-B-Ctx.Denot). B.words.members k 32 c.args.counter.now it.limit) (sym c.requires.context) ∙ sym c.in_ok-targets.ensures ∙ ap items_of c.in-None.is)
-    c.in_ok-shown-in-None.ensures.value
+    c.in_ok-shown-in-None.ensures.value c.in_ok-uses-in-None.ensures

@@ -1,0 +1,43 @@
+//! Tables of an image that are left open.
+
+ghost use Rattle.std.specs.Prelude.{◌+◌, ◌*◌, ◌≤◌, IfOk, length};
+ghost use Rattle.std.specs.BTreeMap.{get};
+ghost use Rattle.std.specs.Ordering.{nat_cmp};
+ghost use Rattle.fixed_point.specs.Analysis.{height_of};
+ghost use Rattle.fixed_point.specs.Table.{TableFits};
+ghost use Rattle.fixed_point.specs.Views.{listings};
+ghost use Rattle.open_tables.specs.Endings.{IsClosedButOpen};
+ghost use Rattle.open_tables.specs.LeftOpen.{left_open};
+ghost use Rattle.transfer.specs.Analysis.{problem};
+ghost use Rattle.worklist.specs.Answers.{IsReportOf};
+ghost use Rattle.transfer_laws.specs.OpenRuns.{IsTrueUntilOpen};
+
+use base_trait::Base;
+use domain_trait::Domain;
+use fixed_point::Analyser;
+use open_tables::OpenReport;
+use std::alloc::{AllocError as NoMemory, Global};
+use std::sync::ledger::Ledger;
+use step_counter::Steps;
+use transfer::ImageAnalysis;
+
+/// The table of an image's analysis, with its trace, where a block is left open whose code word has no decoding, or whose instruction
+/// may lead to too many addresses.
+///
+/// The table is true of the runs of the machine up to and with the first state at an open address, from every state that the entry
+/// describes: the element at each address describes every state that the meaning puts there, and each use list holds every definition
+/// that a read sees.
+pub fn analyse_open<'a, D: Domain, L: Ledger>(
+    alloc: Global,
+    analysis: &ImageAnalysis<'a, D>,
+    steps: &mut Steps<L>,
+) -> Result<OpenReport<D::Elem, <D::B as Base>::Word>, NoMemory>
+    requires ready { ⟦<ImageAnalysis<'a, D> as Analyser>⟧.IsReady analysis.now }
+    ensures value { IfOk result (λ r. IsReportOf (left_open (⟦<ImageAnalysis<'a, D> as Analyser>⟧.analysis analysis.now)) D.view r.report) }
+    ensures closed { IfOk result (λ r. IsClosedButOpen (⟦<ImageAnalysis<'a, D> as Analyser>⟧.analysis analysis.now) (listings D.view r.report.table) (get nat_cmp r.endings)) }
+    ensures runs { IfOk result (λ r. IsTrueUntilOpen D.B.algebra (D.elements analysis.now.domain.now) (problem analysis.now) (listings D.view r.report.table) (get nat_cmp r.endings)) }
+    ensures fits { IfOk result (λ r. TableFits (⟦<ImageAnalysis<'a, D> as Analyser>⟧.analysis analysis.now) (listings D.view r.report.table)) }
+    ensures most { steps.new ≤ steps.old + (length (problem analysis.now).addresses * (height_of (⟦<ImageAnalysis<'a, D> as Analyser>⟧.analysis analysis.now) + (problem analysis.now).joins + 1) + (length (problem analysis.now).addresses + length (problem analysis.now).addresses)) }
+{
+    open_tables::analyse(alloc, analysis, steps)
+}

@@ -1,0 +1,6 @@
+pub mod Differing
+pub mod Gathered
+pub mod Shut
+pub mod Soundness
+pub mod Truth
+pub mod Verdicts

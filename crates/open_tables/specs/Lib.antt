@@ -1,0 +1,8 @@
+pub mod Apart
+pub mod Endings
+pub mod Gathering
+pub mod Instance
+pub mod Laws
+pub mod LeftOpen
+pub mod Runs
+pub mod Verdicts
