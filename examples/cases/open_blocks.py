@@ -72,4 +72,5 @@ def main():
                 case(f"{count}_arrivals_widened_from_change_{widen}", arrivals(count), [0x1000, (0, "any"), (3, "0")], base, widen=widen, is_open=False)
 
 
-main()
+if __name__ == "__main__":
+    main()

@@ -4,7 +4,8 @@
 What is wanted is made from the stored cases of closed analyses, and not by the program. Where the last instruction of a way leads out of the
 code alone, its word is replaced by one without decoding. Nothing before it changes, since an element is the state before its instruction. So
 the table is the stored one but for this block, which loses its uses and its exits and ends in `undecodable`. A return to any address is the
-one instruction of its code. So its table is one block with the element of the entry, and ends in the word that the stored refusal names.
+one instruction of its code. So its table is one block with the element of the entry, and ends in the word that the stored refusal names. Over
+affine relations the one instruction is a branch that is not decided, and its table is written here by hand.
 
 usage: open_cases.py > crates/case_runner/data/open_tables.cases
 """
@@ -112,6 +113,21 @@ def any_return(words, inputs, wanted):
     case(f"open_at_any_return_address_over_{base.replace('+', '_and_')}", [*words, "--open"], inputs, 0, table)
 
 
+# What the parts beside relations say of the entry's registers, of which 0 is any number.
+BESIDE = {"kset": ["r[*] {00000000}", "r[0] any"], "interval": ["r[*] 00000000..00000000", "r[0] any"], "defuse": ["r[*] {00000000} from entry", "r[0] any from entry"]}
+ROWS = ["row 00000000 00000001 00000000 00000000 00000000", "row 00000001 00000000 00000000 00000000 00000000"]
+
+
+def any_branch(base, shown, limit=()):
+    """Writes the case of a branch to 2000 or 1004 over a base with relations, where register 0 is any number."""
+    element = [line for part in base.split("+") for line in [f"part {part}", *(ROWS if part == "affine" else BESIDE[part])]]
+    uses = ["use r[0] from entry"] if "defuse" in base else []
+    table = ["tsl-table 2", f"base {base}", "order big", "code 00001000 4", "at 00001000", *element, *uses, f"open {shown}"]
+    words = ["analyse", "s", "c", "e", "--at", "00001000", "--base", base, *limit, "--open"]
+    inputs = {"s": ["use MINI"], "c": ["hex 03002000"], "e": ["| pc 00001000", "| r[0] any"]}
+    case(f"open_at_a_branch_over_{base.replace('+', '_and_')}", words, inputs, 0, [f"| {line}" for line in table])
+
+
 def main():
     given, cases = read()
     print("# Tables that are left open, and the words that ask for them. Made by examples/cases/open_cases.py.\n")
@@ -129,15 +145,27 @@ def main():
                 closed[base] = it
         if status == 10 and name.startswith("any_return_address_over_") and "--base" in words:
             any_return(words, inputs, wanted)
+    any_branch("affine", "any")
+    any_branch("kset+affine", "{00001004,00002000} any", ["--limit", "1"])
+    any_branch("interval+affine", "00001004..00002000 any")
+    any_branch("affine+defuse", "any any")
     for base, (name, words, inputs, status, wanted) in closed.items():
         case(f"nothing_is_open_{name}", [*words, "--open"], inputs, 0, wanted)
         case(f"as_without_widen_{name}", [*words, "--widen", "4"], inputs, 0, wanted)
+        case(f"as_with_the_greatest_widen_{name}", [*words, "--widen", "64"], inputs, 0, wanted)
     name, words, inputs, status, wanted = next(iter(closed.values()))
     for number, more in enumerate((["--open=x"], ["--open", "x"], ["--open", "--open"], ["--widen", "0"], ["--widen", "65"], ["--widen", "064"], ["--widen", "4", "--widen", "5"])):
         case(f"no_words_of_an_open_analysis_{number}", [*words, *more], inputs, 2, ["| bad words"])
-    for command in ("check s c e t", "slice s c e t 1000 r[1] --base defuse", "claims s c e t k", "convert s c t", "emulate s c e", "list s c", "call s f"):
+    of_tables = ("check s c e t", "slice s c e t 1000 r[1] --base defuse", "claims s c e t k")
+    for command in (*of_tables, "convert s c t", "emulate s c e", "list s c", "call s f"):
         for option in (["--open"], ["--widen", "4"]):
-            case(f"{command.split()[0]}_takes_no_{option[0][2:]}", [*command.split(), *option], {}, 2, ["| bad words"])
+            if command in of_tables and option == ["--open"]:
+                case(f"{command.split()[0]}_takes_open", [*command.split(), *option], {}, 3, ["| cannot read s"])
+            else:
+                case(f"{command.split()[0]}_takes_no_{option[0][2:]}", [*command.split(), *option], {}, 2, ["| bad words"])
+    for command in of_tables:
+        for number, more in enumerate((["--open=x"], ["--open", "x"], ["--open", "--open"], ["--open", "--widen", "4"])):
+            case(f"no_words_of_an_open_{command.split()[0]}_{number}", [*command.split(), *more], {}, 2, ["| bad words"])
 
 
 main()

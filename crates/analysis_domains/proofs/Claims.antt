@@ -18,12 +18,11 @@ use Rattle.claim_text.specs.Answers.{answer_line, answers}
 use Rattle.claim_text.specs.Laws.{IsReadClaim}
 use Rattle.claim_text.specs.Reading.{has_word, read}
 use Rattle.claim_text.proofs.Fitting.{read_claims_fit}
-use Rattle.table_faults.specs.declared.table_error.TableError.{TableError}
-use Rattle.table_reader.specs.Tables.{IsErrorIn, IsTableIn}
+use Rattle.table_reader.specs.Tables.{IsTableIn}
 use Rattle.table_readings.specs.Readings.{AreAlike, AreAlikeAt}
-use Rattle.table_readings.proofs.Errors.{errors_are_one, tables_are_alike, tables_have_no_error, tables_or_errors}
+use Rattle.table_readings.proofs.Errors.{tables_are_alike}
 use Rattle.transfer_laws.specs.Problem.{IsWellPosed, Problem}
-use Rattle.run_steps.specs.Outcome.{Answer, Outcome, claims_refused, table_refused, text}
+use Rattle.run_steps.specs.Outcome.{Answer, Outcome, Refusal, claims_refused, text}
 use Rattle.analysis_domains.specs.Analyses.{analysis}
 use Rattle.analysis_domains.specs.Checks.{IsJudged}
 use Rattle.analysis_domains.specs.Claims.{Claims, HoldsClaims, IsTrueOfStates, judged, refused, unread}
@@ -31,10 +30,12 @@ use Rattle.analysis_domains.specs.Closed.{ByVerdict}
 use Rattle.analysis_domains.specs.Domains.{DomainOf}
 use Rattle.analysis_domains.specs.Laws.{ClaimsAreOne, ClaimsHaveSome, HasWordsOf}
 use Rattle.analysis_domains.specs.Named.{Claimed, ClaimsHold, domain_of}
+use Rattle.analysis_domains.specs.Refusals.{IsRefused}
 use Rattle.analysis_domains.proofs.Bases.{known, known_is_lawful}
 use Rattle.analysis_domains.proofs.Closed.{is_closed, verdicts_are_one, verdicts_have_some}
 use Rattle.analysis_domains.proofs.Lawful.{IsLawful}
 use Rattle.analysis_domains.proofs.Readings.{is_judged, one_verdict}
+use Rattle.analysis_domains.proofs.Refusals.{IsReadOrRefused, read_or_refused, refusals_are_one, tables_are_not_refused}
 use Rattle.analysis_domains.proofs.Telling.{told_alike}
 
 module _ {E W N C : Type 0} (domain : DomainOf E W N C) (p : Problem) (lawful : IsLawful domain p.spec) (posed : IsWellPosed p) (image : Image) (base bytes list : List ℕ) where
@@ -52,27 +53,26 @@ module _ {E W N C : Type 0} (domain : DomainOf E W N C) (p : Problem) (lawful : 
       let rest = alike_answers t u claims alike are.1 in
       ap (λ told. answer_line told ++ answers domain.telling t claims) first ∙ ap (λ (lines : List ℕ). answer_line (answer_of domain.telling u claim) ++ lines) rest
 
-  one_text : (t u : Listings E) (claims others : List Claim) → AreAlike domain.elements t u → read domain.telling (has_word image) p.spec list ≡ Ok claims → read domain.telling (has_word image) p.spec list ≡ Ok others
+  pub one_text : (t u : Listings E) (claims others : List Claim) → AreAlike domain.elements t u → read domain.telling (has_word image) p.spec list ≡ Ok claims → read domain.telling (has_word image) p.spec list ≡ Ok others
       → (found other : List ℕ) → found ≡ answers domain.telling t claims → other ≡ answers domain.telling u others → found ≡ other
   one_text t u claims others alike e f found other h k =
       let same : claims ≡ others = (let both : Ok claims ≡ Ok others = sym e ∙ f in cc) in
       h ∙ alike_answers t u claims alike (read_claims_fit domain.telling (has_word image) p.spec list claims e) ∙ ap (answers domain.telling u) same ∙ sym k
 
-  tables_alike : (t u : Listings E) → IsTableIn domain.Reads p.spec base image bytes t → IsTableIn domain.Reads p.spec base image bytes u → AreAlike domain.elements t u
-  tables_alike t u h k = tables_are_alike domain.Reads domain.elements p.spec lawful.reads base image bytes t u h k
+  tables_alike : (t u : Listings E) → IsTableIn domain.Reads domain.word_in p.spec base image bytes t → IsTableIn domain.Reads domain.word_in p.spec base image bytes u → AreAlike domain.elements t u
+  tables_alike t u h k = tables_are_alike domain.Reads domain.word_in domain.elements p.spec lawful.reads base image bytes t u h k
 
-  no_error : (t : Listings E) (error : TableError) → IsTableIn domain.Reads p.spec base image bytes t → IsErrorIn domain.Reads p.spec base image bytes error → ⊥
-  no_error t error is wrong = tables_have_no_error domain.Reads domain.elements p.spec lawful.reads base image bytes t error is wrong
+  not_refused : (t : Listings E) (x : Refusal) → IsTableIn domain.Reads domain.word_in p.spec base image bytes t → IsRefused domain p.spec image base bytes x → ⊥
+  not_refused t x is wrong = tables_are_not_refused domain p.spec lawful image base bytes t x is wrong
 
   pub claimed_one : (found other : Outcome) → Claims domain p image base bytes list found → Claims domain p image base bytes list other → found ≡ other
-  claimed_one found other (refused {error = e} h) (refused {error = f} k) =
-      ap (λ (x : TableError). Err (table_refused x)) (errors_are_one domain.Reads domain.elements p.spec lawful.reads base image bytes e f h k)
-  claimed_one found other (refused {error = e} h) (unread u k f) = absurd (no_error u e k h)
-  claimed_one found other (refused {error = e} h) (judged u claims k f by) = absurd (no_error u e k.is_table h)
-  claimed_one found other (unread t h e) (refused {error = f} k) = absurd (no_error t f h k)
+  claimed_one found other (refused {refusal = x} h) (refused {refusal = y} k) = ap (λ (z : Refusal). Err z) (refusals_are_one domain p.spec lawful image base bytes x y h k)
+  claimed_one found other (refused {refusal = x} h) (unread u k f) = absurd (not_refused u x k h)
+  claimed_one found other (refused {refusal = x} h) (judged u claims k f by) = absurd (not_refused u x k.is_table h)
+  claimed_one found other (unread t h e) (refused {refusal = y} k) = absurd (not_refused t y h k)
   claimed_one found other (unread {error = x} t h e) (unread {error = y} u k f) = let both : Err x ≡ Err y = sym e ∙ f in let same : x ≡ y = cc in ap (λ (z : ClaimError). Err (claims_refused z)) same
   claimed_one found other (unread t h e) (judged u claims k f by) = absurd (cc)
-  claimed_one found other (judged t claims h e by) (refused {error = f} k) = absurd (no_error t f h.is_table k)
+  claimed_one found other (judged t claims h e by) (refused {refusal = y} k) = absurd (not_refused t y h.is_table k)
   claimed_one found other (judged t claims h e by) (unread u k f) = absurd (cc)
   claimed_one found other (judged t claims h e by) (judged u others k f also) =
       verdicts_are_one domain.word_text (λ written. written ≡ answers domain.telling t claims) (λ written. written ≡ answers domain.telling u others)
@@ -86,13 +86,13 @@ module _ {E W N C : Type 0} (domain : DomainOf E W N C) (p : Problem) (lawful : 
       let found = verdicts_have_some domain.word_text (λ written. written ≡ answers domain.telling t claims) (verdict_of (analysis domain p) t) (λ closed. (answers domain.telling t claims, refl)) in
       (found.0, judged t claims is e found.1)
 
-  by_reading : HasWordsOf image p → ((t : Listings E) × IsTableIn domain.Reads p.spec base image bytes t) ⊎ ((error : TableError) × IsErrorIn domain.Reads p.spec base image bytes error)
+  by_reading : HasWordsOf image p → IsReadOrRefused domain p.spec lawful image base bytes
       → (found : Outcome) × Claims domain p image base bytes list found
   by_reading words (inl (t, is)) = by_claims t (is_judged domain p lawful posed image base bytes words t is) (read domain.telling (has_word image) p.spec list) refl
-  by_reading words (inr (e, is)) = (Err (table_refused e), refused is)
+  by_reading words (inr (x, is)) = (Err x, refused is)
 
   pub claimed_some : HasWordsOf image p → (found : Outcome) × Claims domain p image base bytes list found
-  claimed_some words = by_reading words (tables_or_errors domain.Reads domain.elements p.spec lawful.reads base image bytes)
+  claimed_some words = by_reading words (read_or_refused domain p.spec lawful image base bytes)
 
   -- ---- what they say of runs
   -- Where the outcome is an answer, what is answered yes holds.

@@ -9,7 +9,7 @@ use Rattle.fixed_point.proofs.Ending.{legal_traces_end}
 use Rattle.fixed_point.proofs.One.{legal_traces_are_one}
 use Rattle.fixed_point.proofs.Potential.{legal_traces_are_short}
 use Rattle.fixed_point.proofs.Tables.{full_traces_close, tables_are_one}
-use Rattle.open_tables.specs.Endings.{IsClosedButOpen, ending_at}
+use Rattle.open_tables.specs.Endings.{Endings, IsClosedButOpen, ending_at}
 use Rattle.open_tables.specs.Instance.{left_open_laws}
 use Rattle.open_tables.specs.LeftOpen.{ending_of, left_open, opened}
 use Rattle.open_tables.proofs.Soundness.{open_tables_are_sound}
@@ -88,15 +88,15 @@ module _ {E W N C : Type 0} (domain : DomainOf E W N C) (p : Problem) where
     open_laws : AnalysisLaws (left_open A)
     open_laws = left_open_laws A laws
 
-    endings_are_alike : (t u : Listings E) → TableFits A t → TableFits A u → AreAlike domain.elements t u → (a : ℕ) → open_endings domain p t a ≡ open_endings domain p u a
+    pub endings_are_alike : (t u : Listings E) → TableFits A t → TableFits A u → AreAlike domain.elements t u → (a : ℕ) → open_endings domain p t a ≡ open_endings domain p u a
     endings_are_alike t u fits others alike = ends_alike A laws t u fits others (alike_are_same A domain.elements (λ x y same. same) t u alike)
 
-    open_true : (t : Listings E) → TableFits A t → IsClosedButOpen A t (open_endings domain p t) → IsTrueUntilOpen domain.base domain.elements p t (open_endings domain p t)
-    open_true t fits closed =
+    pub open_true : (t : Listings E) (ends : Endings W) → TableFits A t → IsClosedButOpen A t ends → IsTrueUntilOpen domain.base domain.elements p t ends
+    open_true t ends fits closed =
         let analysed = is_analysed domain p lawful posed in
         let c = calls domain p lawful posed in
-        open_is_true domain.base lawful.laws domain.cap domain.elements domain.meaning p c analysed t (open_endings domain p t) closed
-        (open_tables_are_sound A (machine_of p) laws (transfers_are_sound domain.base lawful.laws domain.cap domain.elements domain.meaning p c analysed) t (open_endings domain p t) fits closed)
+        open_is_true domain.base lawful.laws domain.cap domain.elements domain.meaning p c analysed t ends closed
+        (open_tables_are_sound A (machine_of p) laws (transfers_are_sound domain.base lawful.laws domain.cap domain.elements domain.meaning p c analysed) t ends fits closed)
 
     module _ (image : Image) (base : List ℕ) where
       -- ---- two are alike
@@ -145,7 +145,7 @@ module _ {E W N C : Type 0} (domain : DomainOf E W N C) (p : Problem) where
               is_table = is;
               fits = fits;
               endings = λ a. refl;
-              is_true = open_true table fits (record { closed = closed; endings = λ a. refl });
+              is_true = open_true table ends fits (record { closed = closed; endings = λ a. refl });
               text = written.1;
             },
           )

@@ -28,16 +28,15 @@ module _ {E W N C : Type 0} (domain : DomainOf E W N C) (p : Problem) where
   refusal_of at (f.too_many x uses) = o.too_many_targets at (domain.word_text 32 x)
   refusal_of at (f.moves targets post uses) = o.calls_spent
 
-  record IsStopAt (refusal : Refusal) : Type 0 where
+  pub record IsStopAt (refusal : Refusal) : Type 0 where
     pub trace : List ℕ
     pub at : ℕ
     pub given : f.Outcome E W
     pub stop : IsStopOf (analysis domain p) trace at given
     pub is : refusal ≡ refusal_of at given
 
-  stop_at : (refusal : Refusal) → IsStop domain p refusal → IsStopAt refusal
+  pub stop_at : (refusal : Refusal) → IsStop domain p refusal → IsStopAt refusal
   stop_at o.bad_words h = absurd h
-  stop_at o.not_built h = absurd h
   stop_at (o.cannot_read name) h = absurd h
   stop_at (o.too_long name) h = absurd h
   stop_at (o.spec_refused fault) h = absurd h
@@ -49,6 +48,13 @@ module _ {E W N C : Type 0} (domain : DomainOf E W N C) (p : Problem) where
   stop_at (o.claims_refused fault) h = absurd h
   stop_at (o.rejected rejection) h = absurd h
   stop_at (o.too_many_targets at shown) h = record { trace = h.0; at = at; given = f.too_many h.1 h.2; stop = h.4; is = ap (o.too_many_targets at) h.5 }
+
+  pub stops_are_one : (refusal other : Refusal) → IsStopAt refusal → IsStopAt other → refusal ≡ other
+  stops_are_one refusal other h k =
+      let A = analysis domain p in
+      let same : h.trace ≡ k.trace = legal_traces_are_one A h.trace k.trace h.stop.0 (inr (h.at, h.given, h.stop.1)) k.stop.0 (inr (k.at, k.given, k.stop.1)) in
+      let one = one_stop A (play A h.trace) h.at k.at h.given k.given h.stop.1 (subst (λ trace. IsStopped A (play A trace) k.at k.given) (sym same) k.stop.1) in
+      h.is ∙ ap (λ at. refusal_of at h.given) one.0 ∙ ap (refusal_of k.at) one.1 ∙ sym k.is
 
   module _ (image : Image) (base : List ℕ) where
     -- It is a text of the table, or the refusal of a stop.
@@ -62,13 +68,6 @@ module _ {E W N C : Type 0} (domain : DomainOf E W N C) (p : Problem) where
     outcome_is (Err refusal) h = inr (refusal, refl, stop_at refusal h)
 
     -- ---- two are alike
-    stops_are_one : (refusal other : Refusal) → IsStopAt refusal → IsStopAt other → refusal ≡ other
-    stops_are_one refusal other h k =
-        let A = analysis domain p in
-        let same : h.trace ≡ k.trace = legal_traces_are_one A h.trace k.trace h.stop.0 (inr (h.at, h.given, h.stop.1)) k.stop.0 (inr (k.at, k.given, k.stop.1)) in
-        let one = one_stop A (play A h.trace) h.at k.at h.given k.given h.stop.1 (subst (λ trace. IsStopped A (play A trace) k.at k.given) (sym same) k.stop.1) in
-        h.is ∙ ap (λ at. refusal_of at h.given) one.0 ∙ ap (refusal_of k.at) one.1 ∙ sym k.is
-
     tables_do_not_stop : (bytes : List ℕ) (refusal : Refusal) → IsTable domain p image base bytes → IsStopAt refusal → ⊥
     tables_do_not_stop bytes refusal h k =
         let A = analysis domain p in

@@ -18,12 +18,10 @@ use Rattle.slice_laws.proofs.Slices.{slices_hold_chains}
 use Rattle.slice_laws.proofs.There.{slices_are_there}
 use Rattle.slice_text.specs.declared.asked.Asked.{Asked}
 use Rattle.slice_text.specs.Writing.{slice_text}
-use Rattle.table_faults.specs.declared.table_error.TableError.{TableError}
-use Rattle.table_reader.specs.Tables.{IsErrorIn, IsTableIn}
 use Rattle.table_readings.specs.Readings.{AreAlike, AreAlikeAt}
-use Rattle.table_readings.proofs.Errors.{errors_are_one, tables_are_alike, tables_have_no_error, tables_or_errors}
+use Rattle.table_readings.proofs.Errors.{tables_are_alike}
 use Rattle.transfer_laws.specs.Problem.{IsWellPosed, Problem}
-use Rattle.run_steps.specs.Outcome.{Answer, Outcome, table_refused, text}
+use Rattle.run_steps.specs.Outcome.{Answer, Outcome, Refusal, text}
 use Rattle.analysis_domains.specs.Analyses.{analysis}
 use Rattle.analysis_domains.specs.Checks.{IsJudged}
 use Rattle.analysis_domains.specs.Closed.{ByVerdict}
@@ -35,6 +33,7 @@ use Rattle.analysis_domains.proofs.Bases.{known, known_is_lawful}
 use Rattle.analysis_domains.proofs.Closed.{is_closed, verdicts_are_one, verdicts_have_some}
 use Rattle.analysis_domains.proofs.Lawful.{IsLawful}
 use Rattle.analysis_domains.proofs.Readings.{is_judged, one_verdict}
+use Rattle.analysis_domains.proofs.Refusals.{IsReadOrRefused, read_or_refused, refusals_are_one, tables_are_not_refused}
 
 module _ {E W N C : Type 0} (domain : DomainOf E W N C) (p : Problem) (image : Image) (base bytes : List ℕ) (at : ℕ) (asked : Asked) where
   module _ (lawful : IsLawful domain p.spec) (posed : IsWellPosed p) where
@@ -45,7 +44,7 @@ module _ {E W N C : Type 0} (domain : DomainOf E W N C) (p : Problem) (image : I
     alike_uses (Some b) None alike = absurd alike
     alike_uses (Some b) (Some c) alike = alike.uses
 
-    one_text : (t u : Listings E) → AreAlike domain.elements t u → (found other : List ℕ) → IsSliceText p.spec t at asked found → IsSliceText p.spec u at asked other → found ≡ other
+    pub one_text : (t u : Listings E) → AreAlike domain.elements t u → (found other : List ℕ) → IsSliceText p.spec t at asked found → IsSliceText p.spec u at asked other → found ≡ other
     one_text t u alike found other h k =
         let same : listed_uses t ≡ listed_uses u = λ i a. alike_uses (t a) (u a) (alike a) i in
         let slice = subst (λ uses. IsSliceFrom uses (asked_uses uses at asked.map asked.key) h.told h.addresses) same h.slice in
@@ -53,13 +52,12 @@ module _ {E W N C : Type 0} (domain : DomainOf E W N C) (p : Problem) (image : I
         h.written ∙ ap (λ told. slice_text p.spec at asked told h.addresses) one.0 ∙ ap (slice_text p.spec at asked k.told) one.1 ∙ sym k.written
 
     pub sliced_one : (found other : Outcome) → Slices domain p image base bytes at asked found → Slices domain p image base bytes at asked other → found ≡ other
-    sliced_one found other (refused {error = e} h) (refused {error = f} k) =
-        ap (λ (x : TableError). Err (table_refused x)) (errors_are_one domain.Reads domain.elements p.spec lawful.reads base image bytes e f h k)
-    sliced_one found other (refused {error = e} h) (judged u k by) = absurd (tables_have_no_error domain.Reads domain.elements p.spec lawful.reads base image bytes u e k.is_table h)
-    sliced_one found other (judged t h by) (refused {error = f} k) = absurd (tables_have_no_error domain.Reads domain.elements p.spec lawful.reads base image bytes t f h.is_table k)
+    sliced_one found other (refused {refusal = x} h) (refused {refusal = y} k) = ap (λ (z : Refusal). Err z) (refusals_are_one domain p.spec lawful image base bytes x y h k)
+    sliced_one found other (refused {refusal = x} h) (judged u k by) = absurd (tables_are_not_refused domain p.spec lawful image base bytes u x k.is_table h)
+    sliced_one found other (judged t h by) (refused {refusal = y} k) = absurd (tables_are_not_refused domain p.spec lawful image base bytes t y h.is_table k)
     sliced_one found other (judged t h by) (judged u k also) =
         verdicts_are_one domain.word_text (IsSliceText p.spec t at asked) (IsSliceText p.spec u at asked)
-        (one_text t u (tables_are_alike domain.Reads domain.elements p.spec lawful.reads base image bytes t u h.is_table k.is_table))
+        (one_text t u (tables_are_alike domain.Reads domain.word_in domain.elements p.spec lawful.reads base image bytes t u h.is_table k.is_table))
         (verdict_of (analysis domain p) t) (verdict_of (analysis domain p) u) found other (one_verdict domain p lawful posed image base bytes t u h k) by also
 
     -- ---- there is one
@@ -70,21 +68,21 @@ module _ {E W N C : Type 0} (domain : DomainOf E W N C) (p : Problem) (image : I
         by_block None e h = cc
         by_block (Some block) e h = code_among p.addresses a (fits a block e).0
 
-    has_text : (t : Listings E) → TableFits (analysis domain p) t → (found : List ℕ) × IsSliceText p.spec t at asked found
+    pub has_text : (t : Listings E) → TableFits (analysis domain p) t → (found : List ℕ) × IsSliceText p.spec t at asked found
     has_text t fits =
         let found = slices_are_there (listed_uses t) (asked_uses (listed_uses t) at asked.map asked.key) p.addresses (listed_code t fits) in
         (slice_text p.spec at asked found.0 found.1, record { told = found.0; addresses = found.1; slice = found.2; written = refl })
 
-    by_reading : HasWordsOf image p → ((t : Listings E) × IsTableIn domain.Reads p.spec base image bytes t) ⊎ ((error : TableError) × IsErrorIn domain.Reads p.spec base image bytes error)
+    by_reading : HasWordsOf image p → IsReadOrRefused domain p.spec lawful image base bytes
         → (found : Outcome) × Slices domain p image base bytes at asked found
     by_reading words (inl (t, is)) =
         let own = is_judged domain p lawful posed image base bytes words t is in
         let found = verdicts_have_some domain.word_text (IsSliceText p.spec t at asked) (verdict_of (analysis domain p) t) (λ closed. has_text t own.fits) in
         (found.0, judged t own found.1)
-    by_reading words (inr (e, is)) = (Err (table_refused e), refused is)
+    by_reading words (inr (x, is)) = (Err x, refused is)
 
     pub sliced_some : HasWordsOf image p → (found : Outcome) × Slices domain p image base bytes at asked found
-    sliced_some words = by_reading words (tables_or_errors domain.Reads domain.elements p.spec lawful.reads base image bytes)
+    sliced_some words = by_reading words (read_or_refused domain p.spec lawful image base bytes)
 
   -- ---- what it says of runs
   -- Where the outcome is an answer, it is a slice that holds chains.
@@ -122,7 +120,7 @@ module _ {E W N C : Type 0} (domain : DomainOf E W N C) (p : Problem) (image : I
 
 -- ---- over each base
 
-stamped_is : (t : StateType) (base : BaseName) → IsTrue (is_stamped base) → IsTrue (domain_of t base).domain.base.notes.stamped
+pub stamped_is : (t : StateType) (base : BaseName) → IsTrue (is_stamped base) → IsTrue (domain_of t base).domain.base.notes.stamped
 stamped_is t b.Const h = cc
 stamped_is t b.KSet h = cc
 stamped_is t b.Interval h = cc

@@ -4,6 +4,7 @@ use Rattle.std.specs.Prelude.{Ok, Err}
 use Rattle.command_words.specs.declared.bases.BaseName.{BaseName}
 use Rattle.command_words.specs.Bases.{base_text}
 use Rattle.insn_decode.specs.Image.{Image}
+use Rattle.spec_types.specs.Specification.{Spec}
 use Rattle.domain_laws.specs.States.{state_type}
 use Rattle.fixed_point.specs.declared.verdict.Verdict.{Verdict}
 use Rattle.fixed_point.specs.declared.verdict.Verdict.TheVariants as v
@@ -20,9 +21,16 @@ use Rattle.analysis_domains.specs.Conversions as conversions
 use Rattle.analysis_domains.specs.Conversions.{Rewrites}
 use Rattle.analysis_domains.specs.Domains.{DomainOf}
 use Rattle.analysis_domains.specs.Named.{Accepted, Checked, Done, domain_of}
+use Rattle.analysis_domains.specs.OpenChecks as of_open_checks
+use Rattle.analysis_domains.specs.OpenChecks.{JudgesOpen}
+use Rattle.analysis_domains.specs.OpenClaims as of_open_claims
+use Rattle.analysis_domains.specs.OpenClaims.{ClaimsOpen}
+use Rattle.analysis_domains.specs.OpenSlices as of_open_slices
+use Rattle.analysis_domains.specs.OpenSlices.{SlicesOpen}
+use Rattle.analysis_domains.specs.Refusals.{IsRefused, faulty, left_open}
 use Rattle.analysis_domains.specs.Slices as of_slices
 use Rattle.analysis_domains.specs.Slices.{Slices}
-use Rattle.analysis_domains.specs.Tasks.{Comes, Task, analyse, analyse_open, check, claims, convert, slice, spec_of}
+use Rattle.analysis_domains.specs.Tasks.{Comes, Task, analyse, analyse_open, check, check_open, claims, claims_open, convert, measure, slice, slice_open, spec_of}
 use Rattle.slice_text.specs.declared.asked.Asked.{Asked}
 
 -- ---- what may be refused
@@ -57,9 +65,13 @@ module _ {E W N C : Type 0} (domain : DomainOf E W N C) where
   stops_may p (too_many_targets at shown) is = tt
   stops_may p _ is = absurd is
 
+  refused_may : (spec : Spec) (image : Image) (base bytes : List ℕ) (x : Refusal) → IsRefused domain spec image base bytes x → MayStop x
+  refused_may spec image base bytes x (faulty is) = tt
+  refused_may spec image base bytes x (left_open table ends is first) = tt
+
   judged_may : (p : Problem) (image : Image) (base bytes : List ℕ) (found : Outcome) → Judges domain p image base bytes found → MayBe found
   unfolding MayBe
-  judged_may p image base bytes found (refused is) = tt
+  judged_may p image base bytes found (refused {refusal = x} is) = refused_may p.spec image base bytes x is
   judged_may p image base bytes found (judged table is) = verdict_may (verdict_of (analysis domain p) table)
 
   answers_may : (Is : List ℕ → Type 0) (found : Outcome) → Answers Is found → MayBe found
@@ -78,23 +90,44 @@ module _ {E W N C : Type 0} (domain : DomainOf E W N C) where
 
   sliced_may : (p : Problem) (image : Image) (base bytes : List ℕ) (at : ℕ) (asked : Asked) (found : Outcome) → Slices domain p image base bytes at asked found → MayBe found
   unfolding MayBe
-  sliced_may p image base bytes at asked found (of_slices.refused is) = tt
+  sliced_may p image base bytes at asked found (of_slices.refused {refusal = x} is) = refused_may p.spec image base bytes x is
   sliced_may p image base bytes at asked found (of_slices.judged table is by) = by_verdict_may _ (verdict_of (analysis domain p) table) found by
 
   claimed_may : (p : Problem) (image : Image) (base bytes list : List ℕ) (found : Outcome) → Claims domain p image base bytes list found → MayBe found
   unfolding MayBe
-  claimed_may p image base bytes list found (of_claims.refused is) = tt
+  claimed_may p image base bytes list found (of_claims.refused {refusal = x} is) = refused_may p.spec image base bytes x is
   claimed_may p image base bytes list found (of_claims.unread table is e) = tt
   claimed_may p image base bytes list found (of_claims.judged table all is e by) = by_verdict_may _ (verdict_of (analysis domain p) table) found by
+
+  -- where blocks may be left open
+  open_judged_may : (p : Problem) (image : Image) (base bytes : List ℕ) (found : Outcome) → JudgesOpen domain p image base bytes found → MayBe found
+  unfolding MayBe
+  open_judged_may p image base bytes found (of_open_checks.refused is) = tt
+  open_judged_may p image base bytes found (of_open_checks.judged table ends x is) = verdict_may x
+
+  open_sliced_may : (p : Problem) (image : Image) (base bytes : List ℕ) (at : ℕ) (asked : Asked) (found : Outcome) → SlicesOpen domain p image base bytes at asked found → MayBe found
+  unfolding MayBe
+  open_sliced_may p image base bytes at asked found (of_open_slices.refused is) = tt
+  open_sliced_may p image base bytes at asked found (of_open_slices.judged table ends x is by) = by_verdict_may _ x found by
+
+  open_claimed_may : (p : Problem) (image : Image) (base bytes list : List ℕ) (found : Outcome) → ClaimsOpen domain p image base bytes list found → MayBe found
+  unfolding MayBe
+  open_claimed_may p image base bytes list found (of_open_claims.refused is) = tt
+  open_claimed_may p image base bytes list found (of_open_claims.unread table ends is e) = tt
+  open_claimed_may p image base bytes list found (of_open_claims.judged table ends x all is e by) = by_verdict_may _ x found by
 
   done_may : (image : Image) (base : List ℕ) (task : Task) (refusal : Refusal) → Comes domain image base task (Err refusal) → MayStop refusal
   unfolding MayBe
   done_may image base (analyse p) refusal is = stops_may p refusal is
   done_may image base (analyse_open p) refusal is = absurd is
+  done_may image base (measure p) refusal is = stops_may p refusal is
   done_may image base (check p bytes) refusal is = judged_may p image base bytes (Err refusal) is
+  done_may image base (check_open p bytes) refusal is = open_judged_may p image base bytes (Err refusal) is
   done_may image base (convert spec bytes) refusal (conversions.refused is) = tt
   done_may image base (slice p bytes at asked) refusal is = sliced_may p image base bytes at asked (Err refusal) is
+  done_may image base (slice_open p bytes at asked) refusal is = open_sliced_may p image base bytes at asked (Err refusal) is
   done_may image base (claims p bytes list) refusal is = claimed_may p image base bytes list (Err refusal) is
+  done_may image base (claims_open p bytes list) refusal is = open_claimed_may p image base bytes list (Err refusal) is
 
 pub may_stop : (image : Image) (task : Task) (base : BaseName) (refusal : Refusal) → Done image task base (Err refusal) → MayStop refusal
 may_stop image task base refusal is = done_may (domain_of (state_type (spec_of task)) base).domain image (base_text base) task refusal is

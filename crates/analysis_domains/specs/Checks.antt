@@ -5,14 +5,14 @@ use Rattle.fixed_point.specs.Table.{Listings, TableFits}
 use Rattle.fixed_point.specs.Verdicts.{verdict_of}
 use Rattle.fixed_point.specs.declared.verdict.Verdict.{Verdict}
 use Rattle.fixed_point.specs.declared.verdict.Verdict.TheVariants as v
-use Rattle.table_faults.specs.declared.table_error.TableError.{TableError}
-use Rattle.table_reader.specs.Tables.{IsErrorIn, IsTableIn}
+use Rattle.table_reader.specs.Tables.{IsTableIn}
 use Rattle.transfer_laws.specs.Problem.{Problem}
 use Rattle.transfer_laws.specs.Runs.{IsTrueOfRuns}
-use Rattle.run_steps.specs.Outcome.{Outcome, rejected, table_refused, text, too_many_targets, undecodable_at}
+use Rattle.run_steps.specs.Outcome.{Outcome, Refusal, rejected, text, too_many_targets, undecodable_at}
 use Rattle.run_steps.specs.declared.rejection.Rejection.TheVariants as r
 use Rattle.analysis_domains.specs.Analyses.{analysis}
 use Rattle.analysis_domains.specs.Domains.{DomainOf}
+use Rattle.analysis_domains.specs.Refusals.{IsRefused}
 
 -- what is answered for a table that is closed
 abbrev pub accepted_line : List ℕ
@@ -33,19 +33,19 @@ module _ {E W N C : Type 0} (domain : DomainOf E W N C) (p : Problem) where
   -- machine from every state that the entry describes, as a table of an analysis is. That follows from the rest, where the domain keeps the laws
   -- and the problem is well posed. It stands here so that what is owed carries it. The image is the problem's.
   pub record IsJudged (image : Image) (base bytes : List ℕ) (table : Listings E) : Type 0 where
-    pub is_table : IsTableIn domain.Reads p.spec base image bytes table
+    pub is_table : IsTableIn domain.Reads domain.word_in p.spec base image bytes table
     pub fits : TableFits (analysis domain p) table
     pub is_true : verdict_of (analysis domain p) table ≡ v.Accepted → IsTrueOfRuns domain.base domain.elements p table
 
   -- The text is that of a table which is accepted: it is closed, and true of the runs of the machine from every state that the entry describes.
   pub record IsAccepted (image : Image) (base bytes : List ℕ) : Type 0 where
     pub table : Listings E
-    pub is_table : IsTableIn domain.Reads p.spec base image bytes table
+    pub is_table : IsTableIn domain.Reads domain.word_in p.spec base image bytes table
     pub fits : TableFits (analysis domain p) table
     pub closed : verdict_of (analysis domain p) table ≡ v.Accepted
     pub is_true : IsTrueOfRuns domain.base domain.elements p table
 
-  -- The outcome of the check of a text: its first fault, or the verdict on the table that it is.
+  -- The outcome of the check of a text: its first fault or its first block that is left open, or the verdict on the table that it is.
   pub data Judges (image : Image) (base bytes : List ℕ) : Outcome → Type 0 where
-    refused : {error : TableError} → IsErrorIn domain.Reads p.spec base image bytes error → Judges image base bytes (Err (table_refused error))
+    refused : {refusal : Refusal} → IsRefused domain p.spec image base bytes refusal → Judges image base bytes (Err refusal)
     judged : (table : Listings E) → IsJudged image base bytes table → Judges image base bytes (outcome_of domain.word_text (verdict_of (analysis domain p) table))

@@ -6,8 +6,7 @@ use Rattle.meaning.specs.Runs as r
 use Rattle.insn_decode.specs.Image.{Image}
 use Rattle.fixed_point.specs.Table.{Listings}
 use Rattle.fixed_point.specs.Verdicts.{verdict_of}
-use Rattle.table_faults.specs.declared.table_error.TableError.{TableError}
-use Rattle.table_reader.specs.Tables.{IsErrorIn, IsTableIn}
+use Rattle.table_reader.specs.Tables.{IsTableIn}
 use Rattle.transfer_laws.specs.Problem.{Problem}
 use Rattle.transfer_laws.specs.Runs.{Begins, run_of}
 use Rattle.claim_faults.specs.declared.claim_error.ClaimError.{ClaimError}
@@ -15,11 +14,12 @@ use Rattle.claim_laws.specs.Answers.{answer}
 use Rattle.claim_laws.specs.Claims.{Claim, IsTrueOf, address_of}
 use Rattle.claim_text.specs.Answers.{answers}
 use Rattle.claim_text.specs.Reading.{has_word, read}
-use Rattle.run_steps.specs.Outcome.{Outcome, claims_refused, table_refused}
+use Rattle.run_steps.specs.Outcome.{Outcome, Refusal, claims_refused}
 use Rattle.analysis_domains.specs.Analyses.{analysis}
 use Rattle.analysis_domains.specs.Checks.{IsAccepted, IsJudged}
 use Rattle.analysis_domains.specs.Closed.{ByVerdict}
 use Rattle.analysis_domains.specs.Domains.{DomainOf}
+use Rattle.analysis_domains.specs.Refusals.{IsRefused}
 
 -- The claim is true of every state that the runs of a problem have at its address: from every state that the entry describes, after any number of
 -- steps, under every bound on turns.
@@ -27,11 +27,11 @@ abbrev pub IsTrueOfStates : Problem → Claim → Type 0
 IsTrueOfStates p claim = (d n : ℕ) (first : State) → Begins p first → (run_of p d n first).stop ≡ r.Stop.bound → (run_of p d n first).state.pc ≡ address_of claim → IsTrueOf (run_of p d n first).state claim
 
 module _ {E W N C : Type 0} (domain : DomainOf E W N C) (p : Problem) where
-  -- The outcome for the texts of a table and of claims: the first fault of the table, or else the first of the claims; where the table is not closed, what
+  -- The outcome for the texts of a table and of claims: the first fault of the table or its first block that is left open, or else the first of the claims; where the table is not closed, what
   -- its check comes to; else a line for each claim.
   pub data Claims (image : Image) (base bytes list : List ℕ) : Outcome → Type 0 where
-    refused : {error : TableError} → IsErrorIn domain.Reads p.spec base image bytes error → Claims image base bytes list (Err (table_refused error))
-    unread : {error : ClaimError} (table : Listings E) → IsTableIn domain.Reads p.spec base image bytes table → read domain.telling (has_word image) p.spec list ≡ Err error
+    refused : {refusal : Refusal} → IsRefused domain p.spec image base bytes refusal → Claims image base bytes list (Err refusal)
+    unread : {error : ClaimError} (table : Listings E) → IsTableIn domain.Reads domain.word_in p.spec base image bytes table → read domain.telling (has_word image) p.spec list ≡ Err error
         → Claims image base bytes list (Err (claims_refused error))
     judged : {outcome : Outcome} (table : Listings E) (claims : List Claim) → IsJudged domain p image base bytes table → read domain.telling (has_word image) p.spec list ≡ Ok claims
         → ByVerdict domain.word_text (λ text. text ≡ answers domain.telling table claims) (verdict_of (analysis domain p) table) outcome → Claims image base bytes list outcome

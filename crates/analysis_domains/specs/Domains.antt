@@ -28,6 +28,7 @@ use Rattle.base_text.specs.Texts.{Texts, bits_texts, defuse_texts, interval_text
 use Rattle.base_text.specs.Words.{affine_text, pair_text}
 use Rattle.element_text.specs.Parts.{AffineText, CellsText, ElementText, PairText}
 use Rattle.element_readers.specs.Reading.{AffineRead, CellsRead, ElementReading, PairRead}
+use Rattle.element_readers.specs.Words.{WordReading, affine_word, cells_word, pair_word}
 use Rattle.claim_laws.specs.Affine.{affine_tell}
 use Rattle.claim_laws.specs.Answers.{Telling}
 use Rattle.claim_laws.specs.Cells.{cells_tell}
@@ -41,9 +42,10 @@ pub record DomainOf (E W N C : Type 0) : Type 1 where
   -- its elements, and the calls on them
   pub elements : Elements E State
   pub meaning : Meaning E W N C
-  -- the texts of elements, what is read of lines, and the texts of words of so many bits
+  -- the texts of elements, what is read of lines, what is read of a text as a word of 32 bits, and the texts of words of so many bits
   pub IsText : ElementText E
   pub Reads : ElementReading E
+  pub word_in : WordReading W
   pub word_text : ℕ → W → List ℕ
   -- what elements tell of claims
   pub telling : Telling E
@@ -57,6 +59,7 @@ pair_of first second = record {
   meaning = pair_meaning first.base second.base (max first.cap second.cap) first.meaning second.meaning;
   IsText = PairText first.IsText second.IsText;
   Reads = PairRead first.Reads second.Reads;
+  word_in = pair_word first.word_in second.word_in;
   word_text = pair_text first.word_text second.word_text;
   telling = pairs_tell first.telling second.telling;
 }
@@ -71,6 +74,7 @@ module _ (t : StateType) where
     meaning = cell_calls base c cap t;
     IsText = CellsText name texts;
     Reads = CellsRead readings cap name;
+    word_in = cells_word readings;
     word_text = texts.word;
     telling = cells_tell base c;
   }
@@ -98,6 +102,7 @@ module _ (t : StateType) where
     meaning = affine_calls t;
     IsText = AffineText;
     Reads = AffineRead (cell_count t);
+    word_in = affine_word (cell_count t);
     word_text = affine_text;
     telling = affine_tell t;
   }

@@ -21,7 +21,7 @@ use Rattle.table_readings.specs.Readings.{AreAlike}
 use Rattle.transfer_laws.specs.Problem.{IsWellPosed, Problem}
 use Rattle.slice_text.specs.declared.asked.Asked.{Asked}
 use Rattle.run_steps.specs.Outcome.{Outcome, text}
-use Rattle.analysis_domains.specs.Named.{Analysed, AnalysedOpen, Checked, Claimed, Converted, Sliced, domain_of, has_relations, relations_in}
+use Rattle.analysis_domains.specs.Named.{Analysed, AnalysedOpen, Checked, CheckedOpen, Claimed, ClaimedOpen, Converted, Measured, Sliced, SlicedOpen, domain_of, has_relations, relations_in}
 
 -- Both are texts of one table of a specification's states and a code over a base, whose elements may have several texts: they list the same, up to
 -- how elements are written. Of one that is left open the blocks end alike, too.
@@ -62,6 +62,14 @@ OpenAnalysesHaveSome = (image : Image) (p : Problem) (base : BaseName) → IsWel
 abbrev pub ClosedAnalysesAreOpen : Type 0
 ClosedAnalysesAreOpen = (image : Image) (p : Problem) (base : BaseName) (bytes : List ℕ) → Analysed image p base (Ok (text bytes)) → AnalysedOpen image p base (Ok (text bytes))
 
+-- What is measured of an analysis has one outcome at most, over relations too,
+abbrev pub MeasuresAreOne : Type 0
+MeasuresAreOne = (image : Image) (p : Problem) (base : BaseName) (found other : Outcome) → IsWellPosed p → Measured image p base found → Measured image p base other → found ≡ other
+
+-- and at least one.
+abbrev pub MeasuresHaveSome : Type 0
+MeasuresHaveSome = (image : Image) (p : Problem) (base : BaseName) → IsWellPosed p → (found : Outcome) × Measured image p base found
+
 -- ---- checks and conversions
 
 -- The code words of an image are those of a problem.
@@ -101,6 +109,33 @@ ClaimsAreOne = (image : Image) (p : Problem) (base : BaseName) (bytes list : Lis
 -- and at least one.
 abbrev pub ClaimsHaveSome : Type 0
 ClaimsHaveSome = (image : Image) (p : Problem) (base : BaseName) (bytes list : List ℕ) → IsWellPosed p → HasWordsOf image p → (found : Outcome) × Claimed image p base bytes list found
+
+-- ---- the same, where blocks may be left open
+
+-- The check of a text has one outcome at most, and at least one.
+abbrev pub OpenChecksAreOne : Type 0
+OpenChecksAreOne = (image : Image) (p : Problem) (base : BaseName) (bytes : List ℕ) (found other : Outcome) → IsWellPosed p → CheckedOpen image p base bytes found → CheckedOpen image p base bytes other → found ≡ other
+
+abbrev pub OpenChecksHaveSome : Type 0
+OpenChecksHaveSome = (image : Image) (p : Problem) (base : BaseName) (bytes : List ℕ) → IsWellPosed p → HasWordsOf image p → (found : Outcome) × CheckedOpen image p base bytes found
+
+-- So it is of its slice,
+abbrev pub OpenSlicesAreOne : Type 0
+OpenSlicesAreOne = (image : Image) (p : Problem) (base : BaseName) (bytes : List ℕ) (at : ℕ) (asked : Asked) (found other : Outcome) → IsWellPosed p → SlicedOpen image p base bytes at asked found → SlicedOpen image p base bytes at asked other → found ≡ other
+
+abbrev pub OpenSlicesHaveSome : Type 0
+OpenSlicesHaveSome = (image : Image) (p : Problem) (base : BaseName) (bytes : List ℕ) (at : ℕ) (asked : Asked) → IsWellPosed p → HasWordsOf image p → (found : Outcome) × SlicedOpen image p base bytes at asked found
+
+-- and of claims.
+abbrev pub OpenClaimsAreOne : Type 0
+OpenClaimsAreOne = (image : Image) (p : Problem) (base : BaseName) (bytes list : List ℕ) (found other : Outcome) → IsWellPosed p → ClaimedOpen image p base bytes list found → ClaimedOpen image p base bytes list other → found ≡ other
+
+abbrev pub OpenClaimsHaveSome : Type 0
+OpenClaimsHaveSome = (image : Image) (p : Problem) (base : BaseName) (bytes list : List ℕ) → IsWellPosed p → HasWordsOf image p → (found : Outcome) × ClaimedOpen image p base bytes list found
+
+-- A text that a check accepts is accepted where blocks may be left open, too: none is.
+abbrev pub ClosedChecksAreOpen : Type 0
+ClosedChecksAreOpen = (image : Image) (p : Problem) (base : BaseName) (bytes accepted : List ℕ) → IsWellPosed p → Checked image p base bytes (Ok (text accepted)) → CheckedOpen image p base bytes (Ok (text accepted))
 
 -- Where affine relations describe some numbers of the tracked cells, a sum is told exactly where it is 0 for all numbers that they describe.
 abbrev pub SumsAreExact : Type 0

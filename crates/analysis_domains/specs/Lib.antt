@@ -6,8 +6,14 @@ pub mod Conversions
 pub mod Domains
 pub mod Instance
 pub mod Laws
+pub mod Measures
 pub mod Named
 pub mod OpenAnalyses
+pub mod OpenChecks
+pub mod OpenClaims
+pub mod OpenSlices
+pub mod Refusals
 pub mod Slices
 pub mod Tasks
+pub mod Until
 pub mod Work

@@ -12,8 +12,11 @@ use Rattle.run_steps.specs.Outcome.{Outcome}
 use Rattle.slice_text.specs.declared.asked.Asked.{Asked}
 use Rattle.analysis_domains.specs.Checks.{IsAccepted}
 use Rattle.analysis_domains.specs.Claims.{HoldsClaims}
+use Rattle.analysis_domains.specs.OpenChecks.{IsOpenAccepted}
+use Rattle.analysis_domains.specs.OpenClaims.{HoldsOpenClaims}
+use Rattle.analysis_domains.specs.OpenSlices.{HoldsOpenChains}
 use Rattle.analysis_domains.specs.Slices.{HoldsChains}
-use Rattle.analysis_domains.specs.Tasks.{Comes, Task, analyse, analyse_open, check, claims, convert, slice, spec_of}
+use Rattle.analysis_domains.specs.Tasks.{Comes, Task, analyse, analyse_open, check, check_open, claims, claims_open, convert, measure, slice, slice_open, spec_of}
 use Rattle.analysis_domains.specs.Domains.{DomainOf, definitions, intervals, known_bits, pair_of, relations, sets}
 
 -- A domain, with the types of its elements, words, notes and contexts.
@@ -58,6 +61,10 @@ Analysed image p base = Done image (analyse p) base
 abbrev pub AnalysedOpen : Image → Problem → BaseName → Outcome → Type 0
 AnalysedOpen image p base = Done image (analyse_open p) base
 
+-- what is measured of it,
+abbrev pub Measured : Image → Problem → BaseName → Outcome → Type 0
+Measured image p base = Done image (measure p) base
+
 -- that of the check of a text,
 abbrev pub Checked : Image → Problem → BaseName → List ℕ → Outcome → Type 0
 Checked image p base bytes = Done image (check p bytes) base
@@ -74,6 +81,18 @@ Sliced image p base bytes at asked = Done image (slice p bytes at asked) base
 abbrev pub Claimed : Image → Problem → BaseName → List ℕ → List ℕ → Outcome → Type 0
 Claimed image p base bytes list = Done image (claims p bytes list) base
 
+-- Those of the same, where blocks may be left open: of the check of a text,
+abbrev pub CheckedOpen : Image → Problem → BaseName → List ℕ → Outcome → Type 0
+CheckedOpen image p base bytes = Done image (check_open p bytes) base
+
+-- of its slice,
+abbrev pub SlicedOpen : Image → Problem → BaseName → List ℕ → ℕ → Asked → Outcome → Type 0
+SlicedOpen image p base bytes at asked = Done image (slice_open p bytes at asked) base
+
+-- and of claims.
+abbrev pub ClaimedOpen : Image → Problem → BaseName → List ℕ → List ℕ → Outcome → Type 0
+ClaimedOpen image p base bytes list = Done image (claims_open p bytes list) base
+
 -- The text is that of a table over a base that is accepted: closed, and true of every run.
 abbrev pub Accepted : Image → Problem → BaseName → List ℕ → Type 0
 Accepted image p base bytes = IsAccepted (domain_of (state_type p.spec) base).domain p image (base_text base) bytes
@@ -85,6 +104,18 @@ SliceHolds image p base bytes at asked text = HoldsChains (domain_of (state_type
 -- The text is that of the answers over a base to claims, of a table that is accepted, and each claim that is answered yes is true of every run.
 abbrev pub ClaimsHold : Image → Problem → BaseName → List ℕ → List ℕ → List ℕ → Type 0
 ClaimsHold image p base bytes list text = HoldsClaims (domain_of (state_type p.spec) base).domain p image (base_text base) bytes list text
+
+-- So it is of a table that is accepted with its endings: it is closed but where it is left open, and true of every run up to and with the first state there.
+abbrev pub AcceptedOpen : Image → Problem → BaseName → List ℕ → Type 0
+AcceptedOpen image p base bytes = IsOpenAccepted (domain_of (state_type p.spec) base).domain p image (base_text base) bytes
+
+-- Its slice holds every chain of reads until then,
+abbrev pub SliceHoldsOpen : Image → Problem → BaseName → List ℕ → ℕ → Asked → List ℕ → Type 0
+SliceHoldsOpen image p base bytes at asked text = HoldsOpenChains (domain_of (state_type p.spec) base).domain p image (base_text base) bytes at asked text
+
+-- and each claim that it answers with yes is true until then.
+abbrev pub ClaimsHoldOpen : Image → Problem → BaseName → List ℕ → List ℕ → List ℕ → Type 0
+ClaimsHoldOpen image p base bytes list text = HoldsOpenClaims (domain_of (state_type p.spec) base).domain p image (base_text base) bytes list text
 
 -- Its elements are affine relations, or have them as a part: such an element has several texts.
 abbrev pub has_relations : BaseName → Bool

@@ -6,8 +6,6 @@ use Rattle.insn_decode.specs.Image.{Image}
 use Rattle.spec_types.specs.Specification.{Spec}
 use Rattle.fixed_point.specs.Table.{Listings}
 use Rattle.fixed_point.specs.Verdicts.{verdict_of}
-use Rattle.table_faults.specs.declared.table_error.TableError.{TableError}
-use Rattle.table_reader.specs.Tables.{IsErrorIn}
 use Rattle.transfer_laws.specs.Problem.{Problem}
 use Rattle.transfer_laws.specs.Runs.{Begins}
 use Rattle.slice_laws.specs.Chains.{IsChain}
@@ -15,11 +13,12 @@ use Rattle.slice_laws.specs.Laws.{HoldsChain, IsReadAt}
 use Rattle.slice_laws.specs.Slices.{IsSlice}
 use Rattle.slice_text.specs.declared.asked.Asked.{Asked}
 use Rattle.slice_text.specs.Writing.{slice_text}
-use Rattle.run_steps.specs.Outcome.{Outcome, table_refused}
+use Rattle.run_steps.specs.Outcome.{Outcome, Refusal}
 use Rattle.analysis_domains.specs.Analyses.{analysis}
 use Rattle.analysis_domains.specs.Checks.{IsAccepted, IsJudged}
 use Rattle.analysis_domains.specs.Closed.{ByVerdict}
 use Rattle.analysis_domains.specs.Domains.{DomainOf}
+use Rattle.analysis_domains.specs.Refusals.{IsRefused}
 
 -- The bytes are the text of the slice of a table, for the reads of a cell by the instruction at an address.
 pub record IsSliceText {E : Type 0} (spec : Spec) (table : Listings E) (at : ℕ) (asked : Asked) (bytes : List ℕ) : Type 0 where
@@ -29,9 +28,9 @@ pub record IsSliceText {E : Type 0} (spec : Spec) (table : Listings E) (at : ℕ
   pub written : bytes ≡ slice_text spec at asked told addresses
 
 module _ {E W N C : Type 0} (domain : DomainOf E W N C) (p : Problem) where
-  -- The outcome for the text of a table: its first fault; where the table is not closed, what its check comes to; else the text of the slice.
+  -- The outcome for the text of a table: its first fault, or its first block that is left open; where the table is not closed, what its check comes to; else the text of the slice.
   pub data Slices (image : Image) (base bytes : List ℕ) (at : ℕ) (asked : Asked) : Outcome → Type 0 where
-    refused : {error : TableError} → IsErrorIn domain.Reads p.spec base image bytes error → Slices image base bytes at asked (Err (table_refused error))
+    refused : {refusal : Refusal} → IsRefused domain p.spec image base bytes refusal → Slices image base bytes at asked (Err refusal)
     judged : {outcome : Outcome} (table : Listings E) → IsJudged domain p image base bytes table
         → ByVerdict domain.word_text (IsSliceText p.spec table at asked) (verdict_of (analysis domain p) table) outcome → Slices image base bytes at asked outcome
 

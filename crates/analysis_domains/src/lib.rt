@@ -10,6 +10,9 @@
 //!
 //! The text of a table may be checked (specs/Checks), written anew (specs/Conversions), sliced (specs/Slices) or asked for claims (specs/Claims). Of one that is
 //! accepted, a slice holds every chain of every read that it is of, and each claim that is answered yes is true, in every run of the machine.
+//!
+//! Where blocks may be left open (specs/OpenAnalyses, OpenChecks, OpenSlices, OpenClaims), that is said of the runs up to and with the first state at an address
+//! that is left open. Where there is such an address, the line `until open` stands before a slice and before answers (specs/Until).
 #![tactic(auto)]
 
 mod domain;

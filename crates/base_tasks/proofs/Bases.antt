@@ -14,16 +14,20 @@ use Rattle.analysis_domains.specs.Tasks.{Comes, spec_of}
 use Rattle.analysis_domains.specs.Work.{IsWork, WorkOf}
 use Rattle.domain_tasks.specs.Read.{task_of}
 use Rattle.domain_tasks.specs.declared.task.Task.{Task}
-use Rattle.domain_tasks.specs.declared.task.Task.TheVariants.{Analyse, AnalyseOpen, Check, Claims, Convert, Slice}
+use Rattle.domain_tasks.specs.declared.task.Task.TheVariants.{Analyse, AnalyseOpen, Check, CheckOpen, Claims, ClaimsOpen, Convert, Measure, Slice, SliceOpen}
 
 module _ (spec : Spec) (image : Image) where
   spec_is : (task : Task) → spec_of (task_of spec image task) ≡ spec
   spec_is (Analyse start) = refl
   spec_is (AnalyseOpen start) = refl
+  spec_is (Measure start) = refl
   spec_is (Check start table) = refl
+  spec_is (CheckOpen start table) = refl
   spec_is (Convert table) = refl
   spec_is (Slice start table at cell) = refl
+  spec_is (SliceOpen start table at cell) = refl
   spec_is (Claims start table list) = refl
+  spec_is (ClaimsOpen start table list) = refl
 
   -- the base is this one
   pub over_it : {A : Type 0} (task : Task) (base it : BaseName) (seen : A → Answer) (r : Result A Halt) → base ≡ it

@@ -12,6 +12,7 @@ use Rattle.fixed_point.specs.Pairs.{paired as paired_elements}
 use Rattle.fixed_point.specs.Views.{listing, listings}
 use Rattle.fixed_point.specs.declared.table.Block.{Block}
 use Rattle.fixed_point.specs.declared.table.Table.{Table}
+use Rattle.fixed_point.specs.declared.verdict.Verdict.{Verdict}
 use Rattle.domain_laws.specs.States.{StateType, has_states, same_states, state_type}
 use Rattle.cell_laws.specs.Calls as cell
 use Rattle.cell_laws.specs.Calls.{cell_calls}
@@ -28,6 +29,7 @@ use Rattle.tsl_values.specs.declared.entry.KeyAt.{KeyAt}
 use Rattle.transfer_laws.specs.Problem.{Problem}
 use Rattle.claim_laws.specs.Affine.{affine_tell}
 use Rattle.claim_laws.specs.Answers.{Telling}
+use Rattle.claim_laws.specs.Claims.{Claim}
 use Rattle.claim_laws.specs.Cells.{cells_tell}
 use Rattle.claim_laws.specs.Pairs.{pairs_tell}
 use Rattle.claim_text.specs.Answers.{answers}
@@ -41,7 +43,8 @@ use Rattle.base_text.specs.Words.{affine_text, pair_text}
 use Rattle.element_text.specs.Parts.{AffineText, CellsText, ElementText, PairText}
 use Rattle.text_lines.specs.Lines.{Lines}
 use Rattle.element_readers.specs.Reading.{AffineRead, CellsRead, ElementReading, PairRead, both, no_first, no_second}
-use Rattle.table_readings.proofs.Views.{error_seen, seen_listing, table_seen}
+use Rattle.element_readers.specs.Words.{affine_word, cells_word, pair_word}
+use Rattle.table_readings.proofs.Views.{error_seen, open_table_seen, seen_listing, table_seen}
 use Rattle.open_tables.specs.Endings.{Endings}
 use Rattle.open_tables.specs.declared.ending.Ending.{Ending}
 use Rattle.table_text.specs.Open as opened
@@ -51,33 +54,46 @@ use Rattle.run_steps.specs.Outcome as o
 use Rattle.run_steps.specs.declared.outcome.Halt.{Halt}
 use Rattle.run_steps.specs.declared.outcome.Halt.TheVariants.{NoMemory, Refused}
 use Rattle.run_steps.specs.Outcomes.{Gives, refusal_of}
-use Rattle.run_steps.specs.Outcome.{Answer, Outcome, text, bad_words, not_built, cannot_read, too_long, spec_refused, code_refused, entry_refused, calls_spent, undecodable_at, too_many_targets, table_refused, claims_refused, rejected}
+use Rattle.run_steps.specs.Outcome.{Answer, Outcome, Refusal, text, bad_words, cannot_read, too_long, spec_refused, code_refused, entry_refused, calls_spent, undecodable_at, too_many_targets, table_refused, claims_refused, rejected}
 use Rattle.table_reader.specs.Ends.{is_word_of}
-use Rattle.table_reader.specs.Tables.{IsTableIn}
+use Rattle.table_reader.specs.Tables.{IsOpenTableIn, IsTableIn}
 use Rattle.analysis_domains.specs.Analyses.{ComesTo}
 use Rattle.analysis_domains.specs.Checks as checks
 use Rattle.analysis_domains.specs.Checks.{Judges}
 use Rattle.analysis_domains.specs.Conversions as conversions
 use Rattle.analysis_domains.specs.Conversions.{Rewrites}
 use Rattle.analysis_domains.specs.Domains.{DomainOf, cells_of, pair_of, relations}
+use Rattle.analysis_domains.specs.Measures.{Measures}
 use Rattle.analysis_domains.specs.OpenAnalyses.{ComesOpen}
+use Rattle.analysis_domains.specs.OpenChecks as open_checks
+use Rattle.analysis_domains.specs.OpenChecks.{JudgesOpen}
+use Rattle.analysis_domains.specs.OpenClaims as open_claims
+use Rattle.analysis_domains.specs.OpenClaims.{ClaimsOpen}
+use Rattle.analysis_domains.specs.OpenSlices as open_slices
+use Rattle.analysis_domains.specs.OpenSlices.{SlicesOpen}
 use Rattle.analysis_domains.specs.Claims as claiming
 use Rattle.analysis_domains.specs.Claims.{Claims}
+use Rattle.analysis_domains.specs.Refusals as refusals
+use Rattle.analysis_domains.specs.Refusals.{IsRefused}
 use Rattle.analysis_domains.specs.Slices as slices
 use Rattle.analysis_domains.specs.Slices.{IsSliceText, Slices}
-use Rattle.analysis_domains.specs.Tasks.{Comes, Task, analyse, analyse_open, check, claims, convert, slice}
-use Rattle.analysis_domains.specs.Work.{IsWork, IsWorkOn}
+use Rattle.analysis_domains.specs.Tasks.{Comes, Task, analyse, analyse_open, check, check_open, claims, claims_open, convert, measure, slice, slice_open}
+use Rattle.analysis_domains.specs.Until.{Marked}
+use Rattle.analysis_domains.specs.Work.{IsOpenWorkOn, IsWork, IsWorkOn}
 use Rattle.analysis_domains.proofs.Closed.{verdicts_to}
+use Rattle.analysis_domains.proofs.Marked.{marked_to}
 use Rattle.domain_tasks.specs.Own as given
-use Rattle.domain_tasks.specs.Own.{Own, OwnComesTo, OwnJudges, OwnRewrites, OwnWork, as_defined}
+use Rattle.domain_tasks.specs.Own.{IsOwnRefused, Own, OwnComesTo, OwnJudges, OwnRewrites, OwnWork, as_defined}
 use Rattle.domain_tasks.specs.Claims as own_claims
 use Rattle.domain_tasks.specs.Claims.{OwnClaims}
 use Rattle.domain_tasks.specs.Comes.{OwnComes}
+use Rattle.domain_tasks.specs.Measures.{OwnMeasures}
 use Rattle.domain_tasks.specs.Open.{OwnComesOpen}
+use Rattle.domain_tasks.specs.OpenTables.{IsOwnOpenJudged, OwnClaimsOpen, OwnJudgesOpen, OwnSlicesOpen, judged_check, judged_claims, judged_slice, unread_check, unread_claims, unread_slice, unread_table}
 use Rattle.domain_tasks.specs.Slices as own_slices
 use Rattle.domain_tasks.specs.Slices.{OwnSlices}
 use Rattle.base_tasks.proofs.Seen.{answers_seen, read_seen}
-use Rattle.base_tasks.proofs.Working.{work_on}
+use Rattle.base_tasks.proofs.Working.{open_work_on, work_on}
 
 -- ---- texts of tables
 
@@ -121,7 +137,7 @@ module _ {X E : Type 0} (view : X → E) where
 
 -- the domain that the code's calls make, with these texts and readings, and what elements tell
 abbrev pub with_texts : {X E W N C : Type 0} → Own X E W N C → ElementText E → ElementReading E → Telling E → DomainOf E W N C
-with_texts own IsText Reads telling = record { base = own.base; cap = own.cap; elements = own.elements; meaning = own.meaning; IsText = IsText; Reads = Reads; word_text = own.word_text; telling = telling }
+with_texts own IsText Reads telling = record { base = own.base; cap = own.cap; elements = own.elements; meaning = own.meaning; IsText = IsText; Reads = Reads; word_in = own.word_in; word_text = own.word_text; telling = telling }
 
 -- It is a domain of the definitions. Texts of the code's elements are texts there, and so is what is read of lines, and what they tell of claims.
 pub record Tie {X E W N C : Type 0} (own : Own X E W N C) (K : Telling X) (domain : DomainOf E W N C) : Type 1 where
@@ -149,7 +165,6 @@ module _ {X E W N C : Type 0} (own : Own X E W N C) (K : Telling X) (domain : Do
   analysis_comes p (Ok (o.undecodable bytes)) never = absurd never
   analysis_comes p (Ok (o.calls_ended bytes)) never = absurd never
   analysis_comes p (Err bad_words) never = absurd never
-  analysis_comes p (Err not_built) never = absurd never
   analysis_comes p (Err (cannot_read name)) never = absurd never
   analysis_comes p (Err (too_long name)) never = absurd never
   analysis_comes p (Err (spec_refused fault)) never = absurd never
@@ -167,34 +182,49 @@ module _ {X E W N C : Type 0} (own : Own X E W N C) (K : Telling X) (domain : Do
     abbrev to : (ls : Lines) (r : Option X) (left : Lines) → own.Reads spec (is_word_of image) ls r left → domain.Reads spec (is_word_of image) ls (option_map own.view r) left
     to = tie.reads spec (is_word_of image)
 
-    table_read : (bytes : List ℕ) (t : Table X) → IsTableIn own.Reads spec base image bytes (listings (λ x. x) t) → IsTableIn domain.Reads spec base image bytes (listings own.view t)
-    table_read bytes t is = table_seen own.view own.Reads domain.Reads spec base image to bytes (listings (λ x. x) t) (listings own.view t) (listings_seen own.view t) is
+    open_table_read : (bytes : List ℕ) (t : Table X) (ends : Endings W) → IsOpenTableIn own.Reads own.word_in spec base image bytes (listings (λ x. x) t) ends → IsOpenTableIn domain.Reads own.word_in spec base image bytes (listings own.view t) ends
+    open_table_read bytes t ends is = open_table_seen own.view own.Reads domain.Reads own.word_in spec base image to bytes (listings (λ x. x) t) (listings own.view t) ends (listings_seen own.view t) is
+
+    table_read : (bytes : List ℕ) (t : Table X) → IsTableIn own.Reads own.word_in spec base image bytes (listings (λ x. x) t) → IsTableIn domain.Reads own.word_in spec base image bytes (listings own.view t)
+    table_read bytes t is = table_seen own.view own.Reads domain.Reads own.word_in spec base image to bytes (listings (λ x. x) t) (listings own.view t) (listings_seen own.view t) is
+
+    -- a text that is refused
+    refused_so : (bytes : List ℕ) (x : Refusal) → IsOwnRefused own spec image base bytes x → IsRefused seen spec image base bytes x
+    refused_so bytes x (given.faulty {error = error} is) = refusals.faulty (error_seen own.view own.Reads domain.Reads own.word_in spec base image to bytes error is)
+    refused_so bytes x (given.left_open table ends is first) = refusals.left_open (listings own.view table) ends (open_table_read bytes table ends is) first
 
   check_comes : (p : Problem) (bytes : List ℕ) (outcome : Outcome) → OwnJudges own p image base bytes outcome → Judges seen p image base bytes outcome
-  check_comes p bytes outcome (given.refused {error = error} is) = checks.refused (error_seen own.view own.Reads domain.Reads p.spec base image (to p.spec) bytes error is)
+  check_comes p bytes outcome (given.refused {refusal = x} is) = checks.refused (refused_so p.spec bytes x is)
   check_comes p bytes outcome (given.judged table is) = checks.judged (listings own.view table) (record { is_table = table_read p.spec bytes table is.is_table; fits = is.fits; is_true = is.is_true })
 
   conversion_comes : (spec : Spec) (bytes : List ℕ) (outcome : Outcome) → OwnRewrites own spec image base bytes outcome → Rewrites seen spec image base bytes outcome
-  conversion_comes spec bytes outcome (given.unread {error = error} is) = conversions.refused (error_seen own.view own.Reads domain.Reads spec base image (to spec) bytes error is)
-  conversion_comes spec bytes outcome (given.rewritten table new is written) =
-      conversions.rewritten (listings own.view table) new (table_read spec bytes table is) (text_seen own.view spec (own.IsText spec) (domain.IsText spec) (tie.text spec) table image base new written)
+  conversion_comes spec bytes outcome (given.unread {error = error} is) = conversions.refused (error_seen own.view own.Reads domain.Reads own.word_in spec base image (to spec) bytes error is)
+  conversion_comes spec bytes outcome (given.rewritten table ends new is written) =
+      conversions.rewritten (listings own.view table) ends new (open_table_read spec bytes table ends is) (open_text_seen own.view spec (own.IsText spec) (domain.IsText spec) (tie.text spec) own.word_text table ends image base new written)
+
+  -- texts of slices, and lines for claims, as elements are seen
+  slices_seen : (p : Problem) (at : ℕ) (cell : Asked) (table : Table X) (bytes : List ℕ) → IsSliceText p.spec (listings (λ x. x) table) at cell bytes → IsSliceText p.spec (listings own.view table) at cell bytes
+  slices_seen p at cell table bytes s = record { told = s.told; addresses = s.addresses; slice = slices_are_of_uses own.view table at cell.map cell.key s.told s.addresses s.slice; written = s.written }
+
+  lines_seen : (table : Table X) (all : List Claim) (lines : List ℕ) → lines ≡ answers K (listings (λ x. x) table) all → lines ≡ answers domain.telling (listings own.view table) all
+  lines_seen table all lines h = h ∙ ap (λ k. answers k (listings (λ x. x) table) all) tie.tells ∙ answers_seen own.view domain.telling table all
 
   slice_comes : (p : Problem) (bytes : List ℕ) (at : ℕ) (cell : Asked) (outcome : Outcome) → OwnSlices own p image base bytes at cell outcome → Slices seen p image base bytes at cell outcome
-  slice_comes p bytes at cell outcome (own_slices.refused {error = error} is) = slices.refused (error_seen own.view own.Reads domain.Reads p.spec base image (to p.spec) bytes error is)
+  slice_comes p bytes at cell outcome (own_slices.refused {refusal = x} is) = slices.refused (refused_so p.spec bytes x is)
   slice_comes p bytes at cell outcome (own_slices.judged table is by) =
       slices.judged (listings own.view table) (record { is_table = table_read p.spec bytes table is.is_table; fits = is.fits; is_true = is.is_true })
       (verdicts_to own.word_text (IsSliceText p.spec (listings (λ x. x) table) at cell) (IsSliceText p.spec (listings own.view table) at cell)
-      (λ bytes s. record { told = s.told; addresses = s.addresses; slice = slices_are_of_uses own.view table at cell.map cell.key s.told s.addresses s.slice; written = s.written }) _ outcome by)
+      (slices_seen p at cell table) _ outcome by)
 
   claims_comes : (p : Problem) (bytes list : List ℕ) (outcome : Outcome) → OwnClaims own K p image base bytes list outcome → Claims seen p image base bytes list outcome
-  claims_comes p bytes list outcome (own_claims.refused {error = error} is) = claiming.refused (error_seen own.view own.Reads domain.Reads p.spec base image (to p.spec) bytes error is)
+  claims_comes p bytes list outcome (own_claims.refused {refusal = x} is) = claiming.refused (refused_so p.spec bytes x is)
   claims_comes p bytes list outcome (own_claims.unread {error = error} table is e) =
       claiming.unread (listings own.view table) (table_read p.spec bytes table is) (sym (read_seen own.view domain.telling (has_word image) p.spec list) ∙ subst (λ k. read k (has_word image) p.spec list ≡ Err error) tie.tells e)
   claims_comes p bytes list outcome (own_claims.judged table all is e by) =
       claiming.judged (listings own.view table) all (record { is_table = table_read p.spec bytes table is.is_table; fits = is.fits; is_true = is.is_true })
       (sym (read_seen own.view domain.telling (has_word image) p.spec list) ∙ subst (λ k. read k (has_word image) p.spec list ≡ Ok all) tie.tells e)
       (verdicts_to own.word_text (λ lines. lines ≡ answers K (listings (λ x. x) table) all) (λ lines. lines ≡ answers domain.telling (listings own.view table) all)
-      (λ lines h. h ∙ ap (λ k. answers k (listings (λ x. x) table) all) tie.tells ∙ answers_seen own.view domain.telling table all) _ outcome by)
+      (lines_seen table all) _ outcome by)
 
   open_comes : (p : Problem) (outcome : Outcome) → OwnComesOpen own p image base outcome → ComesOpen seen p image base outcome
   open_comes p (Ok (text bytes)) t = record {
@@ -214,13 +244,61 @@ module _ {X E W N C : Type 0} (own : Own X E W N C) (K : Telling X) (domain : Do
   open_comes p (Ok (o.calls_ended bytes)) never = absurd never
   open_comes p (Err refusal) never = absurd never
 
+  -- ---- where blocks may be left open
+
+  -- a verdict on a table of the code
+  abbrev open_judged : (p : Problem) (bytes : List ℕ) (table : Table X) (ends : Endings W) (x : Verdict W) → IsOwnOpenJudged own p image base bytes table ends x → open_checks.IsOpenJudged seen p image base bytes (listings own.view table) ends x
+  open_judged p bytes table ends x is = record { is_table = open_table_read p.spec bytes table ends is.is_table; fits = is.is_verdict.fits; is_verdict = is.is_verdict.is; is_true = is.is_verdict.is_true }
+
+  open_check_comes : (p : Problem) (bytes : List ℕ) (outcome : Outcome) → OwnJudgesOpen own p image base bytes outcome → JudgesOpen seen p image base bytes outcome
+  open_check_comes p bytes outcome (unread_check {error = error} is) = open_checks.refused (error_seen own.view own.Reads domain.Reads own.word_in p.spec base image (to p.spec) bytes error is)
+  open_check_comes p bytes outcome (judged_check table ends x is) = open_checks.judged (listings own.view table) ends x (open_judged p bytes table ends x is)
+
+  open_slice_comes : (p : Problem) (bytes : List ℕ) (at : ℕ) (cell : Asked) (outcome : Outcome) → OwnSlicesOpen own p image base bytes at cell outcome → SlicesOpen seen p image base bytes at cell outcome
+  open_slice_comes p bytes at cell outcome (unread_slice {error = error} is) = open_slices.refused (error_seen own.view own.Reads domain.Reads own.word_in p.spec base image (to p.spec) bytes error is)
+  open_slice_comes p bytes at cell outcome (judged_slice table ends x is by) =
+      open_slices.judged (listings own.view table) ends x (open_judged p bytes table ends x is)
+      (verdicts_to own.word_text (Marked ends (IsSliceText p.spec (listings (λ x. x) table) at cell)) (Marked ends (IsSliceText p.spec (listings own.view table) at cell))
+      (marked_to ends (IsSliceText p.spec (listings (λ x. x) table) at cell) (IsSliceText p.spec (listings own.view table) at cell) (slices_seen p at cell table)) x outcome by)
+
+  open_claims_comes : (p : Problem) (bytes list : List ℕ) (outcome : Outcome) → OwnClaimsOpen own p K image base bytes list outcome → ClaimsOpen seen p image base bytes list outcome
+  open_claims_comes p bytes list outcome (unread_table {error = error} is) = open_claims.refused (error_seen own.view own.Reads domain.Reads own.word_in p.spec base image (to p.spec) bytes error is)
+  open_claims_comes p bytes list outcome (unread_claims {error = error} table ends is e) =
+      open_claims.unread (listings own.view table) ends (open_table_read p.spec bytes table ends is) (sym (read_seen own.view domain.telling (has_word image) p.spec list) ∙ subst (λ k. read k (has_word image) p.spec list ≡ Err error) tie.tells e)
+  open_claims_comes p bytes list outcome (judged_claims table ends x all is e by) =
+      open_claims.judged (listings own.view table) ends x all (open_judged p bytes table ends x is)
+      (sym (read_seen own.view domain.telling (has_word image) p.spec list) ∙ subst (λ k. read k (has_word image) p.spec list ≡ Ok all) tie.tells e)
+      (verdicts_to own.word_text (Marked ends (λ lines. lines ≡ answers K (listings (λ x. x) table) all)) (Marked ends (λ lines. lines ≡ answers domain.telling (listings own.view table) all))
+      (marked_to ends (λ lines. lines ≡ answers K (listings (λ x. x) table) all) (λ lines. lines ≡ answers domain.telling (listings own.view table) all) (lines_seen table all)) x outcome by)
+
+  measure_comes : (p : Problem) (outcome : Outcome) → OwnMeasures own p outcome → Measures seen p outcome
+  measure_comes p (Ok (text bytes)) t = record { trace = t.trace; table = t.table; legal = t.legal; full = t.full; few = t.few; is_table = t.is_table; fits = t.fits; is_true = t.is_true; told = t.told }
+  measure_comes p (Ok (o.undecodable bytes)) never = absurd never
+  measure_comes p (Ok (o.calls_ended bytes)) never = absurd never
+  measure_comes p (Err bad_words) never = absurd never
+  measure_comes p (Err (cannot_read name)) never = absurd never
+  measure_comes p (Err (too_long name)) never = absurd never
+  measure_comes p (Err (spec_refused fault)) never = absurd never
+  measure_comes p (Err (code_refused fault)) never = absurd never
+  measure_comes p (Err (entry_refused fault)) never = absurd never
+  measure_comes p (Err calls_spent) never = absurd never
+  measure_comes p (Err (undecodable_at at word)) stop = stop
+  measure_comes p (Err (too_many_targets at shown)) stop = stop
+  measure_comes p (Err (table_refused fault)) never = absurd never
+  measure_comes p (Err (claims_refused fault)) never = absurd never
+  measure_comes p (Err (rejected rejection)) never = absurd never
+
   seen_comes : (task : Task) (outcome : Outcome) → OwnComes own K image base task outcome → Comes seen image base task outcome
   seen_comes (analyse p) outcome is = analysis_comes p outcome is
   seen_comes (analyse_open p) outcome is = open_comes p outcome is
+  seen_comes (measure p) outcome is = measure_comes p outcome is
   seen_comes (check p bytes) outcome is = check_comes p bytes outcome is
+  seen_comes (check_open p bytes) outcome is = open_check_comes p bytes outcome is
   seen_comes (convert spec bytes) outcome is = conversion_comes spec bytes outcome is
   seen_comes (slice p bytes at cell) outcome is = slice_comes p bytes at cell outcome is
+  seen_comes (slice_open p bytes at cell) outcome is = open_slice_comes p bytes at cell outcome is
   seen_comes (claims p bytes list) outcome is = claims_comes p bytes list outcome is
+  seen_comes (claims_open p bytes list) outcome is = open_claims_comes p bytes list outcome is
 
   pub comes : (task : Task) (outcome : Outcome) → OwnComes own K image base task outcome → Comes domain image base task outcome
   comes task outcome is = subst (λ d. Comes d image base task outcome) tie.same (seen_comes task outcome is)
@@ -232,25 +310,36 @@ module _ {E W N C : Type 0} (domain : DomainOf E W N C) (image : Image) (base : 
   idle : (task : Task) (old new : ℕ) → new ≡ old → IsWork domain image base task old new
   idle (analyse p) old new same = omega (arith, same)
   idle (analyse_open p) old new same = omega (arith, same)
+  idle (measure p) old new same = omega (arith, same)
   idle (check p bytes) old new same = inl (omega (arith, same))
+  idle (check_open p bytes) old new same = inl (omega (arith, same))
   idle (convert spec bytes) old new same = omega (arith, same)
   idle (slice p bytes at cell) old new same = inl (omega (arith, same))
+  idle (slice_open p bytes at cell) old new same = inl (omega (arith, same))
   idle (claims p bytes list) old new same = inl (omega (arith, same))
+  idle (claims_open p bytes list) old new same = inl (omega (arith, same))
 
 module _ {X E W N C : Type 0} (own : Own X E W N C) (K : Telling X) (domain : DomainOf E W N C) (tie : Tie own K domain) (image : Image) (base : List ℕ) where
   read_too : (spec : Spec) (is_word : ℕ → Bool) (ls : Lines) (r : Option E) (left : Lines) → (as_defined own).Reads spec is_word ls r left → domain.Reads spec is_word ls r left
   read_too spec is_word ls r left (x, same, is) = subst (λ o. domain.Reads spec is_word ls o left) same (tie.reads spec is_word ls x left is)
 
   work_of : (spec : Spec) (bytes : List ℕ) (old new : ℕ) → IsWorkOn (as_defined own) image base spec bytes old new → IsWorkOn (with_texts own domain.IsText domain.Reads domain.telling) image base spec bytes old new
-  work_of spec bytes old new is = work_on (as_defined own) (with_texts own domain.IsText domain.Reads domain.telling) read_too image base spec bytes old new is
+  work_of spec bytes old new is = work_on (as_defined own) (with_texts own domain.IsText domain.Reads domain.telling) read_too refl image base spec bytes old new is
+
+  open_work_of : (spec : Spec) (bytes : List ℕ) (old new : ℕ) → IsOpenWorkOn (as_defined own) image base spec bytes old new → IsOpenWorkOn (with_texts own domain.IsText domain.Reads domain.telling) image base spec bytes old new
+  open_work_of spec bytes old new is = open_work_on (as_defined own) (with_texts own domain.IsText domain.Reads domain.telling) read_too refl image base spec bytes old new is
 
   work_seen : (task : Task) (old new : ℕ) → OwnWork own image base task old new → IsWork (with_texts own domain.IsText domain.Reads domain.telling) image base task old new
   work_seen (analyse p) old new is = is
   work_seen (analyse_open p) old new is = is
+  work_seen (measure p) old new is = is
   work_seen (check p bytes) old new is = work_of p.spec bytes old new is
+  work_seen (check_open p bytes) old new is = open_work_of p.spec bytes old new is
   work_seen (convert spec bytes) old new is = is
   work_seen (slice p bytes at cell) old new is = work_of p.spec bytes old new is
+  work_seen (slice_open p bytes at cell) old new is = open_work_of p.spec bytes old new is
   work_seen (claims p bytes list) old new is = work_of p.spec bytes old new is
+  work_seen (claims_open p bytes list) old new is = open_work_of p.spec bytes old new is
 
   work_is : (task : Task) (old new : ℕ) → OwnWork own image base task old new → IsWork domain image base task old new
   work_is task old new is = subst (λ d. IsWork d image base task old new) tie.same (work_seen task old new is)
@@ -267,6 +356,7 @@ module _ {X W N C : Type 0} (view : X → Parts W N) (B : Algebra W N C) (cap : 
     view = view;
     IsText = λ spec x. CellsText name texts spec (view x);
     Reads = λ spec is_word ls r left. CellsRead readings cap name spec is_word ls (option_map view r) left;
+    word_in = cells_word readings;
     word_text = texts.word;
   }
 
@@ -295,6 +385,7 @@ own_relations t = record {
   view = λ x. x;
   IsText = AffineText;
   Reads = AffineRead (relation.cell_count t);
+  word_in = affine_word (relation.cell_count t);
   word_text = affine_text;
 }
 
@@ -323,6 +414,7 @@ module _ {X Y E F V W M N C D : Type 0} (first : Own X E V M C) (second : Own Y 
     view = λ x. (first.view x.0, second.view x.1);
     IsText = PairText first.IsText second.IsText;
     Reads = PairRead first.Reads second.Reads;
+    word_in = pair_word first.word_in second.word_in;
     word_text = pair_text first.word_text second.word_text;
   }
 

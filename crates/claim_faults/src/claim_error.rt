@@ -5,22 +5,17 @@ ghost use Rattle.std.specs.String.{string_bytes};
 ghost use Rattle.claim_faults.specs.FaultLines.{fault_line};
 
 use std::alloc::{AllocError, AllocFailed, Global};
-use thiserror::Error;
 
 /// The first fault of a text of claims. `n` is the number of the first faulty line, from 1.
-#[derive(Debug, Drop, Error)]
+#[derive(Debug, Drop)]
 pub enum ClaimError {
     /// K1: the line has another form than claims have, the ends of its range are not in order, or a number is too big for its cell.
-    #[error("line {n} is no claim")]
     BadLine { n: u32 },
     /// K2: the address is not that of a code word; the states have no such cell; or a cell of a sum is not tracked.
-    #[error("line {n} names an unknown place")]
     UnknownPlace { n: u32 },
     /// K3: elements tell of no such claim.
-    #[error("no part of an element tells of line {n}")]
     NoPart { n: u32 },
     /// Memory ran out.
-    #[error("out of memory")]
     NoMemory,
 }
 

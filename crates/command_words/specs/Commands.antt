@@ -22,12 +22,13 @@ all_commands = c.Call ∷ c.Emulate ∷ c.Analyse ∷ c.Check ∷ c.Convert ∷ 
 abbrev pub command_named : List ℕ → Option CommandName
 command_named text = find (λ command. bytes_eq (command_text command) text) all_commands
 
--- the options of `analyse`, and of all that look at a table of its form
+-- the options of `analyse` and of all that look at a table of its form; how soon an element widens is asked of `analyse` alone
 abbrev pub is_of_analysis : OptionName → Bool
 is_of_analysis o.At = true
 is_of_analysis o.Order = true
 is_of_analysis o.Base = true
 is_of_analysis o.Limit = true
+is_of_analysis o.Open = true
 is_of_analysis _ = false
 
 -- The command takes the option.
@@ -40,7 +41,6 @@ takes c.Emulate o.Steps = true
 takes c.Emulate o.Calls = true
 takes c.Emulate _ = false
 takes c.Analyse o.Widen = true
-takes c.Analyse o.Open = true
 takes c.Analyse option = is_of_analysis option
 takes c.Check option = is_of_analysis option
 takes c.Slice option = is_of_analysis option

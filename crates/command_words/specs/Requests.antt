@@ -20,7 +20,8 @@ pub record EmulateRequest : Type 0 where
   pub calls : ℕ
 
 -- An analysis over a base, where a counter has at most so many values, and so many changes of an element join before later ones
--- widen. Left open, an address of which the analysis can not say what comes next ends no analysis.
+-- widen. Left open, an address of which the analysis can not say what comes next ends no analysis; a table that is read may leave
+-- such addresses open.
 pub record AnalyseRequest : Type 0 where
   pub spec : SpecName
   pub code : Code

@@ -70,8 +70,7 @@ impl CommandName {
                 option,
                 OptionName::At | OptionName::Order | OptionName::Steps | OptionName::Calls
             ),
-            CommandName::Analyse => is_of_analysis(option)
-                || matches!(option, OptionName::Widen | OptionName::Open),
+            CommandName::Analyse => is_of_analysis(option) || matches!(option, OptionName::Widen),
             CommandName::Check | CommandName::Slice | CommandName::Claims => is_of_analysis(option),
             CommandName::Convert => matches!(
                 option,
@@ -83,12 +82,12 @@ impl CommandName {
     }
 }
 
-/// Whether an option is one of `analyse`, and so of all that look at a table of its form.
+/// Whether an option is one of `analyse` and of all that look at a table of its form.
 fn is_of_analysis(option: OptionName) -> bool
     ensures { result ≡ is_of_analysis option }
 {
     matches!(
         option,
-        OptionName::At | OptionName::Order | OptionName::Base | OptionName::Limit
+        OptionName::At | OptionName::Order | OptionName::Base | OptionName::Limit | OptionName::Open
     )
 }

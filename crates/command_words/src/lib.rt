@@ -10,7 +10,7 @@
 //! | `call` | SPEC FUN, and any number of numbers | `--calls` |
 //! | `emulate` | SPEC CODE ENTRY | `--at`, `--order`, `--steps`, `--calls` |
 //! | `analyse` | SPEC CODE ENTRY | `--at`, `--order`, `--base`, `--limit`, `--widen`, `--open` |
-//! | `check` | SPEC CODE ENTRY TABLE | `--at`, `--order`, `--base`, `--limit` |
+//! | `check` | SPEC CODE ENTRY TABLE | `--at`, `--order`, `--base`, `--limit`, `--open` |
 //! | `convert` | SPEC CODE TABLE | `--at`, `--order`, `--base` |
 //! | `list` | SPEC CODE | `--at`, `--order` |
 //! | `slice` | SPEC CODE ENTRY TABLE ADDRESS CELL, over a base with stamps | those of `check` |

@@ -1,6 +1,6 @@
 -- What the code's analyses come to.
 use Rattle.std.proofs.Common.{◌≡◌, ◌⊎◌, ℕ, Bool, List, [], ◌∷◌, ap, inl, inr, sym, subst, ◌∙◌}
-use Rattle.std.specs.Prelude.{IfOk, Result, Ok, Err}
+use Rattle.std.specs.Prelude.{IfErr, IfOk, Result, Ok, Err}
 use Rattle.std.specs.Result.{IsErrAnd}
 use Rattle.insn_decode.specs.Image.{Image}
 use Rattle.fixed_point.specs.Analysis.{AnalysisLaws}
@@ -17,7 +17,9 @@ use Rattle.base_trait.specs.Lists.{Each}
 use Rattle.domain_laws.specs.States.{state_type}
 use Rattle.table_faults.specs.declared.table_error.TableError.{TableError}
 use Rattle.table_faults.specs.declared.table_error.TableError.TheVariants as reading
-use Rattle.table_reader.specs.Tables.{IsTableIn}
+use Rattle.open_tables.specs.Endings.{Endings}
+use Rattle.table_reader.specs.Tables.{IsErrorIn, IsOpenTableIn, IsTableIn}
+use Rattle.table_text.specs.Open.{IsOpenTableText}
 use Rattle.transfer_laws.specs.Problem.{Problem}
 use Rattle.transfer_laws.specs.Runs.{IsTrueOfRuns}
 use Rattle.worklist.specs.Answers.{IsErrorOf, IsReportOf, IsStopOf}
@@ -36,7 +38,7 @@ use Rattle.claim_text.specs.Answers.{answers}
 use Rattle.claim_text.specs.Reading.{has_word, read}
 use Rattle.run_steps.specs.declared.outcome.Halt.{Halt}
 use Rattle.run_steps.specs.declared.outcome.Halt.TheVariants.{NoMemory, Refused}
-use Rattle.run_steps.specs.declared.outcome.Refusal.TheVariants.{BadWords, NotBuilt, CannotRead, TooLong, SpecRefused, CodeRefused, EntryRefused, CallsSpent, UndecodableAt, TooManyTargets, TableRefused, ClaimsRefused, Rejected}
+use Rattle.run_steps.specs.declared.outcome.Refusal.TheVariants.{BadWords, CannotRead, TooLong, SpecRefused, CodeRefused, EntryRefused, CallsSpent, UndecodableAt, TooManyTargets, TableRefused, ClaimsRefused, Rejected}
 use Rattle.run_steps.specs.Outcome.{Answer, Outcome, Refusal, claims_refused, table_refused, text, undecodable, calls_ended}
 use Rattle.run_steps.specs.Outcomes.{Gives, Stops, halt_of_claims, halt_of_table, refusal_of}
 use Rattle.analysis_domains.specs.Analyses.{analysis}
@@ -46,7 +48,7 @@ use Rattle.analysis_domains.specs.Slices.{IsSliceText}
 use Rattle.domain_tasks.specs.Claims as of_claims
 use Rattle.domain_tasks.specs.Claims.{OwnClaims}
 use Rattle.domain_tasks.specs.Closed.{IsClosedOr}
-use Rattle.domain_tasks.specs.Own.{IsOwnJudged, IsOwnVerdict, Own, OwnComesTo, OwnJudges, OwnRewrites, as_defined, judged, rewritten}
+use Rattle.domain_tasks.specs.Own.{IsOwnJudged, IsOwnRefused, IsOwnVerdict, Own, OwnComesTo, OwnJudges, OwnRefuses, OwnRewrites, as_defined, faulty, judged, rewritten}
 use Rattle.domain_tasks.specs.Slices as slices
 use Rattle.domain_tasks.specs.Slices.{OwnSlices}
 use Rattle.domain_tasks.specs.Read.{Refuses, IsTextOf}
@@ -65,7 +67,6 @@ module _ {X E W N C : Type 0} (own : Own X E W N C) (p : Problem) (image : Image
   own_stop (stop.TooManyTargets at shown trace) (Refused (TooManyTargets a s)) laws stops is = (trace.items, shown, stops.0, legal_traces_are_short (analysis (as_defined own) p) laws trace.items stops.1.0, subst (λ n. IsStopOf (analysis (as_defined own) p) trace.items n (too_many shown stops.0)) (sym is.0) stops.1, is.1)
   own_stop (stop.TooManyTargets at shown trace) NoMemory laws stops is = tt
   own_stop (stop.TooManyTargets at shown trace) (Refused BadWords) laws stops is = absurd is
-  own_stop (stop.TooManyTargets at shown trace) (Refused NotBuilt) laws stops is = absurd is
   own_stop (stop.TooManyTargets at shown trace) (Refused (CannotRead name)) laws stops is = absurd is
   own_stop (stop.TooManyTargets at shown trace) (Refused (TooLong name)) laws stops is = absurd is
   own_stop (stop.TooManyTargets at shown trace) (Refused (SpecRefused fault)) laws stops is = absurd is
@@ -130,7 +131,7 @@ module _ {W : Type 0} (word_text : ℕ → W → List ℕ) (Is : List ℕ → Ty
   answers_by x (calls_ended bytes) e h = absurd h
 
   module _ (step : Outcome → Type 0) (x : Verdict W) (to : (found : Outcome) → ByVerdict word_text Is x found → step found) where
-    gives_refusal : {A : Type 0} (seen : A → Answer) (halt : Halt) → IsClosedOr word_text x (Err halt) → (r : Result A Halt) → IsErrAnd r (λ h. h ≡ halt) → Gives step seen r
+    pub gives_refusal : {A : Type 0} (seen : A → Answer) (halt : Halt) → IsClosedOr word_text x (Err halt) → (r : Result A Halt) → IsErrAnd r (λ h. h ≡ halt) → Gives step seen r
     gives_refusal seen halt h (Err other) same = subst (Stops step) (sym same) (stopped halt (stops_by x halt h))
       where
         stopped : (halt : Halt) → Stops (ByVerdict word_text Is x) halt → Stops step halt
@@ -138,11 +139,11 @@ module _ {W : Type 0} (word_text : ℕ → W → List ℕ) (Is : List ℕ → Ty
         stopped NoMemory k = tt
     gives_refusal seen halt h (Ok found) same = absurd same
 
-    gives_answer : (answer : Answer) → x ≡ v.Accepted → IsTextOf Is answer → step (Ok answer)
+    pub gives_answer : (answer : Answer) → x ≡ v.Accepted → IsTextOf Is answer → step (Ok answer)
     gives_answer answer e h = to (Ok answer) (answers_by x answer e h)
 
 -- what is answered for the verdict of a check
-checked_by : {W : Type 0} (word_text : ℕ → W → List ℕ) (x : Verdict W) (found : Outcome) → ByVerdict word_text (λ bytes. bytes ≡ accepted_line) x found → found ≡ outcome_of word_text x
+pub checked_by : {W : Type 0} (word_text : ℕ → W → List ℕ) (x : Verdict W) (found : Outcome) → ByVerdict word_text (λ bytes. bytes ≡ accepted_line) x found → found ≡ outcome_of word_text x
 checked_by word_text v.Accepted (Ok (text bytes)) h = ap (λ (xs : List ℕ). Ok (text xs)) h
 checked_by word_text v.Accepted (Ok (undecodable bytes)) h = absurd h
 checked_by word_text v.Accepted (Ok (calls_ended bytes)) h = absurd h
@@ -161,7 +162,7 @@ module _ {X E W N C : Type 0} (own : Own X E W N C) (p : Problem) where
   own_verdict table (Ok x) fits is runs = record { fits = fits; is = is; is_true = runs }
   own_verdict table (Err error) fits is runs = tt
 
-  module _ (image : Image) (base bytes : List ℕ) (table : Table X) (x : Verdict W) (is_table : IsTableIn own.Reads p.spec base image bytes (listings (λ x. x) table)) (is : IsOwnVerdict own p table x) where
+  module _ (image : Image) (base bytes : List ℕ) (table : Table X) (x : Verdict W) (is_table : IsTableIn own.Reads own.word_in p.spec base image bytes (listings (λ x. x) table)) (is : IsOwnVerdict own p table x) where
     own_judged : IsOwnJudged own p image base bytes table
     own_judged = record { is_table = is_table; fits = is.fits; is_true = λ closed. is.is_true (is.is ∙ closed) }
 
@@ -218,8 +219,23 @@ gives_unclaimed step want by seen error is (Ok found) same = absurd same
 
 module _ {X E W N C : Type 0} (own : Own X E W N C) (image : Image) (base bytes : List ℕ) where
   -- a table that was read, written anew
-  pub own_rewritten : (spec : Spec) (table : Table X) (answer : Answer) → IsTableIn own.Reads spec base image bytes (listings (λ x. x) table) → IsTextOf (IsTableText (own.IsText spec) spec image base (listings (λ x. x) table)) answer
-      → OwnRewrites own spec image base bytes (Ok answer)
-  own_rewritten spec table (text new) is told = rewritten table new is told
-  own_rewritten spec table (undecodable new) is told = absurd told
-  own_rewritten spec table (calls_ended new) is told = absurd told
+  pub own_rewritten : (spec : Spec) (table : Table X) (ends : Endings W) (answer : Answer) → IsOpenTableIn own.Reads own.word_in spec base image bytes (listings (λ x. x) table) ends
+      → IsTextOf (IsOpenTableText own.word_text (own.IsText spec) spec image base (listings (λ x. x) table) ends) answer → OwnRewrites own spec image base bytes (Ok answer)
+  own_rewritten spec table ends (text new) is told = rewritten table ends new is told
+  own_rewritten spec table ends (undecodable new) is told = absurd told
+  own_rewritten spec table ends (calls_ended new) is told = absurd told
+
+  -- a text that no table has
+  pub refused_unread : {A : Type 0} (spec : Spec) (error : TableError) → (error ≡ reading.NoMemory) ⊎ IsErrorIn own.Reads own.word_in spec base image bytes error → (r : Result A Halt) → IsErrAnd r (λ h. h ≡ halt_of_table error) → IfErr r (Stops (OwnRefuses own spec image base bytes))
+  refused_unread spec error is (Err halt) same = subst (Stops (OwnRefuses own spec image base bytes)) (sym same) (unread_stops (OwnRefuses own spec image base bytes) (IsErrorIn own.Reads own.word_in spec base image bytes) (λ e h. faulty h) error is)
+  refused_unread spec error is (Ok found) same = absurd same
+
+  -- a text that is refused
+  pub gives_refused : {A : Type 0} (spec : Spec) (step : Outcome → Type 0) → ((refusal : Refusal) → IsOwnRefused own spec image base bytes refusal → step (Err refusal)) → (seen : A → Answer) (halt : Halt)
+      → Stops (OwnRefuses own spec image base bytes) halt → (r : Result A Halt) → IsErrAnd r (λ h. h ≡ halt) → Gives step seen r
+  gives_refused spec step by seen halt stops (Err other) same = subst (Stops step) (sym same) (stopped halt stops)
+    where
+      stopped : (halt : Halt) → Stops (OwnRefuses own spec image base bytes) halt → Stops step halt
+      stopped (Refused refusal) k = by (refusal_of refusal) k
+      stopped NoMemory k = tt
+  gives_refused spec step by seen halt stops (Ok found) same = absurd same

@@ -17,12 +17,15 @@ use Rattle.fixed_point.specs.declared.table.Table.{Table}
 use Rattle.text_lines.specs.Lines.{Lines, first_line}
 use Rattle.base_text.specs.Reading.{behind, number_in}
 use Rattle.element_readers.specs.Reading.{ElementReading}
+use Rattle.element_readers.specs.Words.{WordReading}
+use Rattle.open_tables.specs.Endings.{Endings}
+use Rattle.open_tables.specs.declared.ending.Ending.{Ending}
 use Rattle.table_reader.specs.Blocks.{AreRead, BlockRead, block, listings_of, onto}
 use Rattle.table_reader.specs.Ends.{is_word_of}
 use Rattle.table_reader.specs.Starts.{address_from, at_said, read_at, read_at_of, with_lines}
-use Rattle.table_reader.specs.Tables.{IsTableIn}
-use Rattle.table_readings.proofs.Views.{seen_listing, table_seen}
-use Rattle.analysis_domains.specs.Work.{IsWorkOn}
+use Rattle.table_reader.specs.Tables.{IsOpenTableIn, IsTableIn}
+use Rattle.table_readings.proofs.Views.{open_table_seen, seen_listing, table_seen}
+use Rattle.analysis_domains.specs.Work.{IsOpenWorkOn, IsWorkOn}
 use Rattle.domain_tasks.specs.Own.{Own, as_defined}
 use Rattle.worklist.proofs.Tables.{few_places}
 
@@ -53,13 +56,13 @@ module _ (code : ℕ → Bool) (low : ℕ) where
 abbrev places : {X : Type 0} → List (ℕ × Listing X) → List ℕ
 places blocks = map (λ b. b.0) blocks
 
-module _ {X : Type 0} (Reads : ElementReading X) (spec : Spec) (code : ℕ → Bool) where
-  block_low : (low : ℕ) (ls left : Lines) (b : ℕ × Listing X) → BlockRead Reads spec code low ls (Some b) left → low ≤ b.0
-  block_low low ls left b (block {at = a} {later = l} x e r) = at_low code low ls a l e
+module _ {X W : Type 0} (Reads : ElementReading X) (word_in : WordReading W) (spec : Spec) (code : ℕ → Bool) where
+  block_low : (low : ℕ) (ls left : Lines) (b : ℕ × Listing X) (ending : Option (Ending W)) → BlockRead Reads word_in spec code low ls (Some b) ending left → low ≤ b.0
+  block_low low ls left b ending (block {at = a} {later = l} x e r) = at_low code low ls a l e
 
-  places_ascend : (low : ℕ) (ls : Lines) (blocks : List (ℕ × Listing X)) → AreRead Reads spec code low ls blocks None → IsAscendingFrom low (places blocks)
-  places_ascend low ls [] h = tt
-  places_ascend low ls (b ∷ blocks) (onto {at = a} {later = l} {b = x} r rest) = (block_low low ls l (a, x) r, places_ascend (a + 1) l blocks rest)
+  places_ascend : (low : ℕ) (ls : Lines) (blocks : List (ℕ × Listing X)) (ends : List (ℕ × Option (Ending W))) → AreRead Reads word_in spec code low ls blocks ends None → IsAscendingFrom low (places blocks)
+  places_ascend low ls [] ends h = tt
+  places_ascend low ls (b ∷ blocks) ends (onto {at = a} {later = l} {b = x} {ending = e} {ends = es} r rest) = (block_low low ls l (a, x) e r, places_ascend (a + 1) l blocks es rest)
 
 listed_place : {X : Type 0} (blocks : List (ℕ × Listing X)) (a : ℕ) (b : Listing X) → listings_of blocks a ≡ Some b → IsTrue (is_code (places blocks) a)
 listed_place [] a b e = cc
@@ -74,22 +77,30 @@ places_length [] = refl
 places_length (b ∷ blocks) = ap (λ (n : ℕ). suc n) (places_length blocks)
 
 -- There are at most as many blocks as were read.
-few_read : {X E : Type 0} (view : X → E) (Reads : ElementReading E) (spec : Spec) (image : Image) (base bytes : List ℕ) (table : Table X) (is : IsTableIn Reads spec base image bytes (listings view table))
-    → IsOrdered nat_cmp table.blocks → btree_map_len table.blocks ≤ length is.blocks
-few_read view Reads spec image base bytes table is ordered =
-    let few = few_places (places is.blocks) table.blocks (places_ascend Reads spec (is_word_of image) 0 is.later is.blocks is.are_read) ordered
+few_read : {X E W : Type 0} (view : X → E) (Reads : ElementReading E) (word : WordReading W) (spec : Spec) (image : Image) (base bytes : List ℕ) (table : Table X) (ends : Endings W)
+    (is : IsOpenTableIn Reads word spec base image bytes (listings view table) ends) → IsOrdered nat_cmp table.blocks → btree_map_len table.blocks ≤ length is.blocks
+few_read view Reads word spec image base bytes table ends is ordered =
+    let few = few_places (places is.blocks) table.blocks (places_ascend Reads word spec (is_word_of image) 0 is.later is.blocks is.ends is.are_read) ordered
     (λ a b got. listed_place is.blocks a (listing view b) (sym (is.table a) ∙ ap (option_map (listing view)) got)) in
     let same = places_length is.blocks in
     omega (arith, few, same)
 
-module _ {X E W N C : Type 0} (own : Own X E W N C) (spec : Spec) (image : Image) (base bytes : List ℕ) (table : Table X)
-    (is : IsTableIn own.Reads spec base image bytes (listings (λ x. x) table)) (ordered : IsOrdered nat_cmp table.blocks) where
-  block_seen : (found : Option (Block X)) → option_map (listing own.view) found ≡ option_map (seen_listing own.view) (option_map (listing (λ x. x)) found)
-  block_seen (Some b) = refl
-  block_seen None = refl
+block_seen : {X E : Type 0} (view : X → E) (found : Option (Block X)) → option_map (listing view) found ≡ option_map (seen_listing view) (option_map (listing (λ x. x)) found)
+block_seen view (Some b) = refl
+block_seen view None = refl
 
-  pub own_works : (old new : ℕ) → new ≤ old + btree_map_len table.blocks → IsWorkOn (as_defined own) image base spec bytes old new
-  own_works old new most =
-      let seen = table_seen own.view own.Reads (as_defined own).Reads spec base image (λ ls r left is. (r, refl, is)) bytes (listings (λ x. x) table) (listings own.view table) (λ a. block_seen (get nat_cmp table.blocks a)) is in
-      let few = few_read own.view (as_defined own).Reads spec image base bytes table seen ordered in
+module _ {X E W N C : Type 0} (own : Own X E W N C) (spec : Spec) (image : Image) (base bytes : List ℕ) (table : Table X) where
+  pub own_works : IsTableIn own.Reads own.word_in spec base image bytes (listings (λ x. x) table) → IsOrdered nat_cmp table.blocks
+      → (old new : ℕ) → new ≤ old + btree_map_len table.blocks → IsWorkOn (as_defined own) image base spec bytes old new
+  own_works is ordered old new most =
+      let seen = table_seen own.view own.Reads (as_defined own).Reads own.word_in spec base image (λ ls r left is. (r, refl, is)) bytes (listings (λ x. x) table) (listings own.view table) (λ a. block_seen own.view (get nat_cmp table.blocks a)) is in
+      let few = few_read own.view (as_defined own).Reads own.word_in spec image base bytes table (λ a. None) seen ordered in
       inr (listings own.view table, seen, omega (arith, most, few))
+
+  -- where blocks may be left open
+  pub own_open_works : (ends : Endings W) → IsOpenTableIn own.Reads own.word_in spec base image bytes (listings (λ x. x) table) ends → IsOrdered nat_cmp table.blocks
+      → (old new : ℕ) → new ≤ old + (btree_map_len table.blocks + btree_map_len table.blocks) → IsOpenWorkOn (as_defined own) image base spec bytes old new
+  own_open_works ends is ordered old new most =
+      let seen = open_table_seen own.view own.Reads (as_defined own).Reads own.word_in spec base image (λ ls r left is. (r, refl, is)) bytes (listings (λ x. x) table) (listings own.view table) ends (λ a. block_seen own.view (get nat_cmp table.blocks a)) is in
+      let few = few_read own.view (as_defined own).Reads own.word_in spec image base bytes table ends seen ordered in
+      inr (listings own.view table, ends, seen, omega (arith, most, few))

@@ -9,19 +9,18 @@ use Rattle.claim_laws.specs.Answers.{Telling}
 use Rattle.claim_laws.specs.Claims.{Claim}
 use Rattle.claim_text.specs.Answers.{answers}
 use Rattle.claim_text.specs.Reading.{has_word, read}
-use Rattle.table_faults.specs.declared.table_error.TableError.{TableError}
-use Rattle.table_reader.specs.Tables.{IsErrorIn, IsTableIn}
+use Rattle.table_reader.specs.Tables.{IsTableIn}
 use Rattle.transfer_laws.specs.Problem.{Problem}
-use Rattle.run_steps.specs.Outcome.{Outcome, claims_refused, table_refused}
+use Rattle.run_steps.specs.Outcome.{Outcome, Refusal, claims_refused}
 use Rattle.analysis_domains.specs.Analyses.{analysis}
 use Rattle.analysis_domains.specs.Closed.{ByVerdict}
-use Rattle.domain_tasks.specs.Own.{IsOwnJudged, Own, as_defined}
+use Rattle.domain_tasks.specs.Own.{IsOwnJudged, IsOwnRefused, Own, as_defined}
 
 -- Elements tell this of claims.
 module _ {X E W N C : Type 0} (own : Own X E W N C) (K : Telling X) (p : Problem) where
   pub data OwnClaims (image : Image) (base bytes list : List ℕ) : Outcome → Type 0 where
-    refused : {error : TableError} → IsErrorIn own.Reads p.spec base image bytes error → OwnClaims image base bytes list (Err (table_refused error))
-    unread : {error : ClaimError} (table : Table X) → IsTableIn own.Reads p.spec base image bytes (listings (λ x. x) table) → read K (has_word image) p.spec list ≡ Err error
+    refused : {refusal : Refusal} → IsOwnRefused own p.spec image base bytes refusal → OwnClaims image base bytes list (Err refusal)
+    unread : {error : ClaimError} (table : Table X) → IsTableIn own.Reads own.word_in p.spec base image bytes (listings (λ x. x) table) → read K (has_word image) p.spec list ≡ Err error
         → OwnClaims image base bytes list (Err (claims_refused error))
     judged : {outcome : Outcome} (table : Table X) (claims : List Claim) → IsOwnJudged own p image base bytes table → read K (has_word image) p.spec list ≡ Ok claims
         → ByVerdict own.word_text (λ text. text ≡ answers K (listings (λ x. x) table) claims) (verdict_of (analysis (as_defined own) p) (listings own.view table)) outcome

@@ -14,8 +14,12 @@ use Rattle.transfer_laws.specs.Problem.{Problem}
 use Rattle.transfer_laws.specs.Runs.{IsTrueOfRuns}
 use Rattle.element_text.specs.Parts.{ElementText}
 use Rattle.element_readers.specs.Reading.{ElementReading}
+use Rattle.element_readers.specs.Words.{WordReading}
 use Rattle.table_faults.specs.declared.table_error.TableError.{TableError}
-use Rattle.table_reader.specs.Tables.{IsErrorIn, IsTableIn}
+use Rattle.open_tables.specs.Endings.{Endings}
+use Rattle.table_reader.specs.Tables.{IsErrorIn, IsOpenTableIn, IsTableIn}
+use Rattle.table_readings.specs.Readings.{IsFirstOpen}
+use Rattle.table_text.specs.Open.{IsOpenTableText}
 use Rattle.fixed_point.specs.Verdicts.{verdict_of}
 use Rattle.fixed_point.specs.declared.verdict.Verdict.{Verdict}
 use Rattle.fixed_point.specs.declared.verdict.Verdict.TheVariants as v
@@ -23,7 +27,8 @@ use Rattle.spec_types.specs.Specification.{Spec}
 use Rattle.analysis_domains.specs.Checks.{outcome_of}
 use Rattle.table_text.specs.Tables.{IsTableText}
 use Rattle.run_steps.specs.Outcome as o
-use Rattle.run_steps.specs.Outcome.{Outcome, table_refused, text}
+use Rattle.run_steps.specs.Outcome.{Outcome, Refusal, rejected, table_refused, text}
+use Rattle.run_steps.specs.declared.rejection.Rejection.TheVariants as r
 use Rattle.analysis_domains.specs.Analyses.{IsShort, IsStop, analysis}
 use Rattle.analysis_domains.specs.Domains.{DomainOf}
 use Rattle.analysis_domains.specs.Tasks.{Task}
@@ -38,6 +43,7 @@ pub record Own (X E W N C : Type 0) : Type 1 where
   pub view : X → E
   pub IsText : ElementText X
   pub Reads : ElementReading X
+  pub word_in : WordReading W
   pub word_text : ℕ → W → List ℕ
 
 -- elements that tell nothing of claims
@@ -61,9 +67,20 @@ module _ {X E W N C : Type 0} (own : Own X E W N C) where
     meaning = own.meaning;
     IsText = λ spec e t. (x : X) × (own.view x ≡ e) × own.IsText spec x t;
     Reads = λ spec code ls r rest. (x : Option X) × (option_map own.view x ≡ r) × own.Reads spec code ls x rest;
+    word_in = own.word_in;
     word_text = own.word_text;
     telling = silent;
   }
+
+  -- A text is refused that is to be of a table of which no block is left open.
+  pub data IsOwnRefused (spec : Spec) (image : Image) (base bytes : List ℕ) : Refusal → Type 0 where
+    faulty : {error : TableError} → IsErrorIn own.Reads own.word_in spec base image bytes error → IsOwnRefused spec image base bytes (table_refused error)
+    left_open : {at : ℕ} (table : Table X) (ends : Endings W) → IsOpenTableIn own.Reads own.word_in spec base image bytes (listings (λ x. x) table) ends → IsFirstOpen ends at
+        → IsOwnRefused spec image base bytes (rejected (r.Targets at))
+
+  abbrev pub OwnRefuses : Spec → Image → List ℕ → List ℕ → Outcome → Type 0
+  OwnRefuses spec image base bytes (Ok answer) = ⊥
+  OwnRefuses spec image base bytes (Err refusal) = IsOwnRefused spec image base bytes refusal
 
   module _ (p : Problem) where
     -- A table of the code is that of the analysis, true of the runs, and the bytes are its text.
@@ -94,20 +111,20 @@ module _ {X E W N C : Type 0} (own : Own X E W N C) where
 
     -- A table of the code is that of the text, fits, and is true of the runs where it is closed.
     pub record IsOwnJudged (image : Image) (base bytes : List ℕ) (table : Table X) : Type 0 where
-      pub is_table : IsTableIn own.Reads p.spec base image bytes (listings (λ x. x) table)
+      pub is_table : IsTableIn own.Reads own.word_in p.spec base image bytes (listings (λ x. x) table)
       pub fits : TableFits (analysis as_defined p) (listings own.view table)
       pub is_true : verdict_of (analysis as_defined p) (listings own.view table) ≡ v.Accepted → IsTrueOfRuns own.base own.elements p (listings own.view table)
 
     pub data OwnJudges (image : Image) (base bytes : List ℕ) : Outcome → Type 0 where
-      refused : {error : TableError} → IsErrorIn own.Reads p.spec base image bytes error → OwnJudges image base bytes (Err (table_refused error))
+      refused : {refusal : Refusal} → IsOwnRefused p.spec image base bytes refusal → OwnJudges image base bytes (Err refusal)
       judged : (table : Table X) → IsOwnJudged image base bytes table → OwnJudges image base bytes (outcome_of own.word_text (verdict_of (analysis as_defined p) (listings own.view table)))
 
   -- ---- conversions
 
   pub data OwnRewrites (spec : Spec) (image : Image) (base bytes : List ℕ) : Outcome → Type 0 where
-    unread : {error : TableError} → IsErrorIn own.Reads spec base image bytes error → OwnRewrites spec image base bytes (Err (table_refused error))
-    rewritten : (table : Table X) (new : List ℕ) → IsTableIn own.Reads spec base image bytes (listings (λ x. x) table) → IsTableText (own.IsText spec) spec image base (listings (λ x. x) table) new
-        → OwnRewrites spec image base bytes (Ok (text new))
+    unread : {error : TableError} → IsErrorIn own.Reads own.word_in spec base image bytes error → OwnRewrites spec image base bytes (Err (table_refused error))
+    rewritten : (table : Table X) (ends : Endings W) (new : List ℕ) → IsOpenTableIn own.Reads own.word_in spec base image bytes (listings (λ x. x) table) ends
+        → IsOpenTableText own.word_text (own.IsText spec) spec image base (listings (λ x. x) table) ends new → OwnRewrites spec image base bytes (Ok (text new))
 
   -- ---- how many transfers it takes
 

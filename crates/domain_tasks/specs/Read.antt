@@ -19,7 +19,7 @@ use Rattle.run_steps.specs.declared.outcome.Halt.TheVariants.{NoMemory, Refused}
 use Rattle.run_steps.specs.declared.outcome.Refusal.TheVariants.{UndecodableAt, TooManyTargets}
 use Rattle.domain_tasks.specs.declared.task.Start.{Start}
 use Rattle.domain_tasks.specs.declared.task.Task.{Task}
-use Rattle.domain_tasks.specs.declared.task.Task.TheVariants.{Analyse, AnalyseOpen, Check, Claims, Convert, Slice}
+use Rattle.domain_tasks.specs.declared.task.Task.TheVariants.{Analyse, AnalyseOpen, Check, CheckOpen, Claims, ClaimsOpen, Convert, Measure, Slice, SliceOpen}
 
 -- The specification is accepted, this is its machine, its states have fields with 32-bit numbers, and the entry was read from some text.
 pub record IsRead (spec : Spec) (machine : Machine) (entry : Entry) : Type 0 where
@@ -42,19 +42,27 @@ problem_at spec image start = problem_of spec start.machine image (entry_of star
 abbrev pub task_of : Spec → Image → Task → asked.Task
 task_of spec image (Analyse start) = asked.analyse (problem_at spec image start)
 task_of spec image (AnalyseOpen start) = asked.analyse_open (problem_at spec image start)
+task_of spec image (Measure start) = asked.measure (problem_at spec image start)
 task_of spec image (Check start table) = asked.check (problem_at spec image start) table.now
+task_of spec image (CheckOpen start table) = asked.check_open (problem_at spec image start) table.now
 task_of spec image (Convert table) = asked.convert spec table.now
 task_of spec image (Slice start table at cell) = asked.slice (problem_at spec image start) table.now at cell
+task_of spec image (SliceOpen start table at cell) = asked.slice_open (problem_at spec image start) table.now at cell
 task_of spec image (Claims start table claims) = asked.claims (problem_at spec image start) table.now claims.now
+task_of spec image (ClaimsOpen start table claims) = asked.claims_open (problem_at spec image start) table.now claims.now
 
 -- what was read is so, and texts are not too long
 abbrev pub IsAsked : Spec → Task → Type 0
 IsAsked spec (Analyse start) = IsRead spec start.machine (entry_of start.entry.now)
 IsAsked spec (AnalyseOpen start) = IsRead spec start.machine (entry_of start.entry.now)
+IsAsked spec (Measure start) = IsRead spec start.machine (entry_of start.entry.now)
 IsAsked spec (Check start table) = IsRead spec start.machine (entry_of start.entry.now) × (length table.now < 2 ^ 32)
+IsAsked spec (CheckOpen start table) = IsRead spec start.machine (entry_of start.entry.now) × (length table.now < 2 ^ 32)
 IsAsked spec (Convert table) = IsMachine spec × (length table.now < 2 ^ 32)
 IsAsked spec (Slice start table at cell) = IsRead spec start.machine (entry_of start.entry.now) × (length table.now < 2 ^ 32)
+IsAsked spec (SliceOpen start table at cell) = IsRead spec start.machine (entry_of start.entry.now) × (length table.now < 2 ^ 32)
 IsAsked spec (Claims start table claims) = IsRead spec start.machine (entry_of start.entry.now) × (length table.now < 2 ^ 32) × (length claims.now < 2 ^ 32 - 1)
+IsAsked spec (ClaimsOpen start table claims) = IsRead spec start.machine (entry_of start.entry.now) × (length table.now < 2 ^ 32) × (length claims.now < 2 ^ 32 - 1)
 
 -- ---- what is answered
 

@@ -5,17 +5,15 @@ use Rattle.fixed_point.specs.Verdicts.{verdict_of}
 use Rattle.fixed_point.specs.Views.{listings}
 use Rattle.fixed_point.specs.declared.table.Table.{Table}
 use Rattle.slice_text.specs.declared.asked.Asked.{Asked}
-use Rattle.table_faults.specs.declared.table_error.TableError.{TableError}
-use Rattle.table_reader.specs.Tables.{IsErrorIn}
 use Rattle.transfer_laws.specs.Problem.{Problem}
-use Rattle.run_steps.specs.Outcome.{Outcome, table_refused}
+use Rattle.run_steps.specs.Outcome.{Outcome, Refusal}
 use Rattle.analysis_domains.specs.Analyses.{analysis}
 use Rattle.analysis_domains.specs.Closed.{ByVerdict}
 use Rattle.analysis_domains.specs.Slices.{IsSliceText}
-use Rattle.domain_tasks.specs.Own.{IsOwnJudged, Own, as_defined}
+use Rattle.domain_tasks.specs.Own.{IsOwnJudged, IsOwnRefused, Own, as_defined}
 
 module _ {X E W N C : Type 0} (own : Own X E W N C) (p : Problem) where
   pub data OwnSlices (image : Image) (base bytes : List ℕ) (at : ℕ) (cell : Asked) : Outcome → Type 0 where
-    refused : {error : TableError} → IsErrorIn own.Reads p.spec base image bytes error → OwnSlices image base bytes at cell (Err (table_refused error))
+    refused : {refusal : Refusal} → IsOwnRefused own p.spec image base bytes refusal → OwnSlices image base bytes at cell (Err refusal)
     judged : {outcome : Outcome} (table : Table X) → IsOwnJudged own p image base bytes table
         → ByVerdict own.word_text (IsSliceText p.spec (listings (λ x. x) table) at cell) (verdict_of (analysis (as_defined own) p) (listings own.view table)) outcome → OwnSlices image base bytes at cell outcome

@@ -10,6 +10,7 @@ ghost use Rattle.domain_tasks.specs.Own.{OwnJudges, OwnWork};
 ghost use Rattle.analysis_domains.specs.Tasks as asked;
 ghost use Rattle.domain_tasks.specs.Read.{IsRead, IsTextOf, problem_at};
 
+use crate::closed_table::read_closed;
 use crate::task::{Start, Subject};
 use crate::verdict::{closed, verdict_in};
 use analysis_domains::NamedDomain;
@@ -18,10 +19,9 @@ use run_steps::{Answer, Halt};
 use std::alloc::{AllocError as NoMemory, Global};
 use std::sync::ledger::Ledger;
 use step_counter::Steps;
-use table_reader::read_table;
 
 /// What is answered for a table that is closed.
-fn accepted(alloc: Global) -> Result<Answer, NoMemory>
+pub(crate) fn accepted(alloc: Global) -> Result<Answer, NoMemory>
     ensures { IfOk result (λ answer. IsTextOf (λ bytes. bytes ≡ accepted_line) (answer_of answer)) }
 {
     Ok(Answer::Text(Vec::from_slice(alloc, b"accepted\n")?))
@@ -41,10 +41,10 @@ pub(crate) fn checked_in<'a, 'b, D: NamedDomain, L: Ledger>(
     requires made { IsTrue (D.is_for domain.now (specification it.now.spec.now)) }
     requires read { IsRead (specification it.now.spec.now) start.now.machine (entry_of start.now.entry.now) }
     requires short { length bytes.now < 2 ^ 32 }
-    ensures gives { Gives (OwnJudges (record { base = D.B.algebra; cap = D.B.CAP; elements = D.elements domain.now; meaning = D.meaning domain.now; view = D.view; IsText = D.IsText; Reads = D.Reads domain.now; word_text = D.word_text }) (problem_at (specification it.now.spec.now) it.now.image.now start.now) it.now.image.now (base_text base) bytes.now) answer_of result }
-    ensures work { OwnWork (record { base = D.B.algebra; cap = D.B.CAP; elements = D.elements domain.now; meaning = D.meaning domain.now; view = D.view; IsText = D.IsText; Reads = D.Reads domain.now; word_text = D.word_text }) it.now.image.now (base_text base) (asked.check (problem_at (specification it.now.spec.now) it.now.image.now start.now) bytes.now) steps.old steps.new }
+    ensures gives { Gives (OwnJudges (record { base = D.B.algebra; cap = D.B.CAP; elements = D.elements domain.now; meaning = D.meaning domain.now; view = D.view; IsText = D.IsText; Reads = D.Reads domain.now; word_in = D.word_in domain.now; word_text = D.word_text }) (problem_at (specification it.now.spec.now) it.now.image.now start.now) it.now.image.now (base_text base) bytes.now) answer_of result }
+    ensures work { OwnWork (record { base = D.B.algebra; cap = D.B.CAP; elements = D.elements domain.now; meaning = D.meaning domain.now; view = D.view; IsText = D.IsText; Reads = D.Reads domain.now; word_in = D.word_in domain.now; word_text = D.word_text }) it.now.image.now (base_text base) (asked.check (problem_at (specification it.now.spec.now) it.now.image.now start.now) bytes.now) steps.old steps.new }
 {
-    let table = read_table::<D>(alloc, domain, it.spec, it.image, base, bytes)?;
+    let table = read_closed::<D>(alloc, domain, it, base, bytes)?;
     let verdict = verdict_in::<D, L>(alloc, domain, it, start, &table, steps)?;
     closed::<D>(alloc, &verdict)?;
     Ok(accepted(alloc)?)

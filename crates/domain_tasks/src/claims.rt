@@ -17,6 +17,7 @@ ghost use Rattle.analysis_domains.specs.Tasks as asked;
 ghost use Rattle.domain_tasks.specs.Own.{OwnWork};
 ghost use Rattle.domain_tasks.specs.Read.{IsRead, IsTextOf, problem_at};
 
+use crate::closed_table::read_closed;
 use crate::task::{Start, Subject};
 use crate::verdict::{closed, verdict_in};
 use analysis_domains::NamedDomain;
@@ -28,10 +29,25 @@ use spec_types::Spec;
 use std::alloc::{AllocError as NoMemory, Global};
 use std::sync::ledger::Ledger;
 use step_counter::Steps;
-use table_reader::read_table;
 use tsl_claims::Claim;
 
-/// The answers of a table to claims.
+/// The answers of a table to claims, as text.
+pub(crate) fn answer_bytes<D: NamedDomain>(
+    alloc: Global,
+    domain: &D,
+    spec: &Spec,
+    table: &Table<D::Elem>,
+    claims: &[Claim],
+) -> Result<Vec<u8>, NoMemory>
+    requires made { IsTrue (D.is_for domain.now (specification spec.now)) }
+    requires fits { (at : ℕ) (b : Listing D.Elem) → listings (λ e. e) table.now at ≡ Some b → (D.elements domain.now).fits (D.view b.elem) }
+    requires claims { Each (IsClaim (D.telling domain.now) (state_type (specification spec.now)).fields) (map plain_claim claims.now) }
+    ensures { IfOk result (λ text. text.items ≡ answers (D.telling domain.now) (listings (λ x. x) table.now) (map plain_claim claims.now)) }
+{
+    Ok(answers_text::<D>(alloc, domain, spec, table, claims)?.into_bytes())
+}
+
+/// That text as an answer.
 fn answered<D: NamedDomain>(
     alloc: Global,
     domain: &D,
@@ -44,7 +60,7 @@ fn answered<D: NamedDomain>(
     requires claims { Each (IsClaim (D.telling domain.now) (state_type (specification spec.now)).fields) (map plain_claim claims.now) }
     ensures { IfOk result (λ answer. IsTextOf (λ text. text ≡ answers (D.telling domain.now) (listings (λ x. x) table.now) (map plain_claim claims.now)) (answer_of answer)) }
 {
-    Ok(Answer::Text(answers_text::<D>(alloc, domain, spec, table, claims)?.into_bytes()))
+    Ok(Answer::Text(answer_bytes::<D>(alloc, domain, spec, table, claims)?))
 }
 
 /// What the claims of a text come to in a domain that was made for the specification.
@@ -63,10 +79,10 @@ pub(crate) fn claimed_in<'a, 'b, D: NamedDomain, L: Ledger>(
     requires read { IsRead (specification it.now.spec.now) start.now.machine (entry_of start.now.entry.now) }
     requires short { length bytes.now < 2 ^ 32 }
     requires few { length list.now < 2 ^ 32 - 1 }
-    ensures gives { Gives (OwnClaims (record { base = D.B.algebra; cap = D.B.CAP; elements = D.elements domain.now; meaning = D.meaning domain.now; view = D.view; IsText = D.IsText; Reads = D.Reads domain.now; word_text = D.word_text }) (D.telling domain.now) (problem_at (specification it.now.spec.now) it.now.image.now start.now) it.now.image.now (base_text base) bytes.now list.now) answer_of result }
-    ensures work { OwnWork (record { base = D.B.algebra; cap = D.B.CAP; elements = D.elements domain.now; meaning = D.meaning domain.now; view = D.view; IsText = D.IsText; Reads = D.Reads domain.now; word_text = D.word_text }) it.now.image.now (base_text base) (asked.claims (problem_at (specification it.now.spec.now) it.now.image.now start.now) bytes.now list.now) steps.old steps.new }
+    ensures gives { Gives (OwnClaims (record { base = D.B.algebra; cap = D.B.CAP; elements = D.elements domain.now; meaning = D.meaning domain.now; view = D.view; IsText = D.IsText; Reads = D.Reads domain.now; word_in = D.word_in domain.now; word_text = D.word_text }) (D.telling domain.now) (problem_at (specification it.now.spec.now) it.now.image.now start.now) it.now.image.now (base_text base) bytes.now list.now) answer_of result }
+    ensures work { OwnWork (record { base = D.B.algebra; cap = D.B.CAP; elements = D.elements domain.now; meaning = D.meaning domain.now; view = D.view; IsText = D.IsText; Reads = D.Reads domain.now; word_in = D.word_in domain.now; word_text = D.word_text }) it.now.image.now (base_text base) (asked.claims (problem_at (specification it.now.spec.now) it.now.image.now start.now) bytes.now list.now) steps.old steps.new }
 {
-    let table = read_table::<D>(alloc, domain, it.spec, it.image, base, bytes)?;
+    let table = read_closed::<D>(alloc, domain, it, base, bytes)?;
     let claims = read_claims::<D>(alloc, domain, it.spec, it.image, list)?;
     let verdict = verdict_in::<D, L>(alloc, domain, it, start, &table, steps)?;
     closed::<D>(alloc, &verdict)?;

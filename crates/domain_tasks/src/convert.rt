@@ -7,13 +7,13 @@ ghost use Rattle.run_steps.specs.Outcomes.{Gives, answer_of};
 ghost use Rattle.domain_tasks.specs.Own.{OwnRewrites};
 ghost use Rattle.domain_tasks.specs.Read.{IsMachine};
 
-use crate::table::tabled;
+use crate::left_open::open_tabled;
 use crate::task::Subject;
 use analysis_domains::NamedDomain;
 use command_words::BaseName;
 use run_steps::{Answer, Halt};
 use std::alloc::Global;
-use table_reader::read_table;
+use table_reader::{OpenTable, read_table};
 
 /// What a text is written as in a domain that was made for the specification.
 pub(crate) fn converted_in<'a, 'b, D: NamedDomain>(
@@ -26,8 +26,10 @@ pub(crate) fn converted_in<'a, 'b, D: NamedDomain>(
     requires made { IsTrue (D.is_for domain.now (specification it.now.spec.now)) }
     requires machine { IsMachine (specification it.now.spec.now) }
     requires short { length bytes.now < 2 ^ 32 }
-    ensures { Gives (OwnRewrites (record { base = D.B.algebra; cap = D.B.CAP; elements = D.elements domain.now; meaning = D.meaning domain.now; view = D.view; IsText = D.IsText; Reads = D.Reads domain.now; word_text = D.word_text }) (specification it.now.spec.now) it.now.image.now (base_text base) bytes.now) answer_of result }
+    ensures { Gives (OwnRewrites (record { base = D.B.algebra; cap = D.B.CAP; elements = D.elements domain.now; meaning = D.meaning domain.now; view = D.view; IsText = D.IsText; Reads = D.Reads domain.now; word_in = D.word_in domain.now; word_text = D.word_text }) (specification it.now.spec.now) it.now.image.now (base_text base) bytes.now) answer_of result }
 {
-    let table = read_table::<D>(alloc, domain, it.spec, it.image, base, bytes)?;
-    Ok(tabled::<D>(alloc, it.spec, it.image, base, &table)?)
+    let OpenTable { table, endings } = read_table::<D>(
+        alloc, domain, it.spec, it.image, base, bytes,
+    )?;
+    Ok(open_tabled::<D>(alloc, it.spec, it.image, base, &table, &endings)?)
 }

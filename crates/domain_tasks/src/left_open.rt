@@ -36,7 +36,7 @@ use transfer::ImageAnalysis;
 use worklist::Report;
 
 /// The text of a table that is left open, headed by the name of a base.
-fn open_tabled<D: NamedDomain>(
+pub(crate) fn open_tabled<D: NamedDomain>(
     alloc: Global,
     spec: &Spec,
     image: &Image,
@@ -57,8 +57,8 @@ fn come_open<'a, 'b, D: NamedDomain, L: Ledger>(
     steps: &mut Steps<L>,
 ) -> Result<Answer, Halt<'b>>
     requires ready { ⟦<ImageAnalysis<'a, D> as Analyser>⟧.IsReady it.now }
-    ensures gives { Gives (OwnComesOpen (record { base = D.B.algebra; cap = D.B.CAP; elements = D.elements it.now.domain.now; meaning = D.meaning it.now.domain.now; view = D.view; IsText = D.IsText; Reads = D.Reads it.now.domain.now; word_text = D.word_text }) (problem it.now) it.now.image.now (base_text base)) answer_of result }
-    ensures work { OwnWork (record { base = D.B.algebra; cap = D.B.CAP; elements = D.elements it.now.domain.now; meaning = D.meaning it.now.domain.now; view = D.view; IsText = D.IsText; Reads = D.Reads it.now.domain.now; word_text = D.word_text }) it.now.image.now (base_text base) (asked.analyse_open (problem it.now)) steps.old steps.new }
+    ensures gives { Gives (OwnComesOpen (record { base = D.B.algebra; cap = D.B.CAP; elements = D.elements it.now.domain.now; meaning = D.meaning it.now.domain.now; view = D.view; IsText = D.IsText; Reads = D.Reads it.now.domain.now; word_in = D.word_in it.now.domain.now; word_text = D.word_text }) (problem it.now) it.now.image.now (base_text base)) answer_of result }
+    ensures work { OwnWork (record { base = D.B.algebra; cap = D.B.CAP; elements = D.elements it.now.domain.now; meaning = D.meaning it.now.domain.now; view = D.view; IsText = D.IsText; Reads = D.Reads it.now.domain.now; word_in = D.word_in it.now.domain.now; word_text = D.word_text }) it.now.image.now (base_text base) (asked.analyse_open (problem it.now)) steps.old steps.new }
 {
     let OpenReport {
         report: Report {
@@ -82,8 +82,8 @@ pub(crate) fn opened_in<'a, 'b, D: NamedDomain, L: Ledger>(
     requires joins { IsTrue D.B.algebra.joins }
     requires made { IsTrue (D.is_for domain.now (specification it.now.spec.now)) }
     requires read { IsRead (specification it.now.spec.now) start.now.machine (entry_of start.now.entry.now) }
-    ensures gives { Gives (OwnComesOpen (record { base = D.B.algebra; cap = D.B.CAP; elements = D.elements domain.now; meaning = D.meaning domain.now; view = D.view; IsText = D.IsText; Reads = D.Reads domain.now; word_text = D.word_text }) (problem_at (specification it.now.spec.now) it.now.image.now start.now) it.now.image.now (base_text base)) answer_of result }
-    ensures work { OwnWork (record { base = D.B.algebra; cap = D.B.CAP; elements = D.elements domain.now; meaning = D.meaning domain.now; view = D.view; IsText = D.IsText; Reads = D.Reads domain.now; word_text = D.word_text }) it.now.image.now (base_text base) (asked.analyse_open (problem_at (specification it.now.spec.now) it.now.image.now start.now)) steps.old steps.new }
+    ensures gives { Gives (OwnComesOpen (record { base = D.B.algebra; cap = D.B.CAP; elements = D.elements domain.now; meaning = D.meaning domain.now; view = D.view; IsText = D.IsText; Reads = D.Reads domain.now; word_in = D.word_in domain.now; word_text = D.word_text }) (problem_at (specification it.now.spec.now) it.now.image.now start.now) it.now.image.now (base_text base)) answer_of result }
+    ensures work { OwnWork (record { base = D.B.algebra; cap = D.B.CAP; elements = D.elements domain.now; meaning = D.meaning domain.now; view = D.view; IsText = D.IsText; Reads = D.Reads domain.now; word_in = D.word_in domain.now; word_text = D.word_text }) it.now.image.now (base_text base) (asked.analyse_open (problem_at (specification it.now.spec.now) it.now.image.now start.now)) steps.old steps.new }
 {
     read_problems_are_well_posed();
     it.image.is_kept();

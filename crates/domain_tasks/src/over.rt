@@ -12,6 +12,10 @@ use crate::check::checked_in;
 use crate::claims::claimed_in;
 use crate::convert::converted_in;
 use crate::left_open::opened_in;
+use crate::measure::measured_in;
+use crate::open_check::checked_open;
+use crate::open_claims::claimed_open;
+use crate::open_slice::sliced_open;
 use crate::slice::sliced_in;
 use crate::table::analysed_in;
 use crate::task::{Subject, Task};
@@ -33,20 +37,30 @@ fn done_in<'a, 'b, D: NamedDomain, L: Ledger>(
     requires joins { IsTrue D.B.algebra.joins }
     requires made { IsTrue (D.is_for domain.now (specification it.now.spec.now)) }
     requires asked { IsAsked (specification it.now.spec.now) it.now.task }
-    ensures gives { Gives (OwnComes (record { base = D.B.algebra; cap = D.B.CAP; elements = D.elements domain.now; meaning = D.meaning domain.now; view = D.view; IsText = D.IsText; Reads = D.Reads domain.now; word_text = D.word_text }) (D.telling domain.now) it.now.image.now (base_text base) (task_of (specification it.now.spec.now) it.now.image.now it.now.task)) answer_of result }
-    ensures work { OwnWork (record { base = D.B.algebra; cap = D.B.CAP; elements = D.elements domain.now; meaning = D.meaning domain.now; view = D.view; IsText = D.IsText; Reads = D.Reads domain.now; word_text = D.word_text }) it.now.image.now (base_text base) (task_of (specification it.now.spec.now) it.now.image.now it.now.task) steps.old steps.new }
+    ensures gives { Gives (OwnComes (record { base = D.B.algebra; cap = D.B.CAP; elements = D.elements domain.now; meaning = D.meaning domain.now; view = D.view; IsText = D.IsText; Reads = D.Reads domain.now; word_in = D.word_in domain.now; word_text = D.word_text }) (D.telling domain.now) it.now.image.now (base_text base) (task_of (specification it.now.spec.now) it.now.image.now it.now.task)) answer_of result }
+    ensures work { OwnWork (record { base = D.B.algebra; cap = D.B.CAP; elements = D.elements domain.now; meaning = D.meaning domain.now; view = D.view; IsText = D.IsText; Reads = D.Reads domain.now; word_in = D.word_in domain.now; word_text = D.word_text }) it.now.image.now (base_text base) (task_of (specification it.now.spec.now) it.now.image.now it.now.task) steps.old steps.new }
 {
     match &it.task {
         Task::Analyse(start) => analysed_in::<D, L>(alloc, domain, it, start, base, steps),
         Task::AnalyseOpen(start) => opened_in::<D, L>(alloc, domain, it, start, base, steps),
+        Task::Measure(start) => measured_in::<D, L>(alloc, domain, it, start, steps),
         Task::Check(start, bytes) => checked_in::<D, L>(
+            alloc, domain, it, start, base, bytes, steps,
+        ),
+        Task::CheckOpen(start, bytes) => checked_open::<D, L>(
             alloc, domain, it, start, base, bytes, steps,
         ),
         Task::Convert(bytes) => converted_in::<D>(alloc, domain, it, base, bytes),
         Task::Slice(start, bytes, at, cell) => sliced_in::<D, L>(
             alloc, domain, it, start, base, bytes, *at, *cell, steps,
         ),
+        Task::SliceOpen(start, bytes, at, cell) => sliced_open::<D, L>(
+            alloc, domain, it, start, base, bytes, *at, *cell, steps,
+        ),
         Task::Claims(start, bytes, list) => claimed_in::<D, L>(
+            alloc, domain, it, start, base, bytes, list, steps,
+        ),
+        Task::ClaimsOpen(start, bytes, list) => claimed_open::<D, L>(
             alloc, domain, it, start, base, bytes, list, steps,
         ),
     }
@@ -61,9 +75,9 @@ pub fn in_domain<'a, 'b, D: NamedDomain, L: Ledger>(
 ) -> Result<Answer, Halt<'b>>
     requires may { IsTrue D.may }
     requires asked { IsAsked (specification it.now.spec.now) it.now.task }
-    ensures gives { Gives (λ outcome. (d : D) × IsTrue (D.is_for d (specification it.now.spec.now)) × OwnComes (record { base = D.B.algebra; cap = D.B.CAP; elements = D.elements d; meaning = D.meaning d; view = D.view; IsText = D.IsText; Reads = D.Reads d; word_text = D.word_text }) (D.telling d) it.now.image.now (base_text base) (task_of (specification it.now.spec.now) it.now.image.now it.now.task) outcome) answer_of result }
+    ensures gives { Gives (λ outcome. (d : D) × IsTrue (D.is_for d (specification it.now.spec.now)) × OwnComes (record { base = D.B.algebra; cap = D.B.CAP; elements = D.elements d; meaning = D.meaning d; view = D.view; IsText = D.IsText; Reads = D.Reads d; word_in = D.word_in d; word_text = D.word_text }) (D.telling d) it.now.image.now (base_text base) (task_of (specification it.now.spec.now) it.now.image.now it.now.task) outcome) answer_of result }
     // Either nothing was done, or at most what the domain that was made takes.
-    ensures work { (steps.new ≡ steps.old) ⊎ ((d : D) × IsTrue (D.is_for d (specification it.now.spec.now)) × (OwnWork (record { base = D.B.algebra; cap = D.B.CAP; elements = D.elements d; meaning = D.meaning d; view = D.view; IsText = D.IsText; Reads = D.Reads d; word_text = D.word_text }) it.now.image.now (base_text base) (task_of (specification it.now.spec.now) it.now.image.now it.now.task) steps.old steps.new)) }
+    ensures work { (steps.new ≡ steps.old) ⊎ ((d : D) × IsTrue (D.is_for d (specification it.now.spec.now)) × (OwnWork (record { base = D.B.algebra; cap = D.B.CAP; elements = D.elements d; meaning = D.meaning d; view = D.view; IsText = D.IsText; Reads = D.Reads d; word_in = D.word_in d; word_text = D.word_text }) it.now.image.now (base_text base) (task_of (specification it.now.spec.now) it.now.image.now it.now.task) steps.old steps.new)) }
 {
     let domain = D::made(alloc, it.spec)?;
     done_in::<D, L>(alloc, &domain, it, base, steps)

@@ -12,6 +12,7 @@ ghost use Rattle.domain_tasks.specs.Own.{OwnWork};
 ghost use Rattle.domain_tasks.specs.Read.{IsRead, IsTextOf, problem_at};
 ghost use Rattle.domain_tasks.specs.Slices.{OwnSlices};
 
+use crate::closed_table::read_closed;
 use crate::task::{Start, Subject};
 use crate::verdict::{closed, verdict_in};
 use analysis_domains::NamedDomain;
@@ -23,10 +24,23 @@ use spec_types::Spec;
 use std::alloc::{AllocError as NoMemory, Global};
 use std::sync::ledger::Ledger;
 use step_counter::Steps;
-use table_reader::read_table;
 use tsl_slice::slice;
 
 /// The text of the slice of a table, for the reads of a cell by the instruction at an address.
+pub(crate) fn slice_bytes<E>(
+    alloc: Global,
+    spec: &Spec,
+    table: &Table<E>,
+    at: u32,
+    cell: Asked,
+) -> Result<Vec<u8>, NoMemory>
+    ensures { IfOk result (λ text. IsSliceText (specification spec.now) (listings (λ x. x) table.now) at cell text.items) }
+{
+    let found = slice(alloc, table, at, cell.map, cell.key)?;
+    Ok(slice_text(alloc, spec, at, cell, &found)?.into_bytes())
+}
+
+/// That text as an answer.
 fn sliced<E>(
     alloc: Global,
     spec: &Spec,
@@ -36,8 +50,7 @@ fn sliced<E>(
 ) -> Result<Answer, NoMemory>
     ensures { IfOk result (λ answer. IsTextOf (IsSliceText (specification spec.now) (listings (λ x. x) table.now) at cell) (answer_of answer)) }
 {
-    let found = slice(alloc, table, at, cell.map, cell.key)?;
-    Ok(Answer::Text(slice_text(alloc, spec, at, cell, &found)?.into_bytes()))
+    Ok(Answer::Text(slice_bytes(alloc, spec, table, at, cell)?))
 }
 
 /// What the slice of a text comes to in a domain that was made for the specification.
@@ -56,10 +69,10 @@ pub(crate) fn sliced_in<'a, 'b, D: NamedDomain, L: Ledger>(
     requires made { IsTrue (D.is_for domain.now (specification it.now.spec.now)) }
     requires read { IsRead (specification it.now.spec.now) start.now.machine (entry_of start.now.entry.now) }
     requires short { length bytes.now < 2 ^ 32 }
-    ensures gives { Gives (OwnSlices (record { base = D.B.algebra; cap = D.B.CAP; elements = D.elements domain.now; meaning = D.meaning domain.now; view = D.view; IsText = D.IsText; Reads = D.Reads domain.now; word_text = D.word_text }) (problem_at (specification it.now.spec.now) it.now.image.now start.now) it.now.image.now (base_text base) bytes.now at cell) answer_of result }
-    ensures work { OwnWork (record { base = D.B.algebra; cap = D.B.CAP; elements = D.elements domain.now; meaning = D.meaning domain.now; view = D.view; IsText = D.IsText; Reads = D.Reads domain.now; word_text = D.word_text }) it.now.image.now (base_text base) (asked.slice (problem_at (specification it.now.spec.now) it.now.image.now start.now) bytes.now at cell) steps.old steps.new }
+    ensures gives { Gives (OwnSlices (record { base = D.B.algebra; cap = D.B.CAP; elements = D.elements domain.now; meaning = D.meaning domain.now; view = D.view; IsText = D.IsText; Reads = D.Reads domain.now; word_in = D.word_in domain.now; word_text = D.word_text }) (problem_at (specification it.now.spec.now) it.now.image.now start.now) it.now.image.now (base_text base) bytes.now at cell) answer_of result }
+    ensures work { OwnWork (record { base = D.B.algebra; cap = D.B.CAP; elements = D.elements domain.now; meaning = D.meaning domain.now; view = D.view; IsText = D.IsText; Reads = D.Reads domain.now; word_in = D.word_in domain.now; word_text = D.word_text }) it.now.image.now (base_text base) (asked.slice (problem_at (specification it.now.spec.now) it.now.image.now start.now) bytes.now at cell) steps.old steps.new }
 {
-    let table = read_table::<D>(alloc, domain, it.spec, it.image, base, bytes)?;
+    let table = read_closed::<D>(alloc, domain, it, base, bytes)?;
     let verdict = verdict_in::<D, L>(alloc, domain, it, start, &table, steps)?;
     closed::<D>(alloc, &verdict)?;
     Ok(sliced(alloc, it.spec, &table, at, cell)?)

@@ -44,7 +44,7 @@ pub(crate) fn counter_text<D: NamedDomain>(
 }
 
 /// Why an analysis has no table.
-fn stopped<'b, D: NamedDomain>(
+pub(crate) fn stopped<'b, D: NamedDomain>(
     alloc: Global,
     error: &AnalyseError<<D::B as Base>::Word>,
 ) -> Halt<'b>
@@ -64,7 +64,7 @@ fn stopped<'b, D: NamedDomain>(
 }
 
 /// The text of a table, headed by the name of a base.
-pub(crate) fn tabled<D: NamedDomain>(
+fn tabled<D: NamedDomain>(
     alloc: Global,
     spec: &Spec,
     image: &Image,
@@ -84,8 +84,8 @@ fn come_to<'a, 'b, D: NamedDomain, L: Ledger>(
     steps: &mut Steps<L>,
 ) -> Result<Answer, Halt<'b>>
     requires ready { ⟦<ImageAnalysis<'a, D> as Analyser>⟧.IsReady it.now }
-    ensures gives { Gives (OwnComesTo (record { base = D.B.algebra; cap = D.B.CAP; elements = D.elements it.now.domain.now; meaning = D.meaning it.now.domain.now; view = D.view; IsText = D.IsText; Reads = D.Reads it.now.domain.now; word_text = D.word_text }) (problem it.now) it.now.image.now (base_text base)) answer_of result }
-    ensures work { OwnWork (record { base = D.B.algebra; cap = D.B.CAP; elements = D.elements it.now.domain.now; meaning = D.meaning it.now.domain.now; view = D.view; IsText = D.IsText; Reads = D.Reads it.now.domain.now; word_text = D.word_text }) it.now.image.now (base_text base) (asked.analyse (problem it.now)) steps.old steps.new }
+    ensures gives { Gives (OwnComesTo (record { base = D.B.algebra; cap = D.B.CAP; elements = D.elements it.now.domain.now; meaning = D.meaning it.now.domain.now; view = D.view; IsText = D.IsText; Reads = D.Reads it.now.domain.now; word_in = D.word_in it.now.domain.now; word_text = D.word_text }) (problem it.now) it.now.image.now (base_text base)) answer_of result }
+    ensures work { OwnWork (record { base = D.B.algebra; cap = D.B.CAP; elements = D.elements it.now.domain.now; meaning = D.meaning it.now.domain.now; view = D.view; IsText = D.IsText; Reads = D.Reads it.now.domain.now; word_in = D.word_in it.now.domain.now; word_text = D.word_text }) it.now.image.now (base_text base) (asked.analyse (problem it.now)) steps.old steps.new }
 {
     match analyse(alloc, it, steps) {
         Ok(
@@ -110,8 +110,8 @@ pub(crate) fn analysed_in<'a, 'b, D: NamedDomain, L: Ledger>(
     requires joins { IsTrue D.B.algebra.joins }
     requires made { IsTrue (D.is_for domain.now (specification it.now.spec.now)) }
     requires read { IsRead (specification it.now.spec.now) start.now.machine (entry_of start.now.entry.now) }
-    ensures gives { Gives (OwnComesTo (record { base = D.B.algebra; cap = D.B.CAP; elements = D.elements domain.now; meaning = D.meaning domain.now; view = D.view; IsText = D.IsText; Reads = D.Reads domain.now; word_text = D.word_text }) (problem_at (specification it.now.spec.now) it.now.image.now start.now) it.now.image.now (base_text base)) answer_of result }
-    ensures work { OwnWork (record { base = D.B.algebra; cap = D.B.CAP; elements = D.elements domain.now; meaning = D.meaning domain.now; view = D.view; IsText = D.IsText; Reads = D.Reads domain.now; word_text = D.word_text }) it.now.image.now (base_text base) (asked.analyse (problem_at (specification it.now.spec.now) it.now.image.now start.now)) steps.old steps.new }
+    ensures gives { Gives (OwnComesTo (record { base = D.B.algebra; cap = D.B.CAP; elements = D.elements domain.now; meaning = D.meaning domain.now; view = D.view; IsText = D.IsText; Reads = D.Reads domain.now; word_in = D.word_in domain.now; word_text = D.word_text }) (problem_at (specification it.now.spec.now) it.now.image.now start.now) it.now.image.now (base_text base)) answer_of result }
+    ensures work { OwnWork (record { base = D.B.algebra; cap = D.B.CAP; elements = D.elements domain.now; meaning = D.meaning domain.now; view = D.view; IsText = D.IsText; Reads = D.Reads domain.now; word_in = D.word_in domain.now; word_text = D.word_text }) it.now.image.now (base_text base) (asked.analyse (problem_at (specification it.now.spec.now) it.now.image.now start.now)) steps.old steps.new }
 {
     read_problems_are_well_posed();
     it.image.is_kept();

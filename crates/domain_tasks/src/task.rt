@@ -22,14 +22,22 @@ pub enum Task<'a> {
     Analyse(Start<'a>),
     /// The same, where what has no decoding or too many targets is left open.
     AnalyseOpen(Start<'a>),
+    /// How long the trace of the analysis is, how many elements its table has, and the verdict on it.
+    Measure(Start<'a>),
     /// The verdict on the table that a text is.
     Check(Start<'a>, &'a [u8]),
+    /// The same, where blocks may be left open.
+    CheckOpen(Start<'a>, &'a [u8]),
     /// The table that a text is, written in format 2.
     Convert(&'a [u8]),
     /// The slice of the table that a text is, for the reads of a cell by the instruction at an address.
     Slice(Start<'a>, &'a [u8], u32, Asked),
+    /// The same, where blocks may be left open.
+    SliceOpen(Start<'a>, &'a [u8], u32, Asked),
     /// The answers of the table that a text is to the claims that another is.
     Claims(Start<'a>, &'a [u8], &'a [u8]),
+    /// The same, where blocks may be left open.
+    ClaimsOpen(Start<'a>, &'a [u8], &'a [u8]),
 }
 
 /// Of which machine and code it is asked.

@@ -58,7 +58,7 @@ pub(crate) fn closed<'b, D: NamedDomain>(
 }
 
 /// The verdict on a table, of an analysis that is ready.
-fn verdict_on<'a, D: NamedDomain, L: Ledger>(
+pub(crate) fn verdict_on<'a, D: NamedDomain, L: Ledger>(
     alloc: Global,
     it: &ImageAnalysis<'a, D>,
     table: &Table<D::Elem>,
@@ -66,7 +66,7 @@ fn verdict_on<'a, D: NamedDomain, L: Ledger>(
 ) -> Result<Verdict<<D::B as Base>::Word>, NoMemory>
     requires ready { ⟦<ImageAnalysis<'a, D> as Analyser>⟧.IsReady it.now }
     requires fits { TableFits (⟦<ImageAnalysis<'a, D> as Analyser>⟧.analysis it.now) (listings D.view table.now) }
-    ensures verdict { IfOk result (λ v. IsOwnVerdict (record { base = D.B.algebra; cap = D.B.CAP; elements = D.elements it.now.domain.now; meaning = D.meaning it.now.domain.now; view = D.view; IsText = D.IsText; Reads = D.Reads it.now.domain.now; word_text = D.word_text }) (problem it.now) table.now v) }
+    ensures verdict { IfOk result (λ v. IsOwnVerdict (record { base = D.B.algebra; cap = D.B.CAP; elements = D.elements it.now.domain.now; meaning = D.meaning it.now.domain.now; view = D.view; IsText = D.IsText; Reads = D.Reads it.now.domain.now; word_in = D.word_in it.now.domain.now; word_text = D.word_text }) (problem it.now) table.now v) }
     ensures work { steps.new ≤ steps.old + btree_map_len table.now.blocks }
 {
     check(alloc, it, table, steps)
@@ -85,7 +85,7 @@ pub(crate) fn verdict_in<'a, D: NamedDomain, L: Ledger>(
     requires made { IsTrue (D.is_for domain.now (specification it.now.spec.now)) }
     requires read { IsRead (specification it.now.spec.now) start.now.machine (entry_of start.now.entry.now) }
     requires fits { BlocksFit (is_word_of it.now.image.now) (λ x. (D.elements domain.now).fits (D.view x)) (listings (λ x. x) table.now) }
-    ensures verdict { IfOk result (λ v. IsOwnVerdict (record { base = D.B.algebra; cap = D.B.CAP; elements = D.elements domain.now; meaning = D.meaning domain.now; view = D.view; IsText = D.IsText; Reads = D.Reads domain.now; word_text = D.word_text }) (problem_at (specification it.now.spec.now) it.now.image.now start.now) table.now v) }
+    ensures verdict { IfOk result (λ v. IsOwnVerdict (record { base = D.B.algebra; cap = D.B.CAP; elements = D.elements domain.now; meaning = D.meaning domain.now; view = D.view; IsText = D.IsText; Reads = D.Reads domain.now; word_in = D.word_in domain.now; word_text = D.word_text }) (problem_at (specification it.now.spec.now) it.now.image.now start.now) table.now v) }
     ensures ordered { IsOrdered nat_cmp table.now.blocks }
     ensures work { steps.new ≤ steps.old + btree_map_len table.now.blocks }
 {

@@ -1,5 +1,5 @@
 -- What each domain reads.
-use Rattle.std.proofs.Common.{◌≡◌, ℕ, ◌≤◌, Bool, true, false, IsTrue, List, length, Option, Some, None, Result, Ok, Err, option_map, refl, sym, ap, subst, ◌∙◌, arith}
+use Rattle.std.proofs.Common.{◌≡◌, ℕ, ◌≤◌, Bool, true, IsTrue, List, length, Option, Some, None, Result, Ok, Err, option_map, sym, ap, subst, arith}
 use Rattle.std.specs.Prelude.{◌&&◌, not, codes, if◌then◌else◌, IfOk, IfSome, IsOkAnd, OnOk}
 use Rattle.base_trait.specs.Algebra.{Algebra}
 use Rattle.base_trait.proofs.Tests.{and_parts}
@@ -19,7 +19,7 @@ use Rattle.text_lines.proofs.Steps.{one_shorter}
 use Rattle.part_readers.specs.Cells.{states_read}
 use Rattle.part_readers.specs.Parts.{part_said}
 use Rattle.part_readers.specs.Rows.{rows_read}
-use Rattle.element_readers.specs.Reading.{AffineRead, AreRowsRead, CellsRead, ElementReading, PairRead, affine_read, both, no_first, no_second}
+use Rattle.element_readers.specs.Reading.{AffineRead, CellsRead, ElementReading, PairRead, both, no_first, no_second}
 use Rattle.element_readers.proofs.Shorter.{rows_shorter, states_shorter}
 
 -- whether a line came, and what is left

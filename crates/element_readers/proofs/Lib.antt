@@ -1,3 +1,4 @@
 pub mod Bodies
+pub mod FormSteps
 pub mod Shorter
 pub mod Told

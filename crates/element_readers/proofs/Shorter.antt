@@ -1,17 +1,17 @@
 -- Reading leaves no more lines than there were.
-use Rattle.std.proofs.Common.{◌≡◌, ℕ, ◌≤◌, Bool, List, [], ◌∷◌, length, Option, Some, None, slice_get, refl, sym, ap, arith}
+use Rattle.std.proofs.Common.{ℕ, ◌≤◌, Bool, List, [], ◌∷◌, length, Option, Some, None, slice_get, arith}
 use Rattle.std.specs.Prelude.{codes}
 use Rattle.spec_types.specs.declared.ty.Ty.{Ty}
 use Rattle.spec_types.specs.declared.ty.Ty.TheVariants.{Bool as Flag, Word, Data as DataTy, Map as MapOf}
 use Rattle.spec_types.specs.declared.declared.MapTy.{MapTy}
 use Rattle.spec_types.specs.Specification.{Spec}
-use Rattle.value_laws.specs.Abs.{Abs, Parts, word, part}
+use Rattle.value_laws.specs.Abs.{word, part}
 use Rattle.cell_text.specs.Places.{Field, state_fields}
 use Rattle.base_text.specs.Readings.{Readings}
 use Rattle.text_lines.specs.Lines.{Lines}
-use Rattle.text_lines.specs.Outcomes.{Reading, all_said, one, then_read}
+use Rattle.text_lines.specs.Outcomes.{Reading, one, then_read}
 use Rattle.text_lines.proofs.Steps.{all_shorter, one_shorter}
-use Rattle.part_readers.specs.Cells.{behind_counter, fields_read, listed_read, map_read, next_said, rest_said, states_read, value_read, with_rest, word_read, word_said}
+use Rattle.part_readers.specs.Cells.{behind_counter, fields_read, listed_read, map_read, next_said, rest_said, states_read, value_read, with_rest, word_said}
 use Rattle.part_readers.specs.Parts.{part_read, part_said}
 use Rattle.part_readers.specs.Rows.{next_row, rows_read}
 use Rattle.element_readers.specs.Reading.{affine_read, all_rows}

@@ -1,17 +1,15 @@
 -- What is read is one element, or none.
-use Rattle.std.proofs.Common.{◌≡◌, ℕ, ◌≤◌, Bool, true, List, length, Option, Some, None, refl, sym, ap, subst, ◌∙◌, arith}
-use Rattle.std.specs.Prelude.{codes}
+use Rattle.std.proofs.Common.{◌≡◌, ℕ, ◌≤◌, Bool, List, length, Option, Some, None, refl, sym, ap, subst, ◌∙◌, arith}
 use Rattle.base_trait.specs.Algebra.{Algebra}
-use Rattle.affine_rows.specs.Submodule.{IsMember, Submodule}
+use Rattle.affine_rows.specs.Submodule.{Submodule}
 use Rattle.spec_types.specs.Specification.{Spec}
 use Rattle.tsl_values.specs.States.{State}
 use Rattle.value_laws.specs.Abs.{Parts}
 use Rattle.fixed_point.specs.Elements.{Elements}
 use Rattle.fixed_point.specs.Outcome.{SamePost}
 use Rattle.fixed_point.specs.Pairs.{paired}
-use Rattle.domain_laws.specs.States.{StateType, has_states, state_type}
+use Rattle.domain_laws.specs.States.{StateType, state_type}
 use Rattle.cell_laws.specs.Cells.{cells}
-use Rattle.affine_laws.specs.Elements.{SameMembers}
 use Rattle.affine_calls.specs.Calls.{affine_elements, cell_count}
 use Rattle.base_text.specs.Readings.{Readings, TextsTell}
 use Rattle.base_text.specs.Texts.{Texts}
@@ -21,7 +19,7 @@ use Rattle.text_lines.proofs.Steps.{continued}
 use Rattle.part_readers.specs.Cells.{states_read}
 use Rattle.part_readers.specs.Parts.{part_read, part_said}
 use Rattle.part_readers.proofs.Fitting.{states_fit}
-use Rattle.element_readers.specs.Reading.{AffineRead, AreRowsRead, CellsRead, ElementReading, PairRead, affine_read, both, no_first, no_second}
+use Rattle.element_readers.specs.Reading.{AreRowsRead, ElementReading, PairRead, affine_read, both, no_first, no_second}
 use Rattle.element_readers.specs.Laws.{CellsAreRead, PairsAreRead, ReadingLaws, RelationsAreRead}
 use Rattle.element_readers.proofs.Shorter.{affine_shorter, cells_shorter}
 

@@ -4,17 +4,20 @@ ghost use Rattle.std.specs.Prelude.{◌≡◌, ◌≤◌, IfOk, IfSome, IsOkAnd,
 ghost use Rattle.spec_types.specs.Views.{specification};
 ghost use Rattle.insn_decode.specs.Image.{code_at};
 ghost use Rattle.element_readers.specs.Reading.{ElementReading};
+ghost use Rattle.element_readers.specs.Words.{WordReading};
 
 use crate::part::read_part;
+use crate::words::affine_word;
 use abs_value::AV;
-use affine_base::Tracked;
+use affine_base::{Tracked, Word};
 use affine_domain::AffineDomain;
 use affine_rows::Rows;
+use base_trait::Base;
 use domain_trait::Domain;
 use element_text::{ElemText, NamedBase};
 use insn_decode::Image;
 use pair_domain::PairDomain;
-use part_readers::{read_cells, read_rows};
+use part_readers::{cut, read_cells, read_rows};
 use spec_types::Spec;
 use state_domain::StateDomain;
 use std::alloc::{AllocError as NoMemory, Global};
@@ -24,6 +27,9 @@ use text_lines::LinesOf;
 pub trait ReadElement: ElemText {
     /// What is read of lines.
     ghost Reads: { Self → ElementReading Self.Elem };
+
+    /// What is read of a text as a word of 32 bits of its state values.
+    ghost word_in: { Self → WordReading Self.B.Word };
 
     /// The element that the next lines are; none, where one of them is faulty, which is then the first that is left.
     fn read_element(
@@ -37,6 +43,14 @@ pub trait ReadElement: ElemText {
         ensures reads { IfOk result (λ r. Reads self.now (specification spec.now) (λ a. is_some (code_at image.now a)) lines.old r lines.new) }
         ensures fits { IfOk result (λ r. IfSome r (λ x. (Self.elements self.now).fits (Self.view x))) }
         ensures shorter { OnOk result (length lines.new ≤ length lines.old) };
+
+    /// The word of 32 bits that a text is, of its state values; none, where it is not the text of one.
+    fn read_word(
+        &self,
+        alloc: Global,
+        text: &[u8],
+    ) -> Result<Option<<Self::B as Base>::Word>, NoMemory>
+        ensures { IfOk result (λ r. r ≡ word_in self.now text.now) };
 }
 
 impl<B: NamedBase> ReadElement for StateDomain<B> {
@@ -44,8 +58,11 @@ impl<B: NamedBase> ReadElement for StateDomain<B> {
     ghost use Rattle.value_laws.specs.Abs.{parts};
     ghost use Rattle.abs_value.specs.View.{abs};
     ghost use Rattle.element_readers.specs.Reading.{CellsRead};
+    ghost use Rattle.element_readers.specs.Words.{cells_word};
 
     ghost Reads = { λ it spec code ls r rest. CellsRead B.readings B.CAP B.named spec code ls (option_map (λ x. parts (map abs x.items)) r) rest };
+
+    ghost word_in = { λ _. cells_word B.readings };
 
     fn read_element(
         &self,
@@ -60,6 +77,10 @@ impl<B: NamedBase> ReadElement for StateDomain<B> {
         let ctx = self.ctx(alloc)?;
         read_cells::<B>(alloc, &ctx, spec, image, lines)
     }
+
+    fn read_word(&self, alloc: Global, text: &[u8]) -> Result<Option<B::Word>, NoMemory> {
+        B::word_in(alloc, 32, text)
+    }
 }
 
 /// How many cells are tracked.
@@ -73,8 +94,11 @@ fn cell_count(tracked: &Tracked) -> u32
 impl ReadElement for AffineDomain {
     ghost use Rattle.affine_calls.specs.Calls.{cell_count};
     ghost use Rattle.element_readers.specs.Reading.{AffineRead};
+    ghost use Rattle.element_readers.specs.Words.{affine_word};
 
     ghost Reads = { λ it. AffineRead (cell_count it) };
+
+    ghost word_in = { λ it. affine_word (cell_count it) };
 
     fn read_element(
         &self,
@@ -89,12 +113,20 @@ impl ReadElement for AffineDomain {
         let k = cell_count(&self.ctx(alloc)?);
         Ok(Some(read_rows(alloc, k, lines)?))
     }
+
+    fn read_word(&self, alloc: Global, text: &[u8]) -> Result<Option<Word>, NoMemory> {
+        let tracked = self.ctx(alloc)?;
+        affine_word(alloc, cell_count(&tracked), text)
+    }
 }
 
 impl<A: ReadElement, B: ReadElement> ReadElement for PairDomain<A, B> {
     ghost use Rattle.element_readers.specs.Reading.{PairRead};
+    ghost use Rattle.element_readers.specs.Words.{pair_word};
 
     ghost Reads = { λ it. PairRead (A.Reads it.first) (B.Reads it.second) };
+
+    ghost word_in = { λ it. pair_word (A.word_in it.first) (B.word_in it.second) };
 
     fn read_element(
         &self,
@@ -105,6 +137,20 @@ impl<A: ReadElement, B: ReadElement> ReadElement for PairDomain<A, B> {
     ) -> Result<Option<(A::Elem, B::Elem)>, NoMemory> {
         match self.first.read_element(alloc, spec, image, lines)? {
             Some(x) => beside(x, self.second.read_element(alloc, spec, image, lines)),
+            None => Ok(None),
+        }
+    }
+
+    fn read_word(
+        &self,
+        alloc: Global,
+        text: &[u8],
+    ) -> Result<Option<(<A::B as Base>::Word, <B::B as Base>::Word)>, NoMemory> {
+        let Some((first, second)) = cut(b' ', text) else {
+            return Ok(None);
+        };
+        match self.first.read_word(alloc, first)? {
+            Some(x) => beside(x, self.second.read_word(alloc, second)),
             None => Ok(None),
         }
     }

@@ -5,10 +5,13 @@
 //! an element is not read to its end the first line that is left is the faulty one.
 //!
 //! Rows of affine relations are read into those that a domain keeps, which generate the same submodule.
+//!
+//! A word of 32 bits, as the counter of an instruction that is left open, is read of its text (specs/Words). Each word has one text.
 #![tactic(auto)]
 
 mod element;
 pub mod laws;
 mod part;
+mod words;
 
 pub use element::ReadElement;

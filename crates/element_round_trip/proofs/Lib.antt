@@ -1,8 +1,8 @@
 pub mod Begin
-pub mod CellsBack
-pub mod CellsTold
 pub mod CellTexts
 pub mod Cells
+pub mod CellsBack
+pub mod CellsTold
 pub mod Fronts
 pub mod Keys
 pub mod NoKey
@@ -12,3 +12,4 @@ pub mod Reduced
 pub mod Relations
 pub mod Rows
 pub mod SaidLines
+pub mod Words

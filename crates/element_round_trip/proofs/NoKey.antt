@@ -79,7 +79,7 @@ IsSpaced text = (word : List ℕ) × IsWord word × (text ≡ word ++ codes " ")
 pub behind_map : (text : List ℕ) → IsBehindElement text → IsBehindMap text
 behind_map text (inl e) = empty e
 behind_map text (inr h) =
-    let front = begins_with IsSpaced text ((codes "part", refl, refl), ((codes "use", refl, refl), ((codes "next", refl, refl), ((codes "exit", refl, refl), ((codes "at", refl, refl), tt))))) h in
+    let front = begins_with IsSpaced text ((codes "part", refl, refl), ((codes "use", refl, refl), ((codes "next", refl, refl), ((codes "exit", refl, refl), ((codes "open", refl, refl), ((codes "undecodable", refl, refl), ((codes "at", refl, refl), tt))))))) h in
     spaced front.has.0 front.rest front.has.1 (front.is ∙ ap (λ (t : List ℕ). t ++ front.rest) front.has.2 ∙ append_assoc front.has.0 (codes " ") front.rest)
 
 none_is : {A : Type 0} (o : Option A) → ((x : A) → o ≡ Some x → ⊥) → o ≡ None

@@ -116,7 +116,7 @@ IsNoRow k given word = IsTrue (list_all is_inside word) × ((tail : List ℕ) �
 no_rows : (k : ℕ) (given : List (List ℕ)) (more : List ℕ) → IsBehindElement more → all_said (next_row k) given (lines more) ≡ (given, lines more)
 no_rows k given more (inl e) = rw e refl
 no_rows k given more (inr h) =
-    let word = begins_with (IsNoRow k given) more ((refl, λ tail. refl), ((refl, λ tail. refl), ((refl, λ tail. refl), ((refl, λ tail. refl), ((refl, λ tail. refl), tt))))) h in
+    let word = begins_with (IsNoRow k given) more ((refl, λ tail. refl), ((refl, λ tail. refl), ((refl, λ tail. refl), ((refl, λ tail. refl), ((refl, λ tail. refl), ((refl, λ tail. refl), ((refl, λ tail. refl), tt))))))) h in
     stops (next_row k) given word.word (lines more) word.has.1 (subst (λ (t : List ℕ). Begins word.word (lines t)) (sym word.is) (begins word.word word.rest word.has.0))
 
 rows_back : (k : ℕ) (given rows : List (List ℕ)) (more : List ℕ) → AddBehind k given rows → IsBehindElement more

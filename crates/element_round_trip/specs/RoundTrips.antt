@@ -10,7 +10,7 @@ use Rattle.element_readers.specs.Reading.{ElementReading}
 
 -- the words that lines behind an element's own begin with
 abbrev pub other_words : List (List ℕ)
-other_words = codes "part " ∷ codes "use " ∷ codes "next " ∷ codes "exit " ∷ codes "at " ∷ []
+other_words = codes "part " ∷ codes "use " ∷ codes "next " ∷ codes "exit " ∷ codes "open " ∷ codes "undecodable " ∷ codes "at " ∷ []
 
 -- A text that does not go on with the element before it: it is empty, or begins with one of these words.
 abbrev pub IsBehindElement : List ℕ → Type 0

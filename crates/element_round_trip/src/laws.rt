@@ -1,11 +1,13 @@
 //! Laws of elements that are written and read, stated in specs/Laws.antt. Nothing runs.
 
-ghost use Rattle.std.specs.Prelude.{ℕ, Bool};
+ghost use Rattle.std.specs.Prelude.{ℕ, Bool, List};
 ghost use Rattle.tsl_values.specs.States.{State};
 ghost use Rattle.fixed_point.specs.Elements.{Elements};
 ghost use Rattle.element_text.specs.Parts.{ElementText};
 ghost use Rattle.element_readers.specs.Reading.{ElementReading};
+ghost use Rattle.element_readers.specs.Words.{WordReading};
 ghost use Rattle.element_round_trip.specs.Laws.{CellsBegin, CellsRoundTrip, PairsBegin, PairsRoundTrip, RelationsBegin, RelationsRoundTrip};
+ghost use Rattle.element_round_trip.specs.Words.{CellsWordsTell, PairsWordsTell, RelationsWordsTell};
 
 use element_text::NamedBase;
 
@@ -54,4 +56,34 @@ pub fn relations_begin()
 /// Texts of pairs do, where those of their first part do.
 pub fn pairs_begin<A: WrittenElements, B: WrittenElements>()
     ensures { PairsBegin A.IsText B.IsText }
+{}
+
+/// The definitions of words that are written and read.
+pub trait WrittenWords {
+    /// What words are as plain data.
+    ghost Word: { Type 0 };
+
+    /// The text of a word of so many bits.
+    ghost write: { ℕ → Word → List ℕ };
+
+    /// What is read of a text as a word of 32 bits.
+    ghost reads: { WordReading Word };
+
+    /// Which words are of 32 bits.
+    ghost Fits: { Word → Type 0 };
+}
+
+/// Words of cells are written and read back.
+pub fn cells_words_tell<B: NamedBase>()
+    ensures { CellsWordsTell B.algebra B.texts B.readings }
+{}
+
+/// Affine words are written and read back.
+pub fn relations_words_tell()
+    ensures { RelationsWordsTell }
+{}
+
+/// Pairs of words are written and read back, where both parts are, and no text of the first has a space.
+pub fn pairs_words_tell<A: WrittenWords, B: WrittenWords>()
+    ensures { PairsWordsTell A.write B.write A.reads B.reads A.Fits B.Fits }
 {}

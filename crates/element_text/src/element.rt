@@ -20,7 +20,8 @@ use spec_types::Spec;
 use state_domain::StateDomain;
 use std::alloc::AllocError as NoMemory;
 
-/// A domain whose elements have texts. After an error nothing is said of what was appended.
+/// A domain whose elements have texts. After an error of its calls nothing is said of what was appended; `append_element` and `append_word` leave
+/// what stood there.
 pub trait ElemText: Domain {
     /// Which bytes are a text of an element, for the states of a specification.
     ghost IsText: { ElementText Self.Elem };

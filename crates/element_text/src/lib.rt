@@ -23,13 +23,16 @@
 //!
 //! What each text is, specs/Cells, specs/Rows and specs/Parts say. The text of cells is a function of the element. A submodule has
 //! many lists of generating rows: its text is that of any of them in which each row adds to those before it. So `ElemText` says
-//! which bytes are texts of an element, and its calls append one.
+//! which bytes are texts of an element, and its calls append one. After an error of them nothing is said of what was appended: callers use
+//! `append_element` and `append_word`, which leave what stood there.
 #![tactic(auto)]
 
+mod appended;
 mod cells;
 mod element;
 mod named;
 mod rows;
 
+pub use appended::{append_element, append_word};
 pub use element::ElemText;
 pub use named::NamedBase;

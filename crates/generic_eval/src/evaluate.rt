@@ -30,6 +30,9 @@ use std::alloc::Global;
 use std::sync::ledger::Ledger;
 use step_counter::Steps;
 
+/// How much room a call takes besides its own term's. It takes about twice as much stack as a term does.
+const CALL: u32 = 1;
+
 /// What a term of a function of a group gives to a turn, in tail position or not. Outside of it each value is a leaf. Where no room is
 /// left to nest a term or a plan in those that are underway, memory has run out.
 #[cycle(eval)]
@@ -320,6 +323,7 @@ pub(crate) fn call<B: Base, K: Known<B>, L: Ledger>(
         }
     };
     let mut own = Log::new(alloc);
+    let room = room.saturating_sub(CALL);
     match activation::<B, K, L>(alloc, setting, room, fun, again, memo, steps, &mut own) {
         Ok(value) => {
             Ok(recorded::<B, K, L>(alloc, setting, fun, args, value, own, memo, steps, log)?)

@@ -24,16 +24,16 @@ use std::marker::Brand;
 use std::sync::ledger::{Blank, Ledger};
 use step_counter::Steps;
 
-/// How many terms and plans of branches may stand within one another, over all calls that are underway. Deeper evaluations answer
-/// `NoMemory`, since each takes about a KiB of the stack.
-const MOST_NESTED: u32 = 4_000;
+/// How many terms and plans of branches may stand within one another, over all calls that are underway. A call of another group
+/// counts as one more. Deeper evaluations answer `NoMemory`, since each takes up to 4 KiB of the stack, over words that are sets.
+const MOST_NESTED: u32 = 1_800;
 
 /// The value of a call, or none; its reads are added to the log.
 ///
 /// The memo is one of the same setting. A call that it holds is not evaluated again; one of a function of the specification that is new
 /// is kept there, and ticks one step. `Deep` names the function of the first activation that had no turn left. After an error the memo
-/// and the log may have grown. Where more than 4,000 terms and plans of branches stand within one another, over all calls
-/// that are underway, there is no memory for them.
+/// and the log may have grown. Where more than 1,800 terms and plans of branches stand within one another, over all calls
+/// that are underway, each of which counts as one more, there is no memory for them.
 pub fn eval<B: Base, L: Ledger>(
     alloc: Global,
     setting: &Setting<B>,

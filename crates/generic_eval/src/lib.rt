@@ -12,8 +12,8 @@
 //! there: of a function that calls another twice on the same values, the second call is a look-up, and ticks no step.
 //!
 //! *Nesting.* Terms are evaluated by recursion, each within that of the term around it, a plan within that of the plan around it, and a call
-//! within that of its term. At most 4,000 terms and plans are underway; an evaluation that nests them deeper answers `NoMemory`. This keeps
-//! below 8 MiB what they take of the stack. Decisions are planned, and their plans evaluated, in loops along the literals of a position.
+//! within that of its term. At most 1,800 terms and plans are underway, where each call counts as one more; an evaluation that nests them deeper
+//! answers `NoMemory`. This keeps below 8 MiB what they take of the stack. Decisions are planned, and their plans evaluated, in loops along the literals of a position.
 //!
 //! *What is said of `eval`.* Calls give what `answers` of `call_answers` says, the reinterpretation as a function: a call answers its
 //! value, or none, and its reads come behind those of the log; or it is deep, at the function that this names. Each entry of the memo

@@ -21,6 +21,9 @@
 //! | `cut TEXT` | the front of a line that the run wrote, of which no more is known |
 //! | `text LINE` | a line of the text that is read again |
 //! | `length N` | how many bytes the next part of the code has |
+//! | `cell NAME` | the counter of the states, and then, in their order, a field of them, of a map `NAME[*]` |
+//! | `step LINE` | a line of the table of the step at an open block that is made again; those of several blocks stand one behind the other |
+//! | `entry LINE` | a line of the entries of these steps; without this line they are not looked at |
 //! | `named NAME` | the text that is wanted for help has this name; without this line that is not looked at |
 //! | `\| LINE` | a line that is to be said |
 #![tactic(auto)]
@@ -66,16 +69,16 @@ fn run_file(rt: &(impl Files + Print + AllocGlobal), name: &str) -> Result<u32, 
 fn run_case(rt: &(impl Print + AllocGlobal), case: Case) -> Result<bool, FileError> {
     let name = &case.name;
     let said = case.said(rt.alloc())?;
-    let is_named = case.is_named(rt.alloc())?;
-    if said == case.wanted && is_named {
+    let fault = case.fault(rt.alloc(), &said)?;
+    if said == case.wanted && fault.is_none() {
         println!(rt; "ok {name}")?;
         return Ok(true);
     }
     println!(rt; "{name} differs")?;
     println!(rt; "    said   {said:?}")?;
     println!(rt; "    wanted {:?}", case.wanted)?;
-    if !is_named {
-        println!(rt; "    another text is named")?;
+    if let Some(fault) = fault {
+        println!(rt; "    {fault}")?;
     }
     Ok(false)
 }

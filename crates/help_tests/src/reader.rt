@@ -50,7 +50,10 @@ fn take(alloc: Global, case: &mut Case, keyword: &str, rest: &str) -> Result<boo
             };
             case.lengths.push(length)?;
         }
+        "cell" => case.cells.push(String::from_str(alloc, rest)?)?,
+        "step" => push_line(&mut case.steps, rest)?,
         "named" => case.named = Some(String::from_str(alloc, rest)?),
+        "entry" => push_line(&mut case.entries, rest)?,
         "|" => push_line(&mut case.wanted, rest)?,
         _ => return Ok(false),
     }

@@ -1,22 +1,24 @@
 //! Tables of an image that are left open.
 
-ghost use Rattle.std.specs.Prelude.{◌+◌, ◌*◌, ◌≤◌, IfOk, length};
-ghost use Rattle.std.specs.BTreeMap.{get};
+ghost use Rattle.std.specs.Prelude.{◌≡◌, ◌+◌, ◌*◌, ◌≤◌, ◌↔◌, IfOk, length};
+ghost use Rattle.std.specs.BTreeMap.{btree_map_len, get};
 ghost use Rattle.std.specs.Ordering.{nat_cmp};
 ghost use Rattle.fixed_point.specs.Analysis.{height_of};
 ghost use Rattle.fixed_point.specs.Table.{TableFits};
 ghost use Rattle.fixed_point.specs.Views.{listings};
 ghost use Rattle.open_tables.specs.Endings.{IsClosedButOpen};
 ghost use Rattle.open_tables.specs.LeftOpen.{left_open};
+ghost use Rattle.open_tables.specs.Verdicts.{IsVerdict};
 ghost use Rattle.transfer.specs.Analysis.{problem};
 ghost use Rattle.worklist.specs.Answers.{IsReportOf};
 ghost use Rattle.transfer_laws.specs.OpenRuns.{IsTrueUntilOpen};
 
 use base_trait::Base;
 use domain_trait::Domain;
-use fixed_point::Analyser;
-use open_tables::OpenReport;
+use fixed_point::{Analyser, Table, Verdict};
+use open_tables::{Ending, OpenReport};
 use std::alloc::{AllocError as NoMemory, Global};
+use std::collections::BTreeMap;
 use std::sync::ledger::Ledger;
 use step_counter::Steps;
 use transfer::ImageAnalysis;
@@ -40,4 +42,26 @@ pub fn analyse_open<'a, D: Domain, L: Ledger>(
     ensures most { steps.new ≤ steps.old + (length (problem analysis.now).addresses * (height_of (⟦<ImageAnalysis<'a, D> as Analyser>⟧.analysis analysis.now) + (problem analysis.now).joins + 1) + (length (problem analysis.now).addresses + length (problem analysis.now).addresses)) }
 {
     open_tables::analyse(alloc, analysis, steps)
+}
+
+/// The verdict on a table of an image with the endings of its blocks, made here or elsewhere.
+///
+/// An accepted table is true of the runs of the machine up to and with the first state at an open address, from every state that the
+/// entry describes: the element at each address describes every state that the meaning puts there, and each use list holds every
+/// definition that a read sees.
+pub fn check_open<'a, D: Domain, L: Ledger>(
+    alloc: Global,
+    analysis: &ImageAnalysis<'a, D>,
+    table: &Table<D::Elem>,
+    endings: &BTreeMap<u32, Ending<<D::B as Base>::Word>>,
+    steps: &mut Steps<L>,
+) -> Result<Verdict<<D::B as Base>::Word>, NoMemory>
+    requires ready { ⟦<ImageAnalysis<'a, D> as Analyser>⟧.IsReady analysis.now }
+    requires table { TableFits (⟦<ImageAnalysis<'a, D> as Analyser>⟧.analysis analysis.now) (listings D.view table.now) }
+    ensures value { IfOk result (IsVerdict (⟦<ImageAnalysis<'a, D> as Analyser>⟧.analysis analysis.now) (listings D.view table.now) (get nat_cmp endings.now)) }
+    ensures accepted { IfOk result (λ v. (v ≡ Verdict.Accepted) ↔ IsClosedButOpen (⟦<ImageAnalysis<'a, D> as Analyser>⟧.analysis analysis.now) (listings D.view table.now) (get nat_cmp endings.now)) }
+    ensures runs { IfOk result (λ v. v ≡ Verdict.Accepted → IsTrueUntilOpen D.B.algebra (D.elements analysis.now.domain.now) (problem analysis.now) (listings D.view table.now) (get nat_cmp endings.now)) }
+    ensures most { steps.new ≤ steps.old + (btree_map_len table.now.blocks + btree_map_len table.now.blocks) }
+{
+    open_tables::check(alloc, analysis, table, endings, steps)
 }

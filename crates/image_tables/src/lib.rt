@@ -25,13 +25,14 @@
 //!
 //! # Left open
 //!
-//! `analyse_open` is that of `open_tables`: where a code word has no decoding, or an instruction may lead to more addresses than the limit, the
-//! block stands without next addresses and exits, and the rest is analysed. Its table is true of the runs up to and with the first state at
-//! such an address (`IsTrueUntilOpen`, `transfer_laws` specs/OpenRuns); with no open address that is the truth above.
+//! `analyse_open` and `check_open` are `analyse` and `check` of `open_tables`: where a code word has no decoding, or an instruction may lead to
+//! more addresses than the limit, the block stands without next addresses and exits, and the rest is analysed. A table that is answered, and one
+//! that is accepted with the endings of its blocks, is true of the runs up to and with the first state at such an address (`IsTrueUntilOpen`,
+//! `transfer_laws` specs/OpenRuns); with no open address that is the truth above.
 #![tactic(auto)]
 
 mod left_open;
 mod tables;
 
-pub use left_open::analyse_open;
+pub use left_open::{analyse_open, check_open};
 pub use tables::{analyse, check};

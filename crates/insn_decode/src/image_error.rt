@@ -5,28 +5,21 @@ ghost use Rattle.std.specs.String.{string_bytes};
 ghost use Rattle.insn_decode.specs.Faults.{fault_line};
 
 use std::alloc::{AllocError, AllocFailed, Global};
-use thiserror::Error;
 
 /// The first fault of segments in the order in which they are given.
-#[derive(Clone, Copy, Debug, PartialEq, Eq, Drop, Error)]
+#[derive(Clone, Copy, Debug, PartialEq, Eq, Drop)]
 pub enum ImageError {
     /// I1: a length that is no multiple of 4.
-    #[error("code of a length that is no multiple of 4")]
     OddLength,
     /// I2: more than 1,048,576 bytes in all.
-    #[error("too much code")]
     TooLong,
     /// I3: a byte past the end of memory.
-    #[error("code past the end of memory")]
     PastEnd,
     /// I4: a base that is no multiple of 4.
-    #[error("code at an address that is no multiple of 4")]
     Misaligned,
     /// I5: a byte at an address of an earlier segment.
-    #[error("overlapping code")]
     Overlap,
     /// Memory ran out.
-    #[error("out of memory")]
     NoMemory,
 }
 

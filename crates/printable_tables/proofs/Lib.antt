@@ -8,6 +8,7 @@ pub mod Notes
 pub mod Pairs
 pub mod Plays
 pub mod Reading
+pub mod Shown
 pub mod Steps
 pub mod Tables
 pub mod Transfers

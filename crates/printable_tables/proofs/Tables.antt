@@ -1,5 +1,5 @@
 -- The tables of traces are printable.
-use Rattle.std.proofs.Common.{◌≡◌, ℕ, ◌<◌, ◌^◌, Bool, List, [], ◌∷◌, Option, Some, None, refl, sym, subst}
+use Rattle.std.proofs.Common.{◌≡◌, ℕ, ◌<◌, ◌^◌, Bool, List, [], ◌∷◌, Option, Some, None, IsTrue, refl, sym, subst}
 use Rattle.std.specs.Prelude.{filter, not}
 use Rattle.base_trait.specs.Algebra.{Algebra}
 use Rattle.base_trait.specs.Laws.{Laws}
@@ -8,12 +8,14 @@ use Rattle.base_trait.proofs.Tests.{at_choice}
 use Rattle.tsl_values.specs.States.{State}
 use Rattle.value_laws.specs.Abs.{Abs}
 use Rattle.reinterpretation.specs.Answers.{Answer}
-use Rattle.fixed_point.specs.Analysis.{Analysis}
+use Rattle.fixed_point.specs.Analysis.{Analysis, AnalysisLaws}
 use Rattle.fixed_point.specs.Code.{is_code}
 use Rattle.fixed_point.specs.Elements.{Elements}
 use Rattle.fixed_point.specs.Outcome.{Outcome, moves, too_many, undecodable}
 use Rattle.fixed_point.specs.Play.{Reached, play}
-use Rattle.fixed_point.specs.Table.{IsBlockOf, Listing, Listings, TableFits, Tells}
+use Rattle.fixed_point.specs.Table.{IsBlockOf, IsTableOf, Listing, Listings, TableFits, Tells}
+use Rattle.open_tables.specs.Instance.{left_open_laws}
+use Rattle.open_tables.specs.LeftOpen.{left_open, opened}
 use Rattle.domain_laws.specs.Domain.{Meaning}
 use Rattle.domain_laws.specs.States.{state_type}
 use Rattle.transfer_laws.specs.Analysis.{analysis_of}
@@ -22,9 +24,9 @@ use Rattle.transfer_laws.specs.Problem.{Problem}
 use Rattle.transfer_laws.specs.Uses.{AreInOrder}
 use Rattle.transfer_laws.proofs.Keeping.{transfers_keep_the_laws}
 use Rattle.printable_tables.specs.Domains.{ElementsKeep}
-use Rattle.printable_tables.specs.Laws.{TablesArePrintable, has_word}
+use Rattle.printable_tables.specs.Laws.{OpenTablesArePrintable, TablesArePrintable, has_word}
 use Rattle.printable_tables.specs.Notes.{NotesKeep}
-use Rattle.printable_tables.specs.Tables.{IsPrintable, IsUseOf}
+use Rattle.printable_tables.specs.Tables.{IsPrintable, IsPrintableTable, IsUseOf}
 use Rattle.printable_tables.proofs.Plays.{AnalysisKeeps, reached_keep}
 use Rattle.printable_tables.proofs.Transfers.{IsOutcome, transfer_is}
 
@@ -45,32 +47,59 @@ module _ {E W S : Type 0} (A : Analysis E W S) where
     order = subst (AreInOrder (state_type p.spec).fields) (sym tells.2) is.uses.1;
   }
 
-module _ {E W N C : Type 0} (B : Algebra W N C) (laws : Laws W N C B) (cap : ℕ) (D : Elements E State) (M : Meaning E W N C) (p : Problem) (calls : ℕ → ℕ → List (Abs W N) → Answer (Abs W N)) (h : IsAnalysed B cap D M p calls)
-    (F : N → Type 0) (K : E → Type 0) (notes : NotesKeep B.notes (has_word p) F) (elements : ElementsKeep D M F K) where
-  abbrev A : Analysis E W State
-  A = analysis_of B cap D M p calls
-
-  keeps : AnalysisKeeps A K
-  keeps = record {
-    entry = elements.entry p.lines;
-    join = elements.join;
-    widen = elements.widen;
-    transfer = λ a x code fit kept. (transfer_is B laws cap D M p calls h F K notes elements a x code fit kept).post;
-  }
-
+-- Of an analysis of a problem whose calls keep a property of elements, and whose transfers give what tables may list.
+module _ {E W S : Type 0} (A : Analysis E W S) (laws : AnalysisLaws A) (p : Problem) (K : E → Type 0) (keeps : AnalysisKeeps A K) (same_keep : (x y : E) → A.elements.same x y → K x → K y)
+    (outcome : (a : ℕ) (x : E) → IsTrue (is_code A.code a) → A.elements.fits x → K x → IsOutcome p K (A.transfer a x)) where
   block_is : (trace : List ℕ) (t : Listings E) → TableFits A t → (at : ℕ) (b : Listing E) → t at ≡ Some b → (y : Option (Listing E)) (o : Option (Reached E)) → y ≡ Some b → play A trace at ≡ o → IsBlockOf A at y o
       → IsPrintable p.spec K b
   block_is trace t fits at b is None o e there block = absurd cc
   block_is trace t fits at b is (Some c) None e there block = absurd block
   block_is trace t fits at b is (Some c) (Some r) e there block =
       let same : c ≡ b = cc in
-      let own = subst (λ (b : Listing E). D.same b.elem r.elem × Tells A b (A.transfer at b.elem)) same block in
+      let own = subst (λ (b : Listing E). A.elements.same b.elem r.elem × Tells A b (A.transfer at b.elem)) same block in
       let fine = fits at b is in
-      let reached = reached_keep A (transfers_keep_the_laws B laws cap D M p calls h) K keeps trace at r there in
-      let kept : K b.elem = elements.same r.elem b.elem (h.domain.elements.same_back b.elem r.elem own.0) reached.2 in
-      told A p K b (A.transfer at b.elem) kept (transfer_is B laws cap D M p calls h F K notes elements at b.elem fine.0 fine.1 kept) own.1
+      let reached = reached_keep A laws K keeps trace at r there in
+      let kept : K b.elem = same_keep r.elem b.elem (laws.elements.same_back b.elem r.elem own.0) reached.2 in
+      told A p K b (A.transfer at b.elem) kept (outcome at b.elem fine.0 fine.1 kept) own.1
 
-pub tables_are_printable : {E W N C : Type 0} (B : Algebra W N C) → Laws W N C B → (cap : ℕ) (D : Elements E State) (M : Meaning E W N C) (F : (ℕ → Bool) → N → Type 0) (K : (ℕ → Bool) → E → Type 0)
-    → ((code : ℕ → Bool) → NotesKeep B.notes code (F code)) → ((code : ℕ → Bool) → ElementsKeep D M (F code) (K code)) → TablesArePrintable B cap D M K
-tables_are_printable B laws cap D M F K notes elements p calls trace t h fits table at b is =
-    block_is B laws cap D M p calls h (F (has_word p)) (K (has_word p)) (notes (has_word p)) (elements (has_word p)) trace t fits at b is (t at) (play (analysis_of B cap D M p calls) trace at) is refl (table at)
+  -- each block of the table of a trace is printable
+  table_is : (trace : List ℕ) (t : Listings E) → TableFits A t → IsTableOf A t (play A trace) → IsPrintableTable p.spec K t
+  table_is trace t fits table at b is = block_is trace t fits at b is (t at) (play A trace at) is refl (table at)
+
+module _ {E W N C : Type 0} (B : Algebra W N C) (laws : Laws W N C B) (cap : ℕ) (D : Elements E State) (M : Meaning E W N C) (p : Problem) (calls : ℕ → ℕ → List (Abs W N) → Answer (Abs W N)) (h : IsAnalysed B cap D M p calls)
+    (F : N → Type 0) (K : E → Type 0) (notes : NotesKeep B.notes (has_word p) F) (elements : ElementsKeep D M F K) where
+  abbrev A : Analysis E W State
+  A = analysis_of B cap D M p calls
+
+  outcomes : (a : ℕ) (x : E) → IsTrue (is_code p.addresses a) → D.fits x → K x → IsOutcome p K (A.transfer a x)
+  outcomes a x code fit kept = transfer_is B laws cap D M p calls h F K notes elements a x code fit kept
+
+  keeps : AnalysisKeeps A K
+  keeps = record { entry = elements.entry p.lines; join = elements.join; widen = elements.widen; transfer = λ a x code fit kept. (outcomes a x code fit kept).post }
+
+  printable : (trace : List ℕ) (t : Listings E) → TableFits A t → IsTableOf A t (play A trace) → IsPrintableTable p.spec K t
+  printable trace t fits table = table_is A (transfers_keep_the_laws B laws cap D M p calls h) p K keeps elements.same outcomes trace t fits table
+
+  -- ---- left open
+
+  opened_is : (o : Outcome E W) → IsOutcome p K o → IsOutcome p K (opened o)
+  opened_is (undecodable code_word) is = record { targets = tt; uses = (tt, tt); post = tt }
+  opened_is (too_many shown uses) is = record { targets = tt; uses = is.uses; post = tt }
+  opened_is (moves targets post uses) is = is
+
+  open_outcomes : (a : ℕ) (x : E) → IsTrue (is_code p.addresses a) → D.fits x → K x → IsOutcome p K (opened (A.transfer a x))
+  open_outcomes a x code fit kept = opened_is (A.transfer a x) (outcomes a x code fit kept)
+
+  open_keeps : AnalysisKeeps (left_open A) K
+  open_keeps = record { entry = elements.entry p.lines; join = elements.join; widen = elements.widen; transfer = λ a x code fit kept. (open_outcomes a x code fit kept).post }
+
+  open_printable : (trace : List ℕ) (t : Listings E) → TableFits A t → IsTableOf (left_open A) t (play (left_open A) trace) → IsPrintableTable p.spec K t
+  open_printable trace t fits table = table_is (left_open A) (left_open_laws A (transfers_keep_the_laws B laws cap D M p calls h)) p K open_keeps elements.same open_outcomes trace t fits table
+
+module _ {E W N C : Type 0} (B : Algebra W N C) (laws : Laws W N C B) (cap : ℕ) (D : Elements E State) (M : Meaning E W N C) (F : (ℕ → Bool) → N → Type 0) (K : (ℕ → Bool) → E → Type 0)
+    (notes : (code : ℕ → Bool) → NotesKeep B.notes code (F code)) (elements : (code : ℕ → Bool) → ElementsKeep D M (F code) (K code)) where
+  pub tables_are_printable : TablesArePrintable B cap D M K
+  tables_are_printable p calls trace t h fits table = printable B laws cap D M p calls h (F (has_word p)) (K (has_word p)) (notes (has_word p)) (elements (has_word p)) trace t fits table
+
+  pub open_tables_are_printable : OpenTablesArePrintable B cap D M K
+  open_tables_are_printable p calls trace t h fits table = open_printable B laws cap D M p calls h (F (has_word p)) (K (has_word p)) (notes (has_word p)) (elements (has_word p)) trace t fits table

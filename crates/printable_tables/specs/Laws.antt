@@ -1,14 +1,17 @@
 -- What tables of analyses have, so that their texts tell them.
-use Rattle.std.specs.Prelude.{ℕ, Bool, is_some, List}
+use Rattle.std.specs.Prelude.{ℕ, Bool, IsTrue, is_some, List}
 use Rattle.base_trait.specs.Algebra.{Algebra}
 use Rattle.base_trait.specs.PairedNotes.{paired_notes}
 use Rattle.tsl_values.specs.States.{State}
 use Rattle.value_laws.specs.Abs.{Abs}
 use Rattle.reinterpretation.specs.Answers.{Answer}
+use Rattle.fixed_point.specs.Code.{is_code}
 use Rattle.fixed_point.specs.Elements.{Elements}
+use Rattle.fixed_point.specs.Outcome.{Outcome, moves, too_many, undecodable}
 use Rattle.fixed_point.specs.Pairs.{paired as paired_elements}
 use Rattle.fixed_point.specs.Play.{play}
 use Rattle.fixed_point.specs.Table.{IsTableOf, Listings, TableFits}
+use Rattle.open_tables.specs.LeftOpen.{left_open}
 use Rattle.domain_laws.specs.Domain.{Meaning}
 use Rattle.domain_laws.specs.States.{StateType}
 use Rattle.cell_laws.specs.Calls.{cell_calls}
@@ -18,6 +21,7 @@ use Rattle.pair_calls.specs.Domain.{pair_meaning}
 use Rattle.transfer_laws.specs.Analysis.{analysis_of}
 use Rattle.transfer_laws.specs.Laws.{IsAnalysed}
 use Rattle.transfer_laws.specs.Problem.{Problem}
+use Rattle.transfer_laws.specs.Transfer.{transfer_of}
 use Rattle.printable_tables.specs.Domains.{ElementsKeep, HasNone}
 use Rattle.printable_tables.specs.Notes.{BothNotes, NotesKeep, TellsNothing}
 use Rattle.printable_tables.specs.Tables.{IsPrintableTable}
@@ -34,6 +38,25 @@ module _ {E W N C : Type 0} (B : Algebra W N C) (cap : ℕ) (D : Elements E Stat
       (p : Problem) (calls : ℕ → ℕ → List (Abs W N) → Answer (Abs W N)) (trace : List ℕ) (t : Listings E) → IsAnalysed B cap D M p calls
       → TableFits (analysis_of B cap D M p calls) t → IsTableOf (analysis_of B cap D M p calls) t (play (analysis_of B cap D M p calls) trace)
       → IsPrintableTable p.spec (K (has_word p)) t
+
+  -- So is that of a trace of the analysis that is left open.
+  abbrev pub OpenTablesArePrintable : Type 0
+  OpenTablesArePrintable =
+      (p : Problem) (calls : ℕ → ℕ → List (Abs W N) → Answer (Abs W N)) (trace : List ℕ) (t : Listings E) → IsAnalysed B cap D M p calls
+      → TableFits (analysis_of B cap D M p calls) t → IsTableOf (left_open (analysis_of B cap D M p calls)) t (play (left_open (analysis_of B cap D M p calls)) trace)
+      → IsPrintableTable p.spec (K (has_word p)) t
+
+-- the word that is shown where there are too many targets, if there is one, has the property
+abbrev pub IfShown : {E W : Type 0} → (W → Type 0) → Outcome E W → Type 0
+IfShown P (undecodable code_word) = Unit {0}
+IfShown P (too_many shown uses) = P shown
+IfShown P (moves targets post uses) = Unit {0}
+
+-- Words that transfers show are of 32 bits, as counters are.
+abbrev pub ShownWordsFit : {E W N C : Type 0} → Algebra W N C → ℕ → Elements E State → Meaning E W N C → Type 0
+ShownWordsFit {E} {W} {N} {C} B cap D M =
+    (p : Problem) (calls : ℕ → ℕ → List (Abs W N) → Answer (Abs W N)) (a : ℕ) (x : E) → IsAnalysed B cap D M p calls → IsTrue (is_code p.addresses a) → D.fits x
+    → IfShown (B.words.fits M.context 32) (transfer_of B cap M p calls a x)
 
 -- ---- what elements keep
 -- those of cells, that their notes have a property

@@ -3,7 +3,7 @@
 ghost use Rattle.std.specs.Prelude.{ℕ, Bool};
 ghost use Rattle.base_trait.specs.NoNotes.{no_notes};
 ghost use Rattle.defuse_base.specs.Notes.{stamp_notes};
-ghost use Rattle.printable_tables.specs.Laws.{CellsKeep, PairsKeep, RelationsKeep, TablesArePrintable};
+ghost use Rattle.printable_tables.specs.Laws.{CellsKeep, OpenTablesArePrintable, PairsKeep, RelationsKeep, ShownWordsFit, TablesArePrintable};
 ghost use Rattle.printable_tables.specs.Notes.{AreStampsOf, NotesKeep, TellsNothing};
 
 use crate::domain::PrintableDomain;
@@ -11,6 +11,16 @@ use crate::domain::PrintableDomain;
 /// The table of a trace is printable.
 pub fn tables_are_printable<D: PrintableDomain>(domain: &D)
     ensures { TablesArePrintable D.B.algebra D.B.CAP (D.elements domain.now) (D.meaning domain.now) D.ElementFits }
+{}
+
+/// The table of a trace of an analysis that is left open is printable.
+pub fn open_tables_are_printable<D: PrintableDomain>(domain: &D)
+    ensures { OpenTablesArePrintable D.B.algebra D.B.CAP (D.elements domain.now) (D.meaning domain.now) D.ElementFits }
+{}
+
+/// Words that transfers show are of 32 bits.
+pub fn shown_words_fit<D: PrintableDomain>(domain: &D)
+    ensures { ShownWordsFit D.B.algebra D.B.CAP (D.elements domain.now) (D.meaning domain.now) }
 {}
 
 /// Sets of stamps stay sets of some stamps of the code.

@@ -1,7 +1,7 @@
 //! Which inputs have to be looked at again for help.
 
 use crate::written::{LinedText, Written, read};
-use command_words::{Code, CodePart, Request, SpecName, WordsError, read_words};
+use command_words::{Code, CodePart, Order, Request, SpecName, WordsError, read_words};
 use std::alloc::{AllocError, Global};
 
 /// The input whose text a run of these words wrote of, by its name. A specification that is shipped is no input.
@@ -52,6 +52,50 @@ pub fn parts_for<'a>(
         }
         Err(WordsError::BadWords) => Ok(Vec::new(alloc)),
         Err(WordsError::NoMemory) => Err(AllocError),
+    }
+}
+
+/// A machine with its code, by the names of what is read for it.
+#[derive(Drop)]
+pub struct NamedMachine<'a> {
+    pub spec: SpecName<'a>,
+    pub parts: Vec<CodePart<'a>>,
+    pub order: Order,
+}
+
+/// The machine of which a run of these words wrote a table, if they ask for one.
+pub fn machine_for<'a>(
+    alloc: Global,
+    words: &'a [String],
+) -> Result<Option<NamedMachine<'a>>, AllocError> {
+    match read_words(alloc, words) {
+        Ok(request) => {
+            let machine = machine_of(alloc, &request);
+            drop(request);
+            machine
+        }
+        Err(WordsError::BadWords) => Ok(None),
+        Err(WordsError::NoMemory) => Err(AllocError),
+    }
+}
+
+/// The machine of which a request wants a table to be written.
+fn machine_of<'a>(
+    alloc: Global,
+    request: &Request<'a>,
+) -> Result<Option<NamedMachine<'a>>, AllocError> {
+    let (spec, code) = match request {
+        Request::Analyse(request) => (request.spec, &request.code),
+        Request::Convert(request) => (request.spec, &request.code),
+        _ => return Ok(None),
+    };
+    match Vec::from_slice(alloc, code.parts.as_slice()) {
+        Ok(parts) => Ok(Some(NamedMachine {
+            spec,
+            parts,
+            order: code.order,
+        })),
+        Err(error) => Err(error),
     }
 }
 

@@ -252,7 +252,7 @@ const TABLES: [Sentence; 10] = [
     },
     Sentence {
         code: "rejected targets",
-        says: "the instruction at A goes to other addresses than its `next` and `exit` lines say",
+        says: "the instruction at A goes to other addresses than its `next` and `exit` lines say; or its block is left open, without `--open` or otherwise than its last line says",
         advice: "ask where the table comes from; `analyse` makes one that is closed",
     },
     Sentence {
@@ -290,7 +290,7 @@ fn of_table(code: &str) -> Option<Sentence>
 }
 
 /// The sentences of other lines.
-const LINES: [Sentence; 9] = [
+const LINES: [Sentence; 8] = [
     Sentence {
         code: "cannot read",
         says: "the file could not be read: it is missing, or a folder, or a read failed",
@@ -328,13 +328,8 @@ const LINES: [Sentence; 9] = [
     },
     Sentence {
         code: "no memory",
-        says: "memory ran out, or an evaluation went deeper than 4,000 terms within one another",
+        says: "memory ran out, or an evaluation went deeper than 1,800 terms within one another, where a call counts as two",
         advice: "more memory; a base with fewer parts; terms that nest less",
-    },
-    Sentence {
-        code: "not built",
-        says: "`stress`, which is planned and not built yet",
-        advice: "",
     },
 ];
 
@@ -384,7 +379,7 @@ const OPTIONS: [Sentence; 8] = [
     },
     Sentence {
         code: "--open",
-        says: "no value: an analysis goes on past an instruction of which it can not say what comes next (\"Open blocks\")",
+        says: "no value: an analysis goes on past an instruction of which it can not say what comes next; a table that is read may be left open there (\"Open blocks\")",
         advice: "",
     },
 ];

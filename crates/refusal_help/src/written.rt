@@ -116,8 +116,6 @@ fn rejection(text: &str) -> Written<'_> {
 fn other_line<'a>(line: &'a str, front: &'a str) -> Written<'a> {
     if line == "bad words" {
         Written::BadWords
-    } else if line == "not built" {
-        Written::Line { code: "not built" }
     } else if line == "calls spent" {
         Written::Line {
             code: "calls spent",

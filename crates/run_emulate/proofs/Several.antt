@@ -11,7 +11,7 @@ use Rattle.tsl_values.specs.States.{State}
 use Rattle.tsl_io.specs.InputState.{InputState, InputsKept}
 use Rattle.run_steps.specs.declared.outcome.Halt.{Halt}
 use Rattle.run_steps.specs.declared.outcome.Halt.TheVariants.{Refused, NoMemory}
-use Rattle.run_steps.specs.declared.outcome.Refusal.TheVariants.{BadWords, NotBuilt, CannotRead, TooLong, SpecRefused, CodeRefused, EntryRefused, CallsSpent, UndecodableAt, TooManyTargets, TableRefused, ClaimsRefused, Rejected}
+use Rattle.run_steps.specs.declared.outcome.Refusal.TheVariants.{BadWords, CannotRead, TooLong, SpecRefused, CodeRefused, EntryRefused, CallsSpent, UndecodableAt, TooManyTargets, TableRefused, ClaimsRefused, Rejected}
 use Rattle.run_steps.specs.Faultless.{NoOtherFault}
 use Rattle.run_steps.specs.Outcome.{Answer, Refusal, text}
 use Rattle.run_steps.specs.Outcomes.{Stops}
@@ -29,7 +29,6 @@ use Rattle.run_emulate.proofs.Chains.{code_still, code_wider, machine_still, no_
 pub faultless_later : {A : Type 0} (old mid new : InputState) (end : Result A Halt) → mid.faults ≡ old.faults → NoOtherFault mid new end → NoOtherFault old new end
 faultless_later old mid new (Ok found) calm same = same ∙ calm
 faultless_later old mid new (Err (Refused BadWords)) calm same = same ∙ calm
-faultless_later old mid new (Err (Refused NotBuilt)) calm same = same ∙ calm
 faultless_later old mid new (Err (Refused (CannotRead name))) calm same = tt
 faultless_later old mid new (Err (Refused (TooLong name))) calm same = same ∙ calm
 faultless_later old mid new (Err (Refused (SpecRefused fault))) calm same = same ∙ calm

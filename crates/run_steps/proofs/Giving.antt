@@ -1,6 +1,6 @@
 -- What the steps of the code give.
 use Rattle.std.proofs.Common.{◌≡◌, ◌≢◌, ◌⊎◌, inl, inr, ℕ, ◌+◌, ◌≤◌, Bool, true, false, List, [], ◌∷◌, Option, Some, IsTrue, length, refl, sym, ◌∙◌, ap, subst, arith}
-use Rattle.std.specs.Prelude.{IsSomeAnd, Result, Ok, Err}
+use Rattle.std.specs.Prelude.{Contains, IsSomeAnd, Result, Ok, Err}
 use Rattle.std.specs.Bool.{IsFalse}
 use Rattle.tsl_lexer.specs.declared.token.Token.{Token}
 use Rattle.tsl_lexer.specs.declared.lex_error.LexError.{LexError}
@@ -18,7 +18,7 @@ use Rattle.tsl_io.specs.InputState.{InputState, InputsKept}
 use Rattle.tsl_io.specs.WholeRead.{TakesAtMost}
 use Rattle.run_steps.specs.declared.outcome.Halt.{Halt}
 use Rattle.run_steps.specs.declared.outcome.Halt.TheVariants.{Refused, NoMemory}
-use Rattle.run_steps.specs.declared.outcome.Refusal.TheVariants.{BadWords, NotBuilt, CannotRead, TooLong, SpecRefused, CodeRefused, EntryRefused, CallsSpent, UndecodableAt, TooManyTargets, TableRefused, ClaimsRefused, Rejected}
+use Rattle.run_steps.specs.declared.outcome.Refusal.TheVariants.{BadWords, CannotRead, TooLong, SpecRefused, CodeRefused, EntryRefused, CallsSpent, UndecodableAt, TooManyTargets, TableRefused, ClaimsRefused, Rejected}
 use Rattle.run_steps.specs.Faultless.{NoOtherFault}
 use Rattle.run_steps.specs.Outcome.{Refusal}
 use Rattle.run_steps.specs.Outcomes.{Stops, halt_of_lexing, halt_of_checking, halt_of_parsing}
@@ -54,7 +54,6 @@ not_checked wanted source tree error parsed (inr none) = absurd (cc)
 pub no_other_fault : {A : Type 0} (old new : InputState) (end : Result A Halt) → new.faults ≡ old.faults → NoOtherFault old new end
 no_other_fault old new (Ok found) same = same
 no_other_fault old new (Err (Refused BadWords)) same = same
-no_other_fault old new (Err (Refused NotBuilt)) same = same
 no_other_fault old new (Err (Refused (CannotRead name))) same = tt
 no_other_fault old new (Err (Refused (TooLong name))) same = same
 no_other_fault old new (Err (Refused (SpecRefused fault))) same = same
@@ -69,5 +68,11 @@ no_other_fault old new (Err (Refused (Rejected rejection))) same = same
 no_other_fault old new (Err NoMemory) same = same
 
 -- of one input
-pub taken_alone : (old new : InputState) (name : List ℕ) (cap : ℕ) → IsSomeAnd (old.held name) (λ bytes. TakesAtMost (cap + 1) bytes new.left) → IsTakenFrom ((name, cap) ∷ []) old new
-taken_alone old new name cap takes = record { name = name; cap = cap; named = (0, omega arith, refl); taken = takes }
+pub taken_alone : (old new : InputState) (name : List ℕ) (cap : ℕ) → new.name ≡ name → IsSomeAnd (old.held name) (λ bytes. TakesAtMost (cap + 1) bytes new.left) → IsTakenFrom ((name, cap) ∷ []) old new
+taken_alone old new name cap is takes =
+    let here : Contains {X = List ℕ × ℕ} ((name, cap) ∷ []) (name, cap) = (0, omega arith, refl) in
+    record {
+      cap = cap;
+      named = subst (λ (n : List ℕ). Contains {X = List ℕ × ℕ} ((name, cap) ∷ []) (n, cap)) (sym is) here;
+      taken = subst (λ (n : List ℕ). IsSomeAnd (old.held n) (λ bytes. TakesAtMost (cap + 1) bytes new.left)) (sym is) takes;
+    }

@@ -26,7 +26,7 @@ use Rattle.checked_trees.proofs.There.{specifications_are_there}
 use Rattle.command_words.specs.SpecNames.{SpecName, input, power_pc, risc_v}
 use Rattle.run_steps.specs.declared.spec_fault.SpecFault.{SpecFault}
 use Rattle.run_steps.specs.declared.spec_fault.SpecFault.TheVariants.{Lexing, Parsing, Checking}
-use Rattle.run_steps.specs.Outcome.{Refusal, bad_words, not_built, cannot_read, too_long, spec_refused, code_refused, entry_refused, calls_spent, undecodable_at, too_many_targets, table_refused, claims_refused, rejected}
+use Rattle.run_steps.specs.Outcome.{Refusal, bad_words, cannot_read, too_long, spec_refused, code_refused, entry_refused, calls_spent, undecodable_at, too_many_targets, table_refused, claims_refused, rejected}
 use Rattle.run_steps.specs.Reading.{Held, Holds, whole, long, none}
 use Rattle.run_steps.specs.Shipped.{power_pc_text, risc_v_text}
 use Rattle.run_steps.specs.Sources.{source_cap, IsSpecification, SourceOf, Specifies}
@@ -105,7 +105,6 @@ module _ (wanted : Use) (source : List ℕ) where
   kind_of : (found : Result Spec Refusal) → Specifies wanted source found → Kind found
   kind_of (Ok spec) p = specified p
   kind_of (Err bad_words) p = absurd p
-  kind_of (Err not_built) p = absurd p
   kind_of (Err (cannot_read name)) p = absurd p
   kind_of (Err (too_long name)) p = absurd p
   kind_of (Err (spec_refused fault)) p = faulty p

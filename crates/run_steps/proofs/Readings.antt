@@ -60,14 +60,13 @@ source_still reads other keeps risc_v source is = is
 
 module _ (xs ys : List Capped) (old mid new : InputState) where
   pub taken_first : IsTakenFrom xs old new → IsTakenFrom (xs ++ ys) old new
-  taken_first p = record { name = p.name; cap = p.cap; named = Contains-append_left xs ys (p.name, p.cap) p.named; taken = p.taken }
+  taken_first p = record { cap = p.cap; named = Contains-append_left xs ys (new.name, p.cap) p.named; taken = p.taken }
 
   pub taken_later : InputsKept old mid → IsTakenFrom ys mid new → IsTakenFrom (xs ++ ys) old new
   taken_later kept p = record {
-    name = p.name;
     cap = p.cap;
-    named = Contains-append_right xs ys (p.name, p.cap) p.named;
-    taken = subst (λ (h : Held). IsSomeAnd (h p.name) (λ bytes. TakesAtMost (p.cap + 1) bytes new.left)) kept.held p.taken;
+    named = Contains-append_right xs ys (new.name, p.cap) p.named;
+    taken = subst (λ (h : Held). IsSomeAnd (h new.name) (λ bytes. TakesAtMost (p.cap + 1) bytes new.left)) kept.held p.taken;
   }
 
 -- Nothing was done, or what was taken is of the input that is open.

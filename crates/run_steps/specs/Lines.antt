@@ -11,9 +11,6 @@ line text = text ++ 10 ∷ []
 abbrev pub bad_words_line : List ℕ
 bad_words_line = line (codes "bad words")
 
-abbrev pub not_built_line : List ℕ
-not_built_line = line (codes "not built")
-
 abbrev pub calls_spent_line : List ℕ
 calls_spent_line = line (codes "calls spent")
 

@@ -12,7 +12,7 @@ use Rattle.run_steps.specs.declared.rejection.Rejection.{Rejection}
 use Rattle.run_steps.specs.declared.spec_fault.SpecFault.{SpecFault}
 use Rattle.run_steps.specs.declared.status.Status.{Status}
 use Rattle.run_steps.specs.declared.status.Status.TheVariants as s
-use Rattle.run_steps.specs.Lines.{bad_words_line, calls_spent_line, cannot_read_line, not_built_line, rejection_line, targets_line, too_long_line, undecodable_line}
+use Rattle.run_steps.specs.Lines.{bad_words_line, calls_spent_line, cannot_read_line, rejection_line, targets_line, too_long_line, undecodable_line}
 use Rattle.run_steps.specs.SpecFaults.{spec_line}
 
 -- the text that the words ask for; where it tells of a machine that stopped for want of a decoding or of calls, the status says so
@@ -25,8 +25,6 @@ pub data Answer : Type 0 where
 pub data Refusal : Type 0 where
   -- the words have no meaning
   bad_words : Refusal
-  -- what they ask for is not built yet
-  not_built : Refusal
   -- the input of this name could not be read
   cannot_read : (name : List ℕ) → Refusal
   -- it is longer than its cap
@@ -59,7 +57,6 @@ status_of (Ok (text bytes)) = s.Ok
 status_of (Ok (undecodable bytes)) = s.Undecodable
 status_of (Ok (calls_ended bytes)) = s.CallsSpent
 status_of (Err bad_words) = s.BadWords
-status_of (Err not_built) = s.NotBuilt
 status_of (Err (cannot_read name)) = s.ReadFault
 status_of (Err (too_long name)) = s.TooLong
 status_of (Err (spec_refused fault)) = s.SpecRefused
@@ -78,7 +75,6 @@ line_of (Ok (text bytes)) = bytes
 line_of (Ok (undecodable bytes)) = bytes
 line_of (Ok (calls_ended bytes)) = bytes
 line_of (Err bad_words) = bad_words_line
-line_of (Err not_built) = not_built_line
 line_of (Err (cannot_read name)) = cannot_read_line name
 line_of (Err (too_long name)) = too_long_line name
 line_of (Err (spec_refused fault)) = spec_line fault

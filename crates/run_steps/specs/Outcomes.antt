@@ -23,10 +23,10 @@ use Rattle.run_steps.specs.declared.outcome.Halt.{Halt}
 use Rattle.run_steps.specs.declared.outcome.Halt.TheVariants.{Refused, NoMemory}
 use Rattle.run_steps.specs.declared.outcome.Outcome as code-outcome
 use Rattle.run_steps.specs.declared.outcome.Refusal as code-refusal
-use Rattle.run_steps.specs.declared.outcome.Refusal.TheVariants.{BadWords, NotBuilt, CannotRead, TooLong, SpecRefused, CodeRefused, EntryRefused, CallsSpent, UndecodableAt, TooManyTargets, TableRefused, ClaimsRefused, Rejected}
+use Rattle.run_steps.specs.declared.outcome.Refusal.TheVariants.{BadWords, CannotRead, TooLong, SpecRefused, CodeRefused, EntryRefused, CallsSpent, UndecodableAt, TooManyTargets, TableRefused, ClaimsRefused, Rejected}
 use Rattle.run_steps.specs.declared.outcome.Outcome.TheVariants as o
 use Rattle.run_steps.specs.declared.spec_fault.SpecFault.TheVariants.{Lexing, Parsing, Checking}
-use Rattle.run_steps.specs.Outcome.{Answer, Outcome, Refusal, text, undecodable, calls_ended, bad_words, not_built, cannot_read, too_long, spec_refused, code_refused, entry_refused, calls_spent, undecodable_at, too_many_targets, table_refused, claims_refused, rejected}
+use Rattle.run_steps.specs.Outcome.{Answer, Outcome, Refusal, text, undecodable, calls_ended, bad_words, cannot_read, too_long, spec_refused, code_refused, entry_refused, calls_spent, undecodable_at, too_many_targets, table_refused, claims_refused, rejected}
 
 abbrev pub answer_of : code-answer.Answer → Answer
 answer_of (a.Text bytes) = text bytes.items
@@ -35,7 +35,6 @@ answer_of (a.CallsEnded bytes) = calls_ended bytes.items
 
 abbrev pub refusal_of : code-refusal.Refusal → Refusal
 refusal_of BadWords = bad_words
-refusal_of NotBuilt = not_built
 refusal_of (CannotRead name) = cannot_read name.now
 refusal_of (TooLong name) = too_long name.now
 refusal_of (SpecRefused fault) = spec_refused fault

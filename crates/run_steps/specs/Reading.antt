@@ -38,7 +38,6 @@ Capped = List ℕ × ℕ
 
 -- Where the inputs tell, the one that is open is one of these, and at most one byte past its cap was taken of it.
 pub record IsTakenFrom (inputs : List Capped) (old new : InputState) : Type 0 where
-  pub name : List ℕ
   pub cap : ℕ
-  pub named : Contains inputs (name, cap)
-  pub taken : IsSomeAnd (old.held name) (λ bytes. TakesAtMost (cap + 1) bytes new.left)
+  pub named : Contains inputs (new.name, cap)
+  pub taken : IsSomeAnd (old.held new.name) (λ bytes. TakesAtMost (cap + 1) bytes new.left)

@@ -20,7 +20,6 @@ exit_status s.CallsSpent = 11
 exit_status s.TooLong = 12
 exit_status s.NoMemory = 13
 exit_status s.ClaimsRefused = 14
-exit_status s.NotBuilt = 64
 
 -- The run came to an answer: nothing failed, and memory lasted.
 abbrev pub IsAnswer : Status → Type 0

@@ -34,8 +34,6 @@ pub enum Answer {
 pub enum Refusal<'a> {
     /// The words have no meaning.
     BadWords,
-    /// What they ask for is not built yet.
-    NotBuilt,
     /// The input of this name could not be read.
     CannotRead(&'a str),
     /// The input of this name is longer than its cap.
@@ -79,7 +77,6 @@ impl Outcome<'_> {
             Outcome::Answered(Answer::Undecodable(_)) => Status::Undecodable,
             Outcome::Answered(Answer::CallsEnded(_)) => Status::CallsSpent,
             Outcome::Refused(Refusal::BadWords) => Status::BadWords,
-            Outcome::Refused(Refusal::NotBuilt) => Status::NotBuilt,
             Outcome::Refused(Refusal::CannotRead(_)) => Status::ReadFault,
             Outcome::Refused(Refusal::TooLong(_)) => Status::TooLong,
             Outcome::Refused(Refusal::SpecRefused(_)) => Status::SpecRefused,
@@ -114,7 +111,6 @@ impl Refusal<'_> {
     {
         match self {
             Refusal::BadWords => String::from_str(alloc, "bad words\n"),
-            Refusal::NotBuilt => String::from_str(alloc, "not built\n"),
             Refusal::CannotRead(name) => { format!(in alloc; "cannot read {name}\n") }
             Refusal::TooLong(name) => format!(in alloc; "too long {name}\n"),
             Refusal::SpecRefused(fault) => fault.line(alloc),

@@ -36,8 +36,6 @@ pub enum Status {
     NoMemory,
     /// The claims are refused.
     ClaimsRefused,
-    /// What is asked for is not built yet.
-    NotBuilt = 64,
 }
 
 impl Status {

@@ -1,6 +1,8 @@
 pub mod Accepted
 pub mod Analyses
+pub mod Asked
 pub mod Chains
+pub mod Either
 pub mod Holding
 pub mod One
 pub mod Problems

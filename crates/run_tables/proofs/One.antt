@@ -3,10 +3,8 @@ use Rattle.std.proofs.Common.{◌≡◌, inl, inr, Some, refl, sym, ◌∙◌, s
 use Rattle.std.specs.Prelude.{Result, Ok, Err}
 use Rattle.spec_types.specs.declared.spec.Machine.{Machine as Numbers}
 use Rattle.spec_types.specs.Specification.{Spec}
-use Rattle.analysis_domains.specs.Named.{Checked, Claimed, Done, Sliced}
-use Rattle.analysis_domains.proofs.Claims.{claims_are_one, claims_have_some}
-use Rattle.analysis_domains.proofs.Readings.{checks_are_one, checks_have_some, conversions_are_one, conversions_have_some}
-use Rattle.analysis_domains.proofs.Slices.{slices_are_one, slices_have_some}
+use Rattle.analysis_domains.specs.Named.{Done}
+use Rattle.analysis_domains.proofs.Readings.{conversions_are_one, conversions_have_some}
 use Rattle.run_steps.specs.Outcome.{Refusal}
 use Rattle.run_steps.specs.Reading.{Holds}
 use Rattle.run_steps.specs.Steps.{Then, refused, goes_on}
@@ -16,9 +14,10 @@ use Rattle.table_inputs.specs.Inputs.{CodedOf, PosedOf, SoughtOf, claims_cap, ta
 use Rattle.table_inputs.proofs.Single.{one_coded, one_posed, one_sought, some_coded, some_posed, some_sought}
 use Rattle.table_inputs.proofs.Problems.{coded_has_states, posed_has_machine, posed_has_words, some_machine, sought_parts}
 use Rattle.run_tables.specs.Laws.{AnalyseHasOne, AnalyseHasSome, AreOneAnalysis, AreOneConversion, CheckHasOne, CheckHasSome, ClaimsHasOne, ClaimsHasSome, ConvertHasOne, ConvertHasSome, SliceHasOne, SliceHasSome}
-use Rattle.run_tables.specs.Problems.{problem_in, task_in}
+use Rattle.run_tables.specs.Problems.{check_task_in, claims_task_in, problem_in, slice_task_in, task_in}
 use Rattle.run_tables.specs.Steps.{AnalysisOf, CheckOf, ClaimsOf, ConversionOf, SliceOf}
 use Rattle.run_tables.proofs.Chains.{both_behind, claims_behind, table_behind}
+use Rattle.run_tables.proofs.Either.{check_is_one, check_is_some, claims_is_one, claims_is_some, slice_is_one, slice_is_some}
 use Rattle.run_tables.proofs.Problems.{either_has_some, either_is_one, read_is_well_posed}
 
 -- ---- what two chains give, where their first steps give one thing
@@ -65,9 +64,8 @@ check_has_one held request found other few p q =
     same_next (PosedOf (Holds held) asked.spec asked.code asked.entry) (λ posed. table_behind request.table (CheckOf asked posed) (Holds held)) (λ x y. x ≡ y) (λ o. refl) (one_posed held asked.spec asked.code asked.entry) (λ posed is.
     same_next (Holds held table_cap request.table) (CheckOf asked posed) (λ x y. x ≡ y) (λ o. refl) (one_held held table_cap request.table) (λ bytes holds found other a b.
     let same = one_machine posed.spec a.machine b.machine a.is_machine b.is_machine in
-    checks_are_one posed.image (problem_in asked posed b.machine) asked.base bytes found other
-    (read_is_well_posed (Holds held) asked posed b.machine few is b.is_machine)
-    (subst (λ (m : Numbers). Checked posed.image (problem_in asked posed m) asked.base bytes found) same a.checked) b.checked)) found other p q
+    check_is_one posed.image (problem_in asked posed b.machine) asked.base bytes (read_is_well_posed (Holds held) asked posed b.machine few is b.is_machine) asked.open found other
+    (subst (λ (m : Numbers). Done posed.image (check_task_in asked (problem_in asked posed m) bytes) asked.base found) same a.checked) b.checked)) found other p q
 
 pub check_has_some : CheckHasSome
 check_has_some held request few =
@@ -75,8 +73,8 @@ check_has_some held request few =
     total (PosedOf (Holds held) asked.spec asked.code asked.entry) (λ posed. table_behind request.table (CheckOf asked posed) (Holds held)) (some_posed held asked.spec asked.code asked.entry) (λ posed is.
     total (Holds held table_cap request.table) (CheckOf asked posed) (some_held held table_cap request.table (held request.table) refl) (λ bytes holds.
     let m = some_machine posed.spec.machine (posed_has_machine (Holds held) asked.spec asked.code asked.entry posed is) in
-    let found = checks_have_some posed.image (problem_in asked posed m.0) asked.base bytes
-    (read_is_well_posed (Holds held) asked posed m.0 few is m.1) (λ a there. posed_has_words (Holds held) asked.spec asked.code asked.entry posed few is a there) in
+    let found = check_is_some posed.image (problem_in asked posed m.0) asked.base bytes
+    (read_is_well_posed (Holds held) asked posed m.0 few is m.1) (λ a there. posed_has_words (Holds held) asked.spec asked.code asked.entry posed few is a there) asked.open in
     (found.0, record { machine = m.0; is_machine = m.1; checked = found.1 })))
 
 -- ---- conversions
@@ -104,9 +102,8 @@ slice_has_one held request found other few p q =
     let posed = sought.posed in
     let parts = sought_parts (Holds held) asked.spec asked.code asked.entry request.cell sought is in
     let same = one_machine posed.spec a.machine b.machine a.is_machine b.is_machine in
-    slices_are_one posed.image (problem_in asked posed b.machine) asked.base bytes request.address sought.asked found other
-    (read_is_well_posed (Holds held) asked posed b.machine few parts.posed b.is_machine)
-    (subst (λ (m : Numbers). Sliced posed.image (problem_in asked posed m) asked.base bytes request.address sought.asked found) same a.sliced) b.sliced)) found other p q
+    slice_is_one posed.image (problem_in asked posed b.machine) asked.base bytes (read_is_well_posed (Holds held) asked posed b.machine few parts.posed b.is_machine) request.address sought.asked asked.open found other
+    (subst (λ (m : Numbers). Done posed.image (slice_task_in asked (problem_in asked posed m) bytes request.address sought.asked) asked.base found) same a.sliced) b.sliced)) found other p q
 
 pub slice_has_some : SliceHasSome
 slice_has_some held request few =
@@ -117,8 +114,8 @@ slice_has_some held request few =
     let posed = sought.posed in
     let read = (sought_parts (Holds held) asked.spec asked.code asked.entry request.cell sought is).posed in
     let m = some_machine posed.spec.machine (posed_has_machine (Holds held) asked.spec asked.code asked.entry posed read) in
-    let found = slices_have_some posed.image (problem_in asked posed m.0) asked.base bytes request.address sought.asked
-    (read_is_well_posed (Holds held) asked posed m.0 few read m.1) (λ a there. posed_has_words (Holds held) asked.spec asked.code asked.entry posed few read a there) in
+    let found = slice_is_some posed.image (problem_in asked posed m.0) asked.base bytes
+    (read_is_well_posed (Holds held) asked posed m.0 few read m.1) request.address sought.asked (λ a there. posed_has_words (Holds held) asked.spec asked.code asked.entry posed few read a there) asked.open in
     (found.0, record { machine = m.0; is_machine = m.1; sliced = found.1 })))
 
 -- ---- claims
@@ -131,9 +128,8 @@ claims_has_one held request found other few p q =
     same_next (Holds held table_cap request.check.table) (λ bytes. claims_behind request.claims (ClaimsOf asked posed bytes) (Holds held)) (λ x y. x ≡ y) (λ o. refl) (one_held held table_cap request.check.table) (λ bytes holds.
     same_next (Holds held claims_cap request.claims) (ClaimsOf asked posed bytes) (λ x y. x ≡ y) (λ o. refl) (one_held held claims_cap request.claims) (λ claims claimed found other a b.
     let same = one_machine posed.spec a.machine b.machine a.is_machine b.is_machine in
-    claims_are_one posed.image (problem_in asked posed b.machine) asked.base bytes claims found other
-    (read_is_well_posed (Holds held) asked posed b.machine few is b.is_machine)
-    (subst (λ (m : Numbers). Claimed posed.image (problem_in asked posed m) asked.base bytes claims found) same a.claimed) b.claimed))) found other p q
+    claims_is_one posed.image (problem_in asked posed b.machine) asked.base bytes (read_is_well_posed (Holds held) asked posed b.machine few is b.is_machine) claims asked.open found other
+    (subst (λ (m : Numbers). Done posed.image (claims_task_in asked (problem_in asked posed m) bytes claims) asked.base found) same a.claimed) b.claimed))) found other p q
 
 pub claims_has_some : ClaimsHasSome
 claims_has_some held request few =
@@ -142,6 +138,6 @@ claims_has_some held request few =
     total (Holds held table_cap request.check.table) (λ bytes. claims_behind request.claims (ClaimsOf asked posed bytes) (Holds held)) (some_held held table_cap request.check.table (held request.check.table) refl) (λ bytes holds.
     total (Holds held claims_cap request.claims) (ClaimsOf asked posed bytes) (some_held held claims_cap request.claims (held request.claims) refl) (λ claims claimed.
     let m = some_machine posed.spec.machine (posed_has_machine (Holds held) asked.spec asked.code asked.entry posed is) in
-    let found = claims_have_some posed.image (problem_in asked posed m.0) asked.base bytes claims
-    (read_is_well_posed (Holds held) asked posed m.0 few is m.1) (λ a there. posed_has_words (Holds held) asked.spec asked.code asked.entry posed few is a there) in
+    let found = claims_is_some posed.image (problem_in asked posed m.0) asked.base bytes
+    (read_is_well_posed (Holds held) asked posed m.0 few is m.1) claims (λ a there. posed_has_words (Holds held) asked.spec asked.code asked.entry posed few is a there) asked.open in
     (found.0, record { machine = m.0; is_machine = m.1; claimed = found.1 }))))

@@ -21,19 +21,22 @@ pub read_is_well_posed : (reads : Reading) (request : AnalyseRequest) (posed : P
     → posed.spec.machine ≡ Some m → IsWellPosed (problem_in request posed m)
 read_is_well_posed reads request posed m few is is_machine = posed_is_well_posed reads request.spec request.code request.entry posed m request.limit request.joins few is is_machine
 
+-- ---- one of two tasks
+
+module _ (opened closed : Task) where
+  pub closed_is : (b : Bool) → b ≡ false → (if b then opened else closed) ≡ closed
+  closed_is true e = absurd (cc)
+  closed_is false e = refl
+
+  pub open_is : (b : Bool) → b ≡ true → (if b then opened else closed) ≡ opened
+  open_is true e = refl
+  open_is false e = absurd (cc)
+
 -- ---- the analysis that is asked for, left open or not
 
 module _ (p : Problem) where
   abbrev pub Either : Bool → Task
   Either b = if b then analyse_open p else analyse p
-
-  closed_is : (b : Bool) → b ≡ false → Either b ≡ analyse p
-  closed_is true e = absurd (cc)
-  closed_is false e = refl
-
-  open_is : (b : Bool) → b ≡ true → Either b ≡ analyse_open p
-  open_is true e = refl
-  open_is false e = absurd (cc)
 
   module _ (image : Image) (base : BaseName) (posed : IsWellPosed p) where
     pub either_is_one : (b : Bool) (found other : Outcome) → Done image (Either b) base found → Done image (Either b) base other → AreOne base p.spec image found other
@@ -49,14 +52,14 @@ module _ (request : AnalyseRequest) (posed : Posed) (bytes : List ℕ) where
   is_tabled closed is = record {
     machine = is.machine;
     is_machine = is.is_machine;
-    analysed = subst (λ (task : Task). Done posed.image task request.base (Ok (text bytes))) (closed_is (problem_in request posed is.machine) request.open closed) is.analysed;
+    analysed = subst (λ (task : Task). Done posed.image task request.base (Ok (text bytes))) (closed_is (analyse_open (problem_in request posed is.machine)) (analyse (problem_in request posed is.machine)) request.open closed) is.analysed;
   }
 
   pub is_open_tabled : request.open ≡ true → AnalysisOf request posed (Ok (text bytes)) → OpenTabledBy request posed bytes
   is_open_tabled opened is = record {
     machine = is.machine;
     is_machine = is.is_machine;
-    analysed = subst (λ (task : Task). Done posed.image task request.base (Ok (text bytes))) (open_is (problem_in request posed is.machine) request.open opened) is.analysed;
+    analysed = subst (λ (task : Task). Done posed.image task request.base (Ok (text bytes))) (open_is (analyse_open (problem_in request posed is.machine)) (analyse (problem_in request posed is.machine)) request.open opened) is.analysed;
   }
 
   -- and back
@@ -64,5 +67,12 @@ module _ (request : AnalyseRequest) (posed : Posed) (bytes : List ℕ) where
   tabled_is closed is = record {
     machine = is.machine;
     is_machine = is.is_machine;
-    analysed = subst (λ (task : Task). Done posed.image task request.base (Ok (text bytes))) (sym (closed_is (problem_in request posed is.machine) request.open closed)) is.analysed;
+    analysed = subst (λ (task : Task). Done posed.image task request.base (Ok (text bytes))) (sym (closed_is (analyse_open (problem_in request posed is.machine)) (analyse (problem_in request posed is.machine)) request.open closed)) is.analysed;
+  }
+
+  pub open_tabled_is : request.open ≡ true → OpenTabledBy request posed bytes → AnalysisOf request posed (Ok (text bytes))
+  open_tabled_is opened is = record {
+    machine = is.machine;
+    is_machine = is.is_machine;
+    analysed = subst (λ (task : Task). Done posed.image task request.base (Ok (text bytes))) (sym (open_is (analyse_open (problem_in request posed is.machine)) (analyse (problem_in request posed is.machine)) request.open opened)) is.analysed;
   }

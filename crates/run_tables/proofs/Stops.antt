@@ -7,7 +7,7 @@ use Rattle.analysis_domains.specs.Tasks as tasks
 use Rattle.analysis_domains.proofs.Verdicts.{MayStop, may_stop}
 use Rattle.run_steps.specs.Outcome.{Refusal}
 use Rattle.table_inputs.specs.Inputs.{Coded, Posed, Sought}
-use Rattle.run_tables.specs.Problems.{problem_in, task_in}
+use Rattle.run_tables.specs.Problems.{check_task_in, claims_task_in, problem_in, slice_task_in, task_in}
 use Rattle.run_tables.specs.Steps.{AnalysisOf, CheckOf, ClaimsOf, ConversionOf, SliceOf}
 
 pub analysis_stops : (request : AnalyseRequest) (posed : Posed) (refusal : Refusal) → AnalysisOf request posed (Err refusal) → MayStop refusal
@@ -16,15 +16,15 @@ analysis_stops request posed refusal is =
 
 pub check_stops : (request : AnalyseRequest) (posed : Posed) (bytes : List ℕ) (refusal : Refusal) → CheckOf request posed bytes (Err refusal) → MayStop refusal
 check_stops request posed bytes refusal is =
-    may_stop posed.image (tasks.check (problem_in request posed is.machine) bytes) request.base refusal is.checked
+    may_stop posed.image (check_task_in request (problem_in request posed is.machine) bytes) request.base refusal is.checked
 
 pub conversion_stops : (base : BaseName) (coded : Coded) (bytes : List ℕ) (refusal : Refusal) → ConversionOf base coded bytes (Err refusal) → MayStop refusal
 conversion_stops base coded bytes refusal is = may_stop coded.image (tasks.convert coded.spec bytes) base refusal is
 
 pub slice_stops : (request : AnalyseRequest) (sought : Sought) (at : ℕ) (bytes : List ℕ) (refusal : Refusal) → SliceOf request sought at bytes (Err refusal) → MayStop refusal
 slice_stops request sought at bytes refusal is =
-    may_stop sought.posed.image (tasks.slice (problem_in request sought.posed is.machine) bytes at sought.asked) request.base refusal is.sliced
+    may_stop sought.posed.image (slice_task_in request (problem_in request sought.posed is.machine) bytes at sought.asked) request.base refusal is.sliced
 
 pub claims_stop : (request : AnalyseRequest) (posed : Posed) (bytes claims : List ℕ) (refusal : Refusal) → ClaimsOf request posed bytes claims (Err refusal) → MayStop refusal
 claims_stop request posed bytes claims refusal is =
-    may_stop posed.image (tasks.claims (problem_in request posed is.machine) bytes claims) request.base refusal is.claimed
+    may_stop posed.image (claims_task_in request (problem_in request posed is.machine) bytes claims) request.base refusal is.claimed

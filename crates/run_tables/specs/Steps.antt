@@ -3,12 +3,12 @@ use Rattle.std.specs.Prelude.{◌≡◌, ℕ, List, [], ◌∷◌, ◌++◌, Som
 use Rattle.command_words.specs.declared.bases.BaseName.{BaseName}
 use Rattle.command_words.specs.Requests.{AnalyseRequest, CheckRequest, ClaimsRequest, ConvertRequest, SliceRequest}
 use Rattle.spec_types.specs.declared.spec.Machine.{Machine}
-use Rattle.analysis_domains.specs.Named.{Accepted, Analysed, AnalysedOpen, Checked, Claimed, ClaimsHold, Converted, Done, SliceHolds, Sliced}
+use Rattle.analysis_domains.specs.Named.{Accepted, AcceptedOpen, Analysed, AnalysedOpen, ClaimsHold, ClaimsHoldOpen, Converted, Done, SliceHolds, SliceHoldsOpen}
 use Rattle.run_steps.specs.Outcome.{Outcome, text}
 use Rattle.run_steps.specs.Reading.{Capped, Reading}
 use Rattle.run_steps.specs.Steps.{Then}
 use Rattle.table_inputs.specs.Inputs.{Coded, CodedOf, Posed, PosedOf, Sought, SoughtOf, claims_cap, coded_inputs, posed_inputs, table_cap}
-use Rattle.run_tables.specs.Problems.{problem_in, task_in}
+use Rattle.run_tables.specs.Problems.{check_task_in, claims_task_in, problem_in, slice_task_in, task_in}
 
 -- The outcome of the analysis of what was read, as the request asks for it: over its base and under its limit, left open or not.
 pub record AnalysisOf (request : AnalyseRequest) (posed : Posed) (outcome : Outcome) : Type 0 where
@@ -28,11 +28,11 @@ pub record OpenTabledBy (request : AnalyseRequest) (posed : Posed) (bytes : List
   pub is_machine : posed.spec.machine ≡ Some machine
   pub analysed : AnalysedOpen posed.image (problem_in request posed machine) request.base (Ok (text bytes))
 
--- That of the check of a table, which is a text.
+-- That of the check of a table, which is a text, as the request asks for it: of one that may be left open, or not.
 pub record CheckOf (request : AnalyseRequest) (posed : Posed) (bytes : List ℕ) (outcome : Outcome) : Type 0 where
   pub machine : Machine
   pub is_machine : posed.spec.machine ≡ Some machine
-  pub checked : Checked posed.image (problem_in request posed machine) request.base bytes outcome
+  pub checked : Done posed.image (check_task_in request (problem_in request posed machine) bytes) request.base outcome
 
 -- That of a text which is written anew.
 abbrev pub ConversionOf : BaseName → Coded → List ℕ → Outcome → Type 0
@@ -44,11 +44,18 @@ pub record AcceptedBy (request : AnalyseRequest) (posed : Posed) (bytes : List �
   pub is_machine : posed.spec.machine ≡ Some machine
   pub accepted : Accepted posed.image (problem_in request posed machine) request.base bytes
 
--- That of the slice of a table, which is a text, for the reads of a cell by the instruction at an address.
+-- The text is that of a table which a check accepts that may be left open: it is closed but there, and true of every run up to and with the first state at
+-- an open address.
+pub record OpenAcceptedBy (request : AnalyseRequest) (posed : Posed) (bytes : List ℕ) : Type 0 where
+  pub machine : Machine
+  pub is_machine : posed.spec.machine ≡ Some machine
+  pub accepted : AcceptedOpen posed.image (problem_in request posed machine) request.base bytes
+
+-- That of the slice of a table, which is a text, for the reads of a cell by the instruction at an address; of one that may be left open, or not.
 pub record SliceOf (request : AnalyseRequest) (sought : Sought) (at : ℕ) (bytes : List ℕ) (outcome : Outcome) : Type 0 where
   pub machine : Machine
   pub is_machine : sought.posed.spec.machine ≡ Some machine
-  pub sliced : Sliced sought.posed.image (problem_in request sought.posed machine) request.base bytes at sought.asked outcome
+  pub sliced : Done sought.posed.image (slice_task_in request (problem_in request sought.posed machine) bytes at sought.asked) request.base outcome
 
 -- The text is that of the slice of a table which a check accepts: it holds every chain of every read that it is of.
 pub record SlicedBy (request : AnalyseRequest) (sought : Sought) (at : ℕ) (bytes text : List ℕ) : Type 0 where
@@ -56,17 +63,31 @@ pub record SlicedBy (request : AnalyseRequest) (sought : Sought) (at : ℕ) (byt
   pub is_machine : sought.posed.spec.machine ≡ Some machine
   pub holds : SliceHolds sought.posed.image (problem_in request sought.posed machine) request.base bytes at sought.asked text
 
--- That of claims, which are a text, on a table, which is one.
+-- The text is that of the slice of a table which a check accepts that may be left open: it holds every chain of every read that it is of, in every run
+-- up to and with the first state at an open address.
+pub record OpenSlicedBy (request : AnalyseRequest) (sought : Sought) (at : ℕ) (bytes text : List ℕ) : Type 0 where
+  pub machine : Machine
+  pub is_machine : sought.posed.spec.machine ≡ Some machine
+  pub holds : SliceHoldsOpen sought.posed.image (problem_in request sought.posed machine) request.base bytes at sought.asked text
+
+-- That of claims, which are a text, on a table, which is one and may be left open, or not.
 pub record ClaimsOf (request : AnalyseRequest) (posed : Posed) (bytes claims : List ℕ) (outcome : Outcome) : Type 0 where
   pub machine : Machine
   pub is_machine : posed.spec.machine ≡ Some machine
-  pub claimed : Claimed posed.image (problem_in request posed machine) request.base bytes claims outcome
+  pub claimed : Done posed.image (claims_task_in request (problem_in request posed machine) bytes claims) request.base outcome
 
 -- The text has a line for each claim on a table which a check accepts: each that is answered with yes is true of every run.
 pub record ClaimedBy (request : AnalyseRequest) (posed : Posed) (bytes claims text : List ℕ) : Type 0 where
   pub machine : Machine
   pub is_machine : posed.spec.machine ≡ Some machine
   pub holds : ClaimsHold posed.image (problem_in request posed machine) request.base bytes claims text
+
+-- The text has a line for each claim on a table which a check accepts that may be left open: each that is answered with yes is true of every run up to
+-- and with the first state at an open address.
+pub record OpenClaimedBy (request : AnalyseRequest) (posed : Posed) (bytes claims text : List ℕ) : Type 0 where
+  pub machine : Machine
+  pub is_machine : posed.spec.machine ≡ Some machine
+  pub holds : ClaimsHoldOpen posed.image (problem_in request posed machine) request.base bytes claims text
 
 -- `analyse`: the specification, the code and the entry are read and examined, one after another, and the code is analysed
 abbrev pub AnalyseSteps : Reading → AnalyseRequest → Outcome → Type 0

@@ -8,6 +8,11 @@ ghost use Rattle.run_steps.specs.Reading.{Gave, IsTakenFrom};
 ghost use Rattle.command_words.specs.Views.{analyse_of, check_of};
 ghost use Rattle.table_inputs.specs.Inputs.{table_cap};
 ghost use Rattle.table_inputs.specs.Views.{posed_of as view};
+ghost use Rattle.insn_decode.specs.Image.{Image};
+ghost use Rattle.spec_types.specs.Specification.{Spec};
+ghost use Rattle.domain_tasks.specs.Read.{IsAsked, IsRead, problem_at, task_of};
+ghost use Rattle.state_text.specs.Reading.{entry_of};
+ghost use Rattle.run_tables.specs.Problems.{check_task_in};
 ghost use Rattle.run_tables.specs.Read.{IsPosed};
 ghost use Rattle.run_tables.specs.Steps.{CheckOf, CheckSteps, check_inputs};
 ghost use Rattle.run_tables.specs.Work.{CheckTakes, CheckWork};
@@ -22,7 +27,8 @@ use step_counter::Steps;
 use table_inputs::{Posed, TABLE_CAP, posed_of};
 use tsl_io::Inputs;
 
-/// The verdict on a table: a machine's specification, its code and an entry are read and examined, then the table is read, and it is checked.
+/// The verdict on a table: a machine's specification, its code and an entry are read and examined, then the table is read, and it is checked; where the
+/// request says so, it may be left open.
 pub fn checked<'a, I: Inputs, L: Ledger>(
     alloc: Global,
     inputs: &mut I,
@@ -37,7 +43,7 @@ pub fn checked<'a, I: Inputs, L: Ledger>(
     ensures taken { IsTrue (I.state inputs.old).tells → (inputs.new ≡ inputs.old)
         ⊎ (IsTrue (I.state inputs.new).is_open
         → IsTakenFrom (check_inputs (check_of request.now)) (I.state inputs.old) (I.state inputs.new)) }
-    // At most one transfer for each address that the table lists.
+    // At most one transfer for each address that the table lists, and two where it may be left open.
     ensures work { CheckWork (Gave (I.state inputs.old) (I.state inputs.new)) (check_of request.now) steps.old steps.new }
 {
     let asked = &request.analysis;
@@ -57,7 +63,7 @@ fn verdict_of<'a, L: Ledger>(
     requires posed { IsPosed (view posed.now) }
     requires short { length table.now ≤ table_cap }
     ensures gives { Gives (CheckOf (analyse_of asked.now) (view posed.now) table.now) answer_of result }
-    ensures work { CheckTakes asked.now.base (view posed.now) table.now steps.old steps.new }
+    ensures work { CheckTakes (analyse_of asked.now) (view posed.now) table.now steps.old steps.new }
 {
     let Some(machine) = posed.spec.machine else {
         unreachable!()
@@ -71,7 +77,20 @@ fn verdict_of<'a, L: Ledger>(
     let subject = Subject {
         spec: &posed.spec,
         image: &posed.image,
-        task: Task::Check(start, table),
+        task: check_from(asked, start, table),
     };
     over_base::<L>(alloc, &subject, asked.base, steps)
+}
+
+/// The check from a start, of a table that may be left open or not.
+fn check_from<'a, 'b>(asked: &AnalyseRequest<'b>, start: Start<'a>, table: &'a [u8]) -> Task<'a>
+    requires short { length table.now ≤ table_cap }
+    ensures task { (spec : Spec) (image : Image) → task_of spec image result ≡ check_task_in (analyse_of asked.now) (problem_at spec image start.entry) table.now }
+    ensures asked { (spec : Spec) → IsRead spec start.entry.machine (entry_of start.entry.entry.now) → IsAsked spec result }
+{
+    if asked.open {
+        Task::CheckOpen(start, table)
+    } else {
+        Task::Check(start, table)
+    }
 }

@@ -8,6 +8,11 @@ ghost use Rattle.run_steps.specs.Reading.{Gave, IsTakenFrom};
 ghost use Rattle.command_words.specs.Views.{analyse_of, claims_of};
 ghost use Rattle.table_inputs.specs.Inputs.{claims_cap, table_cap};
 ghost use Rattle.table_inputs.specs.Views.{posed_of as view};
+ghost use Rattle.insn_decode.specs.Image.{Image};
+ghost use Rattle.spec_types.specs.Specification.{Spec};
+ghost use Rattle.domain_tasks.specs.Read.{IsAsked, IsRead, problem_at, task_of};
+ghost use Rattle.state_text.specs.Reading.{entry_of};
+ghost use Rattle.run_tables.specs.Problems.{claims_task_in};
 ghost use Rattle.run_tables.specs.Read.{IsPosed};
 ghost use Rattle.run_tables.specs.Steps.{ClaimsOf, ClaimsSteps, claims_inputs};
 ghost use Rattle.run_tables.specs.Work.{CheckTakes, ClaimsWork};
@@ -23,7 +28,7 @@ use table_inputs::{CLAIMS_CAP, Posed, TABLE_CAP, posed_of};
 use tsl_io::Inputs;
 
 /// The answers to claims: a machine's specification, its code and an entry are read and examined, then the table and the claims are read, and the
-/// claims are answered by the table.
+/// claims are answered by the table, which may be left open where the request says so.
 pub fn claimed<'a, I: Inputs, L: Ledger>(
     alloc: Global,
     inputs: &mut I,
@@ -38,7 +43,7 @@ pub fn claimed<'a, I: Inputs, L: Ledger>(
     ensures taken { IsTrue (I.state inputs.old).tells → (inputs.new ≡ inputs.old)
         ⊎ (IsTrue (I.state inputs.new).is_open
         → IsTakenFrom (claims_inputs (claims_of request.now)) (I.state inputs.old) (I.state inputs.new)) }
-    // At most one transfer for each address that the table lists.
+    // At most one transfer for each address that the table lists, and two where it may be left open.
     ensures work { ClaimsWork (Gave (I.state inputs.old) (I.state inputs.new)) (claims_of request.now) steps.old steps.new }
 {
     let asked = &request.check.analysis;
@@ -61,7 +66,7 @@ fn answers_of<'a, L: Ledger>(
     requires short_table { length table.now ≤ table_cap }
     requires short_claims { length claims.now ≤ claims_cap }
     ensures gives { Gives (ClaimsOf (analyse_of asked.now) (view posed.now) table.now claims.now) answer_of result }
-    ensures work { CheckTakes asked.now.base (view posed.now) table.now steps.old steps.new }
+    ensures work { CheckTakes (analyse_of asked.now) (view posed.now) table.now steps.old steps.new }
 {
     let Some(machine) = posed.spec.machine else {
         unreachable!()
@@ -75,7 +80,26 @@ fn answers_of<'a, L: Ledger>(
     let subject = Subject {
         spec: &posed.spec,
         image: &posed.image,
-        task: Task::Claims(start, table, claims),
+        task: claims_from(asked, start, table, claims),
     };
     over_base::<L>(alloc, &subject, asked.base, steps)
+}
+
+/// The claims from a start, on a table that may be left open or not.
+fn claims_from<'a, 'b>(
+    asked: &AnalyseRequest<'b>,
+    start: Start<'a>,
+    table: &'a [u8],
+    claims: &'a [u8],
+) -> Task<'a>
+    requires short_table { length table.now ≤ table_cap }
+    requires short_claims { length claims.now ≤ claims_cap }
+    ensures task { (spec : Spec) (image : Image) → task_of spec image result ≡ claims_task_in (analyse_of asked.now) (problem_at spec image start.entry) table.now claims.now }
+    ensures asked { (spec : Spec) → IsRead spec start.entry.machine (entry_of start.entry.entry.now) → IsAsked spec result }
+{
+    if asked.open {
+        Task::ClaimsOpen(start, table, claims)
+    } else {
+        Task::Claims(start, table, claims)
+    }
 }

@@ -4,7 +4,8 @@
 //! is done over the base that the request names (`base_tasks`). A refusal of a step is that of the command, and nothing more is read.
 //! `analysed`, `checked`, `converted`, `sliced` and `claimed` give what these chains may give, over any inputs.
 //!
-//! The request of `analyse` says whether the analysis is left open at what has no decoding or too many targets (specs/Problems, `task_in`).
+//! The request of `analyse` says whether the analysis is left open at what has no decoding or too many targets (specs/Problems, `task_in`); those of `check`,
+//! `slice` and `claims` say whether their table may be left open there (`check_task_in` and the like).
 //!
 //! The laws of src/laws.rt say that over the bytes that names hold each command has one outcome; over affine relations the table that `analyse` or
 //! `convert` writes may have several texts.

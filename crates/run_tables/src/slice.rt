@@ -8,6 +8,11 @@ ghost use Rattle.run_steps.specs.Reading.{Gave, IsTakenFrom};
 ghost use Rattle.command_words.specs.Views.{analyse_of, slice_of};
 ghost use Rattle.table_inputs.specs.Inputs.{table_cap};
 ghost use Rattle.table_inputs.specs.Views.{sought_of as view};
+ghost use Rattle.insn_decode.specs.Image.{Image};
+ghost use Rattle.spec_types.specs.Specification.{Spec};
+ghost use Rattle.domain_tasks.specs.Read.{IsAsked, IsRead, problem_at, task_of};
+ghost use Rattle.state_text.specs.Reading.{entry_of};
+ghost use Rattle.run_tables.specs.Problems.{slice_task_in};
 ghost use Rattle.run_tables.specs.Read.{IsPosed};
 ghost use Rattle.run_tables.specs.Steps.{SliceOf, SliceSteps, slice_inputs};
 ghost use Rattle.run_tables.specs.Work.{CheckTakes, SliceWork};
@@ -16,6 +21,7 @@ use base_tasks::over_base;
 use command_words::{AnalyseRequest, SliceRequest};
 use domain_tasks::{Start, Subject, Task};
 use run_steps::{Answer, Halt, read_input};
+use slice_text::Asked;
 use std::alloc::Global;
 use std::sync::ledger::Ledger;
 use step_counter::Steps;
@@ -23,7 +29,7 @@ use table_inputs::{Sought, TABLE_CAP, sought_of};
 use tsl_io::Inputs;
 
 /// The slice of a table: a machine's specification is read and examined, and the cell is sought in its states; then its code and an entry are read and
-/// examined; then the table is read, checked and sliced.
+/// examined; then the table, which may be left open where the request says so, is read, checked and sliced.
 pub fn sliced<'a, I: Inputs, L: Ledger>(
     alloc: Global,
     inputs: &mut I,
@@ -38,7 +44,7 @@ pub fn sliced<'a, I: Inputs, L: Ledger>(
     ensures taken { IsTrue (I.state inputs.old).tells → (inputs.new ≡ inputs.old)
         ⊎ (IsTrue (I.state inputs.new).is_open
         → IsTakenFrom (slice_inputs (slice_of request.now)) (I.state inputs.old) (I.state inputs.new)) }
-    // At most one transfer for each address that the table lists.
+    // At most one transfer for each address that the table lists, and two where it may be left open.
     ensures work { SliceWork (Gave (I.state inputs.old) (I.state inputs.new)) (slice_of request.now) steps.old steps.new }
 {
     let asked = &request.check.analysis;
@@ -66,7 +72,7 @@ fn slice_over<'a, L: Ledger>(
     requires posed { IsPosed (view sought.now).posed }
     requires short { length table.now ≤ table_cap }
     ensures gives { Gives (SliceOf (analyse_of asked.now) (view sought.now) at table.now) answer_of result }
-    ensures work { CheckTakes asked.now.base (view sought.now).posed table.now steps.old steps.new }
+    ensures work { CheckTakes (analyse_of asked.now) (view sought.now).posed table.now steps.old steps.new }
 {
     let posed = &sought.posed;
     let Some(machine) = posed.spec.machine else {
@@ -81,7 +87,26 @@ fn slice_over<'a, L: Ledger>(
     let subject = Subject {
         spec: &posed.spec,
         image: &posed.image,
-        task: Task::Slice(start, table, at, sought.asked),
+        task: slice_from(asked, start, table, at, sought.asked),
     };
     over_base::<L>(alloc, &subject, asked.base, steps)
+}
+
+/// The slice from a start, of a table that may be left open or not.
+fn slice_from<'a, 'b>(
+    asked: &AnalyseRequest<'b>,
+    start: Start<'a>,
+    table: &'a [u8],
+    at: u32,
+    cell: Asked,
+) -> Task<'a>
+    requires short { length table.now ≤ table_cap }
+    ensures task { (spec : Spec) (image : Image) → task_of spec image result ≡ slice_task_in (analyse_of asked.now) (problem_at spec image start.entry) table.now at cell }
+    ensures asked { (spec : Spec) → IsRead spec start.entry.machine (entry_of start.entry.entry.now) → IsAsked spec result }
+{
+    if asked.open {
+        Task::SliceOpen(start, table, at, cell)
+    } else {
+        Task::Slice(start, table, at, cell)
+    }
 }

@@ -5,32 +5,24 @@ ghost use Rattle.state_text.specs.Reading.{error_at};
 
 use crate::fault::Fault;
 use std::alloc::{AllocError, AllocFailed};
-use thiserror::Error;
 use tsl_lexer::Text;
 
 /// The first fault of an entry. `n` is the number of the first faulty line, from 1.
-#[derive(Debug, Drop, Error)]
+#[derive(Debug, Drop)]
 pub enum EntryError {
     /// E1: the line has another form than lines of entries have.
-    #[error("line {n} has another form")]
     BadLine { n: u32 },
     /// E2: the line names an unknown cell.
-    #[error("line {n} names an unknown cell")]
     UnknownCell { n: u32 },
     /// E3: a number of the line has more bits than its cell.
-    #[error("a number on line {n} is too big")]
     TooBig { n: u32 },
     /// E4: the line gives a cell that an earlier line gives.
-    #[error("line {n} gives a cell again")]
     Twice { n: u32 },
     /// E5: no line is faulty, and none gives the program counter one number.
-    #[error("the program counter is given no number")]
     NoPc,
     /// E6: the first cell that is given more than one number, where one state is wanted.
-    #[error("a cell is given more than one number")]
     NotOne { cell: Text },
     /// Memory ran out.
-    #[error("out of memory")]
     NoMemory,
 }
 

@@ -41,7 +41,7 @@ pub enum CaseError {
     #[error("the state before it is too long")]
     Long,
     /// It is not one state.
-    #[error("the state before it: {0}")]
+    #[error("the state before it: {0:?}")]
     Entry(EntryError),
     /// No word of code stands at its program counter.
     #[error("no code at the program counter")]

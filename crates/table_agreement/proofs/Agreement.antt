@@ -1,4 +1,4 @@
--- What the analysis of a problem prints tells its table, and is accepted; what was written anew stays.
+-- What the analysis of a problem prints tells its table; what was written anew stays.
 use Rattle.std.proofs.Common.{◌≡◌, ℕ, Bool, true, false, List, Option, IsTrue, inl, inr, refl, sym, ap, subst}
 use Rattle.std.specs.List.{list_all}
 use Rattle.std.specs.Prelude.{Ok, is_some}
@@ -11,12 +11,8 @@ use Rattle.domain_laws.specs.States.{state_type}
 use Rattle.fixed_point.specs.Analysis.{Analysis, AnalysisLaws}
 use Rattle.fixed_point.specs.Play.{play}
 use Rattle.fixed_point.specs.Table.{IsTableOf, Listings}
-use Rattle.fixed_point.specs.Verdicts.{verdict_of}
-use Rattle.fixed_point.specs.declared.verdict.Verdict.{Verdict}
-use Rattle.fixed_point.specs.declared.verdict.Verdict.TheVariants as v
 use Rattle.fixed_point.proofs.One.{legal_traces_are_one}
-use Rattle.fixed_point.proofs.Tables.{full_traces_close, tables_are_one, tables_fit_the_image}
-use Rattle.fixed_point.proofs.Verdicts.{accepted_are_closed}
+use Rattle.fixed_point.proofs.Tables.{tables_are_one, tables_fit_the_image}
 use Rattle.tsl_values.specs.States.{State}
 use Rattle.transfer_laws.specs.Problem.{IsWellPosed, Problem}
 use Rattle.transfer.specs.Analysis.{calls_of}
@@ -25,62 +21,74 @@ use Rattle.printable_tables.specs.Tables.{IsPrintableTable}
 use Rattle.printable_tables.proofs.Tables.{tables_are_printable}
 use Rattle.table_faults.specs.declared.table_error.TableError.{TableError}
 use Rattle.table_reader.specs.Ends.{is_word_of}
-use Rattle.table_reader.specs.Tables.{IsErrorIn, IsTableIn}
+use Rattle.table_reader.specs.Tables.{IsOpenTableIn, IsTableIn}
 use Rattle.table_readings.specs.Readings.{AreAlike}
-use Rattle.table_readings.proofs.Errors.{tables_are_alike, tables_have_no_error}
-use Rattle.table_text.specs.Tables.{IsTableText}
+use Rattle.table_readings.proofs.Errors.{open_tables_are_alike, open_tables_have_no_error}
+use Rattle.open_tables.specs.Endings.{Endings}
+use Rattle.table_text.specs.Open.{IsOpenTableText}
 use Rattle.table_round_trip.specs.Laws.{HasParts}
 use Rattle.table_round_trip.specs.Writable.{IsWritable}
 use Rattle.table_round_trip.proofs.Fitting.{fitting_tables_are_of_code}
 use Rattle.table_round_trip.proofs.Tables.{converted_texts_are_read, tables_read_are_writable, texts_are_read, texts_are_told}
 use Rattle.run_steps.specs.Outcome.{Outcome, table_refused, text}
 use Rattle.analysis_domains.specs.Analyses.{IsTable, analysis}
-use Rattle.analysis_domains.specs.Checks.{Judges, accepted_line, judged, outcome_of}
 use Rattle.analysis_domains.specs.Conversions as conversions
 use Rattle.analysis_domains.specs.Conversions.{Rewrites, rewritten}
 use Rattle.analysis_domains.specs.Domains.{DomainOf}
-use Rattle.analysis_domains.specs.Named.{Analysed, Checked, Converted, domain_of, has_relations}
+use Rattle.analysis_domains.specs.Named.{Analysed, Converted, domain_of, has_relations}
 use Rattle.analysis_domains.proofs.Bases.{IsKnown, all_known, known, known_is_lawful}
 use Rattle.analysis_domains.proofs.Lawful.{IsExact, IsLawful}
-use Rattle.analysis_domains.proofs.Readings.{checks_are_one}
 use Rattle.analysis_domains.proofs.Ready.{is_analysed, keeps_the_laws}
-use Rattle.analysis_domains.proofs.Texts.{one_text, same_are_alike}
-use Rattle.table_agreement.specs.Laws.{AnalysesAreAccepted, AnalysesAreTold, AnalysesTellOne, ConversionsStay, IsCodeFor, IsCodeOf, IsRewritten, TablesAreTold, TellOne, TextsAreReadBack}
+use Rattle.analysis_domains.proofs.Texts.{same_are_alike}
+use Rattle.table_agreement.specs.Laws.{AnalysesAreTold, AnalysesTellOne, ConversionsStay, IsCodeFor, IsCodeOf, IsRewritten, TablesAreTold, TellOne, TextsAreReadBack}
 use Rattle.table_agreement.specs.Printable.{Asks, IsPrintableIn}
 use Rattle.table_agreement.proofs.Bases.{all_told, names_inside}
+use Rattle.table_agreement.proofs.OpenTexts.{one_open_text}
 use Rattle.table_agreement.proofs.Told.{IsTold}
 
 -- ---- in a domain that is told by texts
 
 module _ {E W N C : Type 0} (domain : DomainOf E W N C) (notes_are : Asks N) (elements_are : Asks E) (spec : Spec) (lawful : IsLawful domain spec) (told : IsTold domain notes_are elements_are spec)
     (image : Image) (code : IsCodeFor spec image) (name : List ℕ) (inside : IsTrue (list_all is_inside name)) where
-  pub parts : HasParts domain.Reads domain.IsText domain.elements elements_are spec image
-  parts = record { elements = told.trips; laws = lawful.reads; fields = code.fields; is_image = code.is_image }
+  abbrev pub Holds : W → Type 0
+  Holds = domain.base.words.fits domain.meaning.context 32
+
+  pub parts : HasParts domain.Reads domain.word_in domain.IsText domain.word_text domain.elements elements_are Holds spec image
+  parts = record { elements = told.trips; words = told.words; laws = lawful.reads; fields = code.fields; is_image = code.is_image }
 
   -- a text that is written of a table that was read tells it too
-  pub read_again : (bytes new : List ℕ) (t : Listings E) → IsTableIn domain.Reads spec name image bytes t → IsTableText (domain.IsText spec) spec image name t new → IsTableIn domain.Reads spec name image new t
-  read_again bytes new t h written = converted_texts_are_read domain.Reads domain.IsText domain.elements elements_are spec image name parts inside bytes new t h (inl written)
+  pub read_again : (bytes new : List ℕ) (t : Listings E) (ends : Endings W) → IsOpenTableIn domain.Reads domain.word_in spec name image bytes t ends
+      → IsOpenTableText domain.word_text (domain.IsText spec) spec image name t ends new → IsOpenTableIn domain.Reads domain.word_in spec name image new t ends
+  read_again bytes new t ends h written =
+      converted_texts_are_read domain.Reads domain.word_in domain.IsText domain.word_text domain.elements elements_are Holds spec image name parts inside bytes new t ends h (inl written)
 
   -- what is written of it, and what is written of that
-  module _ (new : List ℕ) (t : Listings E) (back : IsTableIn domain.Reads spec name image new t) (written : IsTableText (domain.IsText spec) spec image name t new) where
+  module _ (new : List ℕ) (t : Listings E) (ends : Endings W) (back : IsOpenTableIn domain.Reads domain.word_in spec name image new t ends)
+      (written : IsOpenTableText domain.word_text (domain.IsText spec) spec image name t ends new) where
     pub record IsAgain (found : Outcome) : Type 0 where
       pub again : List ℕ
       pub other : Listings E
+      pub others : Endings W
       pub is : found ≡ Ok (text again)
-      pub other_is : IsTableIn domain.Reads spec name image again other
-      pub other_text : IsTableText (domain.IsText spec) spec image name other again
+      pub other_is : IsOpenTableIn domain.Reads domain.word_in spec name image again other others
+      pub other_text : IsOpenTableText domain.word_text (domain.IsText spec) spec image name other others again
       pub alike : AreAlike domain.elements t other
+      pub end_alike : (a : ℕ) → ends a ≡ others a
 
     pub is_again : (found : Outcome) → Rewrites domain spec image name new found → IsAgain found
-    is_again found (conversions.refused {error = e} h) = absurd (tables_have_no_error domain.Reads domain.elements spec lawful.reads name image new t e back h)
-    is_again found (rewritten u again h also) = record {
-      again = again;
-      other = u;
-      is = refl;
-      other_is = read_again new again u h also;
-      other_text = also;
-      alike = tables_are_alike domain.Reads domain.elements spec lawful.reads name image new t u back h;
-    }
+    is_again found (conversions.refused {error = e} h) = absurd (open_tables_have_no_error domain.Reads domain.word_in domain.elements spec lawful.reads name image new t ends e back h)
+    is_again found (rewritten u others again h also) =
+        let one = open_tables_are_alike domain.Reads domain.word_in domain.elements spec lawful.reads name image new t u ends others back h in
+        record {
+          again = again;
+          other = u;
+          others = others;
+          is = refl;
+          other_is = read_again new again u others h also;
+          other_text = also;
+          alike = one.0;
+          end_alike = one.1;
+        }
 
 -- ---- of the analysis of a problem
 
@@ -111,15 +119,10 @@ module _ {E W N C : Type 0} (domain : DomainOf E W N C) (notes_are : Asks N) (el
         }
 
     -- it is read back
-    pub back : IsTableIn domain.Reads p.spec name image bytes h.table
-    back = texts_are_read domain.Reads domain.IsText domain.elements elements_are p.spec image name (parts domain notes_are elements_are p.spec lawful told image of.code name inside) inside bytes h.table writable (inl h.text)
-
-    -- and accepted
-    pub accepted : verdict_of A h.table ≡ v.Accepted
-    accepted = (accepted_are_closed A laws h.table h.fits).1 (full_traces_close A laws h.trace h.table h.legal h.full h.fits h.is_table)
-
-    pub judges : Judges domain p image name bytes (Ok (text accepted_line))
-    judges = subst (λ (verdict : Verdict W). Judges domain p image name bytes (outcome_of domain.word_text verdict)) accepted (judged h.table (record { is_table = back; fits = h.fits; is_true = λ closed. h.is_true }))
+    pub back : IsTableIn domain.Reads domain.word_in p.spec name image bytes h.table
+    back =
+        texts_are_read domain.Reads domain.word_in domain.IsText domain.word_text domain.elements elements_are (Holds domain notes_are elements_are p.spec lawful told image of.code name inside) p.spec image name
+        (parts domain notes_are elements_are p.spec lawful told image of.code name inside) inside bytes h.table writable (inl h.text)
 
   -- two texts tell one table
   pub alike : (bytes other : List ℕ) (h : IsTable domain p image name bytes) (k : IsTable domain p image name other) → AreAlike domain.elements h.table k.table
@@ -137,8 +140,8 @@ tables_are_told image spec base bytes t code h =
     let domain = (domain_of (state_type spec) base).domain in
     let elements_are = IsPrintableIn (state_type spec) base in
     let all = parts domain told.0 elements_are spec (known_is_lawful base domain spec (all_known spec has base)) told.1 image code (base_text base) (names_inside base) in (
-      texts_are_told domain.Reads domain.IsText domain.elements elements_are spec image (base_text base) all bytes t h,
-      tables_read_are_writable domain.Reads domain.IsText domain.elements elements_are spec image (base_text base) all bytes t h,
+      texts_are_told domain.Reads domain.word_in domain.IsText domain.word_text domain.elements elements_are (domain.base.words.fits domain.meaning.context 32) spec image (base_text base) all bytes t h,
+      tables_read_are_writable domain.Reads domain.word_in domain.IsText domain.word_text domain.elements elements_are (domain.base.words.fits domain.meaning.context 32) spec image (base_text base) all bytes t h,
     )
 
 pub texts_are_read_back : TextsAreReadBack
@@ -148,7 +151,7 @@ texts_are_read_back image spec base bytes t code writable written =
     let domain = (domain_of (state_type spec) base).domain in
     let elements_are = IsPrintableIn (state_type spec) base in
     let all = parts domain told.0 elements_are spec (known_is_lawful base domain spec (all_known spec has base)) told.1 image code (base_text base) (names_inside base) in
-    texts_are_read domain.Reads domain.IsText domain.elements elements_are spec image (base_text base) all (names_inside base) bytes t writable written
+    texts_are_read domain.Reads domain.word_in domain.IsText domain.word_text domain.elements elements_are (domain.base.words.fits domain.meaning.context 32) spec image (base_text base) all (names_inside base) bytes t writable written
 
 pub analyses_are_told : AnalysesAreTold
 analyses_are_told image p base bytes posed of h =
@@ -172,36 +175,28 @@ analyses_tell_one image p base bytes other posed of h k =
       alike = alike domain told.0 (IsPrintableIn (state_type p.spec) base) p lawful told.1 posed image of (base_text base) (names_inside base) bytes other h k;
     }
 
--- the check of its text
-pub analyses_check : (image : Image) (p : Problem) (base : BaseName) (bytes : List ℕ) → IsWellPosed p → IsCodeOf p image → Analysed image p base (Ok (text bytes)) → Checked image p base bytes (Ok (text accepted_line))
-analyses_check image p base bytes posed of h =
-    let told = all_told p.spec of.code.fields.states of.code.fields.fields base in
-    let domain = (domain_of (state_type p.spec) base).domain in
-    let lawful = known_is_lawful base domain p.spec (known image p base posed) in
-    judges domain told.0 (IsPrintableIn (state_type p.spec) base) p lawful told.1 posed image of (base_text base) (names_inside base) bytes h
-
-pub analyses_are_accepted : AnalysesAreAccepted
-analyses_are_accepted image p base bytes found posed of h checked = checks_are_one image p base bytes found (Ok (text accepted_line)) posed checked (analyses_check image p base bytes posed of h)
-
 -- ---- conversions
 
 never : (b : Bool) → IsTrue b → b ≡ false → ⊥
 never true is e = cc
 never false is e = cc
 
-exact_again : {E W N C : Type 0} (base : BaseName) (domain : DomainOf E W N C) (spec : Spec) (image : Image) (t u : Listings E) (new again : List ℕ) → IsKnown base domain spec → AreAlike domain.elements t u
-    → IsTableText (domain.IsText spec) spec image (base_text base) t new → IsTableText (domain.IsText spec) spec image (base_text base) u again → has_relations base ≡ false → again ≡ new
-exact_again base domain spec image t u new again (inl plain) same written also none = sym (one_text domain.elements (domain.IsText spec) spec plain.exact image (base_text base) t u new again same written also)
-exact_again base domain spec image t u new again (inr related) same written also none = absurd (never (has_relations base) related.0 none)
+exact_again : {E W N C : Type 0} (base : BaseName) (domain : DomainOf E W N C) (spec : Spec) (image : Image) (t u : Listings E) (ends others : Endings W) (new again : List ℕ) → IsKnown base domain spec
+    → AreAlike domain.elements t u → ((a : ℕ) → ends a ≡ others a) → IsOpenTableText domain.word_text (domain.IsText spec) spec image (base_text base) t ends new
+    → IsOpenTableText domain.word_text (domain.IsText spec) spec image (base_text base) u others again → has_relations base ≡ false → again ≡ new
+exact_again base domain spec image t u ends others new again (inl plain) same end_same written also none =
+    sym (one_open_text domain.elements domain.word_text (domain.IsText spec) spec plain.exact image (base_text base) t u ends others new again same end_same written also)
+exact_again base domain spec image t u ends others new again (inr related) same end_same written also none = absurd (never (has_relations base) related.0 none)
 
 -- a text that was written
 record WasWritten {E W N C : Type 0} (domain : DomainOf E W N C) (spec : Spec) (image : Image) (name bytes new : List ℕ) : Type 0 where
   pub table : Listings E
-  pub is_table : IsTableIn domain.Reads spec name image bytes table
-  pub written : IsTableText (domain.IsText spec) spec image name table new
+  pub ends : Endings W
+  pub is_table : IsOpenTableIn domain.Reads domain.word_in spec name image bytes table ends
+  pub written : IsOpenTableText domain.word_text (domain.IsText spec) spec image name table ends new
 
 was_written : {E W N C : Type 0} (domain : DomainOf E W N C) (spec : Spec) (image : Image) (name bytes new : List ℕ) → Rewrites domain spec image name bytes (Ok (text new)) → WasWritten domain spec image name bytes new
-was_written domain spec image name bytes new (rewritten t made is written) = record { table = t; is_table = is; written = written }
+was_written domain spec image name bytes new (rewritten t ends made is written) = record { table = t; ends = ends; is_table = is; written = written }
 
 pub conversions_stay : ConversionsStay
 conversions_stay image spec base bytes new found code first second =
@@ -212,11 +207,11 @@ conversions_stay image spec base bytes new found code first second =
     let lawful = known_is_lawful base domain spec known_so in
     let w = was_written domain spec image (base_text base) bytes new first in
     let inside = names_inside base in
-    let again_is = read_again domain told.0 (IsPrintableIn (state_type spec) base) spec lawful told.1 image code (base_text base) inside bytes new w.table w.is_table w.written in
-    let a = is_again domain told.0 (IsPrintableIn (state_type spec) base) spec lawful told.1 image code (base_text base) inside new w.table again_is w.written found second in
+    let again_is = read_again domain told.0 (IsPrintableIn (state_type spec) base) spec lawful told.1 image code (base_text base) inside bytes new w.table w.ends w.is_table w.written in
+    let a = is_again domain told.0 (IsPrintableIn (state_type spec) base) spec lawful told.1 image code (base_text base) inside new w.table w.ends again_is w.written found second in
     record {
       again = a.again;
       is = a.is;
-      same = record { first = w.table; second = a.other; first_is = again_is; second_is = a.other_is; alike = a.alike };
-      exact = λ none. exact_again base domain spec image w.table a.other new a.again known_so a.alike w.written a.other_text none;
+      same = record { first = w.table; second = a.other; ends = w.ends; others = a.others; first_is = again_is; second_is = a.other_is; alike = a.alike; end_alike = a.end_alike };
+      exact = λ none. exact_again base domain spec image w.table a.other w.ends a.others new a.again known_so a.alike a.end_alike w.written a.other_text none;
     }

@@ -16,11 +16,14 @@ use Rattle.state_text.specs.Laws.{HasFields}
 use Rattle.base_text.specs.Readings.{NothingFits, StampsFit, bits_readings, defuse_readings, interval_readings, set_readings}
 use Rattle.base_text.specs.Tell.{bits_tell, defuse_tell, intervals_tell, sets_tell}
 use Rattle.base_text.specs.Texts.{bits_texts, defuse_texts, interval_texts, set_texts}
+use Rattle.base_text.specs.Words.{affine_text}
 use Rattle.text_lines.specs.Lines.{is_inside}
 use Rattle.printable_tables.specs.Domains.{HasNone}
 use Rattle.printable_tables.specs.Notes.{BothNotes, TellsNothing}
 use Rattle.printable_tables.specs.Values.{PartsHaveNotes}
 use Rattle.printable_tables.proofs.Notes.{nothing_keeps, stamps_keep}
+use Rattle.element_round_trip.specs.Words.{AreSolid}
+use Rattle.element_round_trip.proofs.Words.{relations_words_tell}
 use Rattle.analysis_domains.specs.Domains.{DomainOf, definitions, intervals, known_bits, relations, sets}
 use Rattle.analysis_domains.specs.Named.{domain_of}
 use Rattle.table_agreement.specs.Printable.{Asks, IsPrintableIn}
@@ -45,6 +48,16 @@ names_inside b.KSetBits = refl
 names_inside b.IntervalBits = refl
 names_inside b.BitsDefUse = refl
 
+-- no text of a word has a space
+solid_sets : AreSolid set_texts.word
+solid_sets = λ x. (sets_tell 16).word_solid 32 x
+
+solid_intervals : AreSolid interval_texts.word
+solid_intervals = λ x. intervals_tell.word_solid 32 x
+
+solid_bits : AreSolid bits_texts.word
+solid_bits = λ x. bits_tell.word_solid 32 x
+
 module _ (spec : Spec) (has : has_states spec ≡ true) (fields : HasFields spec) where
   abbrev t : StateType
   t = state_type spec
@@ -67,6 +80,9 @@ module _ (spec : Spec) (has : has_states spec ≡ true) (fields : HasFields spec
   of_relations : IsTold (relations t) TellsNothing (λ code. HasNone) spec
   of_relations = relations_are_told spec has fields
 
+  solid_relations : AreSolid affine_text
+  solid_relations = (relations_words_tell t).1
+
   -- What is told of a base, with what texts ask of its notes.
   abbrev pub Told : BaseName → Type 1
   Told base = (notes_are : Asks (domain_of t base).Note) × IsTold (domain_of t base).domain notes_are (IsPrintableIn t base) spec
@@ -77,14 +93,14 @@ module _ (spec : Spec) (has : has_states spec ≡ true) (fields : HasFields spec
   all_told b.Interval = (NothingFits, of_intervals)
   all_told b.Affine = (TellsNothing, of_relations)
   all_told b.DefUse = (StampsFit, of_definitions)
-  all_told b.ConstInterval = (λ code. BothNotes (NothingFits code) (NothingFits code), pairs_are_told (sets t 1) (intervals t) spec NothingFits NothingFits _ _ of_constants of_intervals)
-  all_told b.KSetInterval = (λ code. BothNotes (NothingFits code) (NothingFits code), pairs_are_told (sets t 16) (intervals t) spec NothingFits NothingFits _ _ of_sets of_intervals)
-  all_told b.KSetAffine = (λ code. BothNotes (NothingFits code) (TellsNothing code), pairs_are_told (sets t 16) (relations t) spec NothingFits TellsNothing _ _ of_sets of_relations)
-  all_told b.KSetDefUse = (λ code. BothNotes (NothingFits code) (StampsFit code), pairs_are_told (sets t 16) (definitions t) spec NothingFits StampsFit _ _ of_sets of_definitions)
-  all_told b.IntervalAffine = (λ code. BothNotes (NothingFits code) (TellsNothing code), pairs_are_told (intervals t) (relations t) spec NothingFits TellsNothing _ _ of_intervals of_relations)
-  all_told b.IntervalDefUse = (λ code. BothNotes (NothingFits code) (StampsFit code), pairs_are_told (intervals t) (definitions t) spec NothingFits StampsFit _ _ of_intervals of_definitions)
-  all_told b.AffineDefUse = (λ code. BothNotes (TellsNothing code) (StampsFit code), pairs_are_told (relations t) (definitions t) spec TellsNothing StampsFit _ _ of_relations of_definitions)
+  all_told b.ConstInterval = (λ code. BothNotes (NothingFits code) (NothingFits code), pairs_are_told (sets t 1) (intervals t) spec NothingFits NothingFits _ _ solid_sets of_constants of_intervals)
+  all_told b.KSetInterval = (λ code. BothNotes (NothingFits code) (NothingFits code), pairs_are_told (sets t 16) (intervals t) spec NothingFits NothingFits _ _ solid_sets of_sets of_intervals)
+  all_told b.KSetAffine = (λ code. BothNotes (NothingFits code) (TellsNothing code), pairs_are_told (sets t 16) (relations t) spec NothingFits TellsNothing _ _ solid_sets of_sets of_relations)
+  all_told b.KSetDefUse = (λ code. BothNotes (NothingFits code) (StampsFit code), pairs_are_told (sets t 16) (definitions t) spec NothingFits StampsFit _ _ solid_sets of_sets of_definitions)
+  all_told b.IntervalAffine = (λ code. BothNotes (NothingFits code) (TellsNothing code), pairs_are_told (intervals t) (relations t) spec NothingFits TellsNothing _ _ solid_intervals of_intervals of_relations)
+  all_told b.IntervalDefUse = (λ code. BothNotes (NothingFits code) (StampsFit code), pairs_are_told (intervals t) (definitions t) spec NothingFits StampsFit _ _ solid_intervals of_intervals of_definitions)
+  all_told b.AffineDefUse = (λ code. BothNotes (TellsNothing code) (StampsFit code), pairs_are_told (relations t) (definitions t) spec TellsNothing StampsFit _ _ solid_relations of_relations of_definitions)
   all_told b.Bits = (NothingFits, of_bits)
-  all_told b.KSetBits = (λ code. BothNotes (NothingFits code) (NothingFits code), pairs_are_told (sets t 16) (known_bits t) spec NothingFits NothingFits _ _ of_sets of_bits)
-  all_told b.IntervalBits = (λ code. BothNotes (NothingFits code) (NothingFits code), pairs_are_told (intervals t) (known_bits t) spec NothingFits NothingFits _ _ of_intervals of_bits)
-  all_told b.BitsDefUse = (λ code. BothNotes (NothingFits code) (StampsFit code), pairs_are_told (known_bits t) (definitions t) spec NothingFits StampsFit _ _ of_bits of_definitions)
+  all_told b.KSetBits = (λ code. BothNotes (NothingFits code) (NothingFits code), pairs_are_told (sets t 16) (known_bits t) spec NothingFits NothingFits _ _ solid_sets of_sets of_bits)
+  all_told b.IntervalBits = (λ code. BothNotes (NothingFits code) (NothingFits code), pairs_are_told (intervals t) (known_bits t) spec NothingFits NothingFits _ _ solid_intervals of_intervals of_bits)
+  all_told b.BitsDefUse = (λ code. BothNotes (NothingFits code) (StampsFit code), pairs_are_told (known_bits t) (definitions t) spec NothingFits StampsFit _ _ solid_bits of_bits of_definitions)

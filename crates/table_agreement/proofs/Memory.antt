@@ -1,5 +1,5 @@
 -- What follows for two runs in memory.
-use Rattle.std.proofs.Common.{◌≡◌, ◌∙◌, ◌⊎◌, ℕ, ◌<◌, ◌≤◌, List, Some, false, arith, inl, inr, length, refl, sym, ap, subst}
+use Rattle.std.proofs.Common.{◌≡◌, ◌∙◌, ◌⊎◌, ℕ, ◌<◌, ◌≤◌, Bool, List, Some, false, true, arith, inl, inr, length, refl, sym, ap, subst}
 use Rattle.std.specs.Prelude.{Ok}
 use Rattle.command_words.specs.Requests.{AnalyseRequest, Request, analyse, check}
 use Rattle.command_words.specs.Words.{asked}
@@ -12,27 +12,27 @@ use Rattle.std.specs.Prelude.{Option}
 use Rattle.table_inputs.specs.Inputs.{table_cap}
 use Rattle.analysis_domains.specs.Checks.{accepted_line}
 use Rattle.run_tables.specs.Steps.{AnalyseSteps}
-use Rattle.run_tables.proofs.Problems.{tabled_is}
+use Rattle.run_tables.proofs.Problems.{open_tabled_is, tabled_is}
 use Rattle.tsl_run.specs.Owed.{IsOwed, Owes, OwesLonger}
 use Rattle.tsl_run.specs.Steps.{Steps}
-use Rattle.tsl_run.specs.Tables.{IsTableFor}
-use Rattle.tsl_run.proofs.Parts.{few_asked}
-use Rattle.table_agreement.specs.Laws.{HoldTheSame}
+use Rattle.tsl_run.specs.Tables.{IsOpenTableFor, IsTableFor}
+use Rattle.table_agreement.specs.Laws.{HoldBytes, HoldTheSame}
 use Rattle.table_agreement.proofs.Runs.{analyse_then_check}
 
-module _ (words check_words : List (List ℕ)) (held later : Held) (request : AnalyseRequest) (table bytes : List ℕ) (asks : asked words ≡ Some (analyse request))
-    (also : asked check_words ≡ Some (check (record { analysis = request; table = table }))) (same : HoldTheSame words held later) (wrote : IsTableFor held request bytes)
-    (holds : later table ≡ Some bytes) (fits : length bytes ≤ table_cap) where
-  closed : request.open ≡ false
-  closed = (few_asked check_words (check (record { analysis = request; table = table })) also).1
+module _ (words check_words : List (List ℕ)) (held later : Held) (request : AnalyseRequest) (joins : ℕ) (table bytes : List ℕ) (asks : asked words ≡ Some (analyse request))
+    (also : asked check_words ≡ Some (check (record { analysis = record request { joins = joins }; table = table }))) (are : request.open ≡ true → HoldBytes words held) (same : HoldTheSame words held later)
+    (wrote : request.open ≡ false → IsTableFor held request bytes) (wrote_open : request.open ≡ true → IsOpenTableFor held request bytes) (holds : later table ≡ Some bytes) (fits : length bytes ≤ table_cap) where
+  analysed : (b : Bool) → request.open ≡ b → AnalyseSteps (Holds held) request (Ok (text bytes))
+  analysed false closed = let w = wrote closed in goes_on w.is_posed (tabled_is request w.posed bytes closed w.tabled)
+  analysed true left_open = let w = wrote_open left_open in goes_on w.is_posed (open_tabled_is request w.posed bytes left_open w.tabled)
 
   -- what was written is owed
   owed : IsOwed words held (Ok (text bytes))
-  owed = subst (λ (what : Option Request). Steps (Holds held) what (Ok (text bytes))) (sym asks) (goes_on wrote.is_posed (tabled_is request wrote.posed bytes closed wrote.tabled))
+  owed = subst (λ (what : Option Request). Steps (Holds held) what (Ok (text bytes))) (sym asks) (analysed request.open refl)
 
   -- and so what the check owes is that line
   accepted : (found : Outcome) → IsOwed check_words later found → found ≡ Ok (text accepted_line)
-  accepted found is = analyse_then_check words check_words held later request table bytes found asks also owed same holds fits is
+  accepted found is = analyse_then_check words check_words held later request joins table bytes found asks also are owed same holds fits is
 
   too_long : (n : ℕ) (line : List ℕ) → line ≡ accepted_line → n < length line → 9 ≤ n → ⊥
   too_long n line is longer most = let nine : length line ≡ 9 = ap (λ (xs : List ℕ). length xs) is in omega (arith, nine, longer, most)

@@ -1,6 +1,7 @@
 -- The same over what a run owes.
-use Rattle.std.proofs.Common.{◌≡◌, ◌∙◌, ◌⊎◌, ℕ, ◌≤◌, List, Option, Some, true, false, inl, inr, length, refl, sym, subst}
-use Rattle.std.specs.Prelude.{Err, Ok, Result}
+use Rattle.std.proofs.Common.{◌≡◌, ◌∙◌, ◌⊎◌, ℕ, ◌≤◌, ◌∷◌, [], Bool, List, Option, Some, true, false, inl, inr, length, refl, sym, subst}
+use Rattle.std.specs.Prelude.{Contains, Err, Ok, Result}
+use Rattle.std.proofs.lemmas.List.Elements.{Contains-append_left, Contains-append_right}
 use Rattle.command_words.specs.declared.bases.BaseName.{BaseName}
 use Rattle.command_words.specs.Code.{Code}
 use Rattle.command_words.specs.SpecNames.{SpecName}
@@ -13,30 +14,37 @@ use Rattle.accepted_states.proofs.States.{accepted_have_states}
 use Rattle.table_round_trip.specs.Fields.{HasUseTexts}
 use Rattle.table_round_trip.proofs.Machines.{machines_have_use_texts}
 use Rattle.domain_laws.specs.States.{has_states}
-use Rattle.run_emulate.specs.Code.{CodeOf}
+use Rattle.run_emulate.specs.Code.{CodeOf, part_inputs}
+use Rattle.run_emulate.specs.Entry.{entry_cap}
 use Rattle.run_emulate.specs.Machines.{MachineOf}
 use Rattle.run_steps.specs.Outcome.{Outcome, Refusal, text}
-use Rattle.run_steps.specs.Reading.{Held, Holds, Reading, long, none, whole}
+use Rattle.run_steps.specs.Reading.{Capped, Held, Holds, Reading, long, none, whole}
+use Rattle.run_steps.specs.Sources.{source_inputs}
 use Rattle.run_steps.specs.Steps.{Then, goes_on, refused}
 use Rattle.run_steps.proofs.OneSource.{one_held}
 use Rattle.run_steps.proofs.Steps.{Fails, opened}
-use Rattle.table_inputs.specs.Inputs.{Coded, CodedOf, Posed, PosedOf, table_cap}
+use Rattle.table_inputs.specs.Inputs.{Coded, CodedOf, Posed, PosedOf, coded_inputs, table_cap}
 use Rattle.table_inputs.proofs.Images.{code_image}
 use Rattle.table_inputs.proofs.Problems.{coded_parts, machine_accepted, machine_there, posed_parts, some_machine}
 use Rattle.table_inputs.proofs.Single.{one_coded}
 use Rattle.analysis_domains.specs.Checks.{accepted_line}
-use Rattle.analysis_domains.specs.Named.{Converted}
+use Rattle.analysis_domains.specs.Named.{Converted, Done}
+use Rattle.analysis_domains.specs.Tasks.{Task}
+use Rattle.analysis_domains.specs.Tasks as tasks
 use Rattle.run_tables.specs.Problems.{problem_in}
-use Rattle.run_tables.specs.Steps.{AnalyseSteps, AnalysisOf, CheckSteps, ConversionOf, ConvertSteps, TabledBy}
+use Rattle.run_tables.specs.Steps.{AnalyseSteps, AnalysisOf, CheckSteps, ConversionOf, ConvertSteps, OpenTabledBy, TabledBy}
 use Rattle.run_tables.proofs.Chains.{table_behind}
 use Rattle.run_tables.proofs.One.{check_has_one}
-use Rattle.run_tables.proofs.Problems.{is_tabled, read_is_well_posed}
+use Rattle.run_tables.proofs.Problems.{closed_is, is_open_tabled, is_tabled, open_is, read_is_well_posed}
 use Rattle.tsl_run.specs.Owed.{IsOwed}
 use Rattle.tsl_run.specs.Steps.{Steps}
+use Rattle.tsl_run.specs.Words.{capped_in, capped_inputs}
 use Rattle.tsl_run.proofs.Others.{asked_either}
 use Rattle.tsl_run.proofs.Parts.{few_asked}
-use Rattle.table_agreement.specs.Laws.{AnalyseThenCheck, ConvertTwice, IsCodeFor, IsCodeOf, OwedByInputs}
-use Rattle.table_agreement.proofs.Agreement.{analyses_check, conversions_stay}
+use Rattle.table_agreement.specs.Laws.{AnalyseThenCheck, ConvertTwice, HoldBytes, HoldTheSame, IsCodeFor, IsCodeOf, OwedByInputs}
+use Rattle.table_agreement.proofs.Accepted.{analyses_check, open_analyses_check}
+use Rattle.table_agreement.proofs.Agreement.{conversions_stay}
+use Rattle.table_agreement.proofs.CodeWords.{BytesIn, code_words}
 
 -- ---- what is owed depends on inputs alone
 
@@ -81,30 +89,83 @@ record Analysing (held : Held) (request : AnalyseRequest) (bytes : List ℕ) : T
   pub is_posed : PosedOf (Holds held) request.spec request.code request.entry (Ok posed)
   pub tabled : TabledBy request posed bytes
 
-analysing : (held : Held) (request : AnalyseRequest) (bytes : List ℕ) → request.open ≡ false → AnalyseSteps (Holds held) request (Ok (text bytes)) → Analysing held request bytes
-analysing held request bytes closed is =
-    let o = opened (PosedOf (Holds held) request.spec request.code request.entry) (AnalysisOf request) (text bytes) is in
-    record { posed = o.0; is_posed = o.1; tabled = is_tabled request o.0 bytes closed o.2 }
+-- the same of one that is left open
+record OpenAnalysing (held : Held) (request : AnalyseRequest) (bytes : List ℕ) : Type 0 where
+  pub posed : Posed
+  pub is_posed : PosedOf (Holds held) request.spec request.code request.entry (Ok posed)
+  pub tabled : OpenTabledBy request posed bytes
 
--- the check of its text
-check_of_it : (held : Held) (request : AnalyseRequest) (table bytes : List ℕ) → length request.code.parts ≤ 16 → held table ≡ Some bytes → length bytes ≤ table_cap → Analysing held request bytes
-    → CheckSteps (Holds held) (record { analysis = request; table = table }) (Ok (text accepted_line))
-check_of_it held request table bytes few holds fits a =
-    let parts = posed_parts (Holds held) request.spec request.code request.entry a.posed a.is_posed in
-    let code = code_for (Holds held) request.spec a.posed.spec request.code a.posed.image few parts.coded.machine parts.coded.image in
-    let p = problem_in request a.posed a.tabled.machine in
-    let posed = read_is_well_posed (Holds held) request a.posed a.tabled.machine few a.is_posed a.tabled.is_machine in
-    let of : IsCodeOf p a.posed.image = record { addresses_are = refl; words_are = refl; code = code } in
-    goes_on a.is_posed (goes_on (whole holds fits) (record { machine = a.tabled.machine; is_machine = a.tabled.is_machine; checked = analyses_check a.posed.image p request.base bytes posed of a.tabled.analysed }))
+module _ (held : Held) (request : AnalyseRequest) (bytes : List ℕ) where
+  analysing : request.open ≡ false → AnalyseSteps (Holds held) request (Ok (text bytes)) → Analysing held request bytes
+  analysing closed is =
+      let o = opened (PosedOf (Holds held) request.spec request.code request.entry) (AnalysisOf request) (text bytes) is in
+      record { posed = o.0; is_posed = o.1; tabled = is_tabled request o.0 bytes closed o.2 }
+
+  open_analysing : request.open ≡ true → AnalyseSteps (Holds held) request (Ok (text bytes)) → OpenAnalysing held request bytes
+  open_analysing left_open is =
+      let o = opened (PosedOf (Holds held) request.spec request.code request.entry) (AnalysisOf request) (text bytes) is in
+      record { posed = o.0; is_posed = o.1; tabled = is_open_tabled request o.0 bytes left_open o.2 }
+
+-- the request of a check of that name with the same words, where so many changes join
+abbrev checking : AnalyseRequest → ℕ → List ℕ → CheckRequest
+checking request joins table = record { analysis = record request { joins = joins }; table = table }
+
+-- the inputs of code are those of an analysis
+code_inputs_hold : (held : Held) (request : AnalyseRequest) → BytesIn (capped_in (Some (analyse request))) held → BytesIn (part_inputs request.code.parts) held
+code_inputs_hold held request are cap name bytes named is =
+    are cap name bytes
+    (Contains-append_left (coded_inputs request.spec request.code) ((request.entry, entry_cap) ∷ []) (name, cap) (Contains-append_right (source_inputs request.spec) (part_inputs request.code.parts) (name, cap) named)) is
+
+-- ---- the check of its text
+
+module _ (held : Held) (request : AnalyseRequest) (joins : ℕ) (table bytes : List ℕ) (few : length request.code.parts ≤ 16) (holds : held table ≡ Some bytes) (fits : length bytes ≤ table_cap) where
+  check_of_it : request.open ≡ false → Analysing held request bytes → CheckSteps (Holds held) (checking request joins table) (Ok (text accepted_line))
+  check_of_it closed a =
+      let parts = posed_parts (Holds held) request.spec request.code request.entry a.posed a.is_posed in
+      let code = code_for (Holds held) request.spec a.posed.spec request.code a.posed.image few parts.coded.machine parts.coded.image in
+      let p = problem_in (record request { joins = joins }) a.posed a.tabled.machine in
+      let posed = read_is_well_posed (Holds held) (record request { joins = joins }) a.posed a.tabled.machine few a.is_posed a.tabled.is_machine in
+      let of : IsCodeOf p a.posed.image = record { addresses_are = refl; words_are = refl; code = code } in
+      goes_on a.is_posed (goes_on (whole holds fits) (record {
+        machine = a.tabled.machine;
+        is_machine = a.tabled.is_machine;
+        checked = subst (λ (task : Task). Done a.posed.image task request.base (Ok (text accepted_line))) (sym (closed_is (tasks.check_open p bytes) (tasks.check p bytes) request.open closed))
+            (analyses_check a.posed.image p request.joins request.base bytes posed of a.tabled.analysed);
+      }))
+
+  open_check_of_it : request.open ≡ true → BytesIn (part_inputs request.code.parts) held → OpenAnalysing held request bytes → CheckSteps (Holds held) (checking request joins table) (Ok (text accepted_line))
+  open_check_of_it left_open are a =
+      let parts = posed_parts (Holds held) request.spec request.code request.entry a.posed a.is_posed in
+      let code = code_for (Holds held) request.spec a.posed.spec request.code a.posed.image few parts.coded.machine parts.coded.image in
+      let p = problem_in (record request { joins = joins }) a.posed a.tabled.machine in
+      let posed = read_is_well_posed (Holds held) (record request { joins = joins }) a.posed a.tabled.machine few a.is_posed a.tabled.is_machine in
+      let of : IsCodeOf p a.posed.image = record { addresses_are = refl; words_are = refl; code = code } in
+      let words = code_words held request.code a.posed.image are parts.coded.image in
+      goes_on a.is_posed (goes_on (whole holds fits) (record {
+        machine = a.tabled.machine;
+        is_machine = a.tabled.is_machine;
+        checked = subst (λ (task : Task). Done a.posed.image task request.base (Ok (text accepted_line))) (sym (open_is (tasks.check_open p bytes) (tasks.check p bytes) request.open left_open))
+            (open_analyses_check a.posed.image p request.joins request.base bytes posed of words a.tabled.analysed);
+      }))
+
+  check_of_either : (b : Bool) → request.open ≡ b → (request.open ≡ true → BytesIn (capped_in (Some (analyse request))) held) → AnalyseSteps (Holds held) request (Ok (text bytes))
+      → CheckSteps (Holds held) (checking request joins table) (Ok (text accepted_line))
+  check_of_either false closed are is = check_of_it closed (analysing held request bytes closed is)
+  check_of_either true left_open are is = open_check_of_it left_open (code_inputs_hold held request (are left_open)) (open_analysing held request bytes left_open is)
+
+-- inputs that hold the same later hold bytes later
+later_bytes : (words : List (List ℕ)) (held later : Held) → HoldTheSame words held later → HoldBytes words held → HoldBytes words later
+later_bytes words held later same are cap name bytes named is = are cap name bytes named (same cap name named ∙ is)
 
 pub analyse_then_check : AnalyseThenCheck
-analyse_then_check words check_words held later request table bytes found asks also first same holds fits second =
+analyse_then_check words check_words held later request joins table bytes found asks also are first same holds fits second =
     let few = few_asked words (analyse request) asks in
-    let closed = (few_asked check_words (check (record { analysis = request; table = table })) also).1 in
     let owed = owed_by_inputs words held later (Ok (text bytes)) same first in
     let analysed : AnalyseSteps (Holds later) request (Ok (text bytes)) = subst (λ (what : Option Request). Steps (Holds later) what (Ok (text bytes))) asks owed in
-    let checked : CheckSteps (Holds later) (record { analysis = request; table = table }) found = subst (λ (what : Option Request). Steps (Holds later) what found) also second in
-    check_has_one later (record { analysis = request; table = table }) found (Ok (text accepted_line)) few checked (check_of_it later request table bytes few holds fits (analysing later request bytes closed analysed))
+    let checked : CheckSteps (Holds later) (checking request joins table) found = subst (λ (what : Option Request). Steps (Holds later) what found) also second in
+    check_has_one later (checking request joins table) found (Ok (text accepted_line)) few checked
+    (check_of_either later request joins table bytes few holds fits request.open refl
+    (λ left_open. subst (λ (what : Option Request). BytesIn (capped_in what) later) asks (later_bytes words held later same (are left_open))) analysed)
 
 -- ---- conversions
 

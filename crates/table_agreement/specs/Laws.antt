@@ -1,5 +1,5 @@
 -- What the commands on tables owe agrees.
-use Rattle.std.specs.Prelude.{◌≡◌, ℕ, ◌≤◌, Contains, List, Ok, Some, false, length}
+use Rattle.std.specs.Prelude.{◌≡◌, ℕ, ◌<◌, ◌≤◌, Contains, List, Ok, Some, false, length, slice_index, true}
 use Rattle.command_words.specs.declared.bases.BaseName.{BaseName}
 use Rattle.command_words.specs.Bases.{base_text}
 use Rattle.command_words.specs.Requests.{AnalyseRequest, ConvertRequest, analyse, check, convert}
@@ -9,21 +9,23 @@ use Rattle.insn_decode.specs.Image.{Image, addresses, code_at}
 use Rattle.spec_types.specs.Specification.{Spec}
 use Rattle.domain_laws.specs.States.{state_type}
 use Rattle.fixed_point.specs.Table.{Listings}
+use Rattle.open_tables.specs.Endings.{Endings}
 use Rattle.transfer_laws.specs.Problem.{IsWellPosed, Problem}
 use Rattle.printable_tables.specs.Laws.{has_word}
 use Rattle.printable_tables.specs.Tables.{IsPrintableTable}
 use Rattle.table_reader.specs.Ends.{is_word_of}
-use Rattle.table_reader.specs.Tables.{IsTableIn}
+use Rattle.table_reader.specs.Tables.{IsOpenTableIn, IsTableIn}
 use Rattle.table_readings.specs.Readings.{AreAlike}
 use Rattle.table_round_trip.specs.Fields.{HasUseTexts}
 use Rattle.table_round_trip.specs.FirstTexts.{IsTextOf}
+use Rattle.table_round_trip.specs.OpenAnalyses.{HasCodeWords}
 use Rattle.table_round_trip.specs.Writable.{IsWritable}
 use Rattle.run_steps.specs.Outcome.{Outcome, text}
 use Rattle.run_steps.specs.Reading.{Held, Holds}
 use Rattle.table_inputs.specs.Inputs.{Coded, CodedOf, table_cap}
 use Rattle.analysis_domains.specs.Analyses.{IsTable}
 use Rattle.analysis_domains.specs.Checks.{accepted_line}
-use Rattle.analysis_domains.specs.Named.{Analysed, Checked, Converted, domain_of, has_relations}
+use Rattle.analysis_domains.specs.Named.{Analysed, AnalysedOpen, Checked, CheckedOpen, Converted, domain_of, has_relations}
 use Rattle.tsl_run.specs.Owed.{IsOwed}
 use Rattle.tsl_run.specs.Words.{capped_inputs}
 use Rattle.table_agreement.specs.Printable.{IsPrintableIn}
@@ -41,9 +43,17 @@ pub record IsCodeOf (p : Problem) (image : Image) : Type 0 where
   pub words_are : p.word_at ≡ code_at image
   pub code : IsCodeFor p.spec image
 
+-- the problem, where so many changes of an element join before later ones widen
+abbrev pub with_joins : Problem → ℕ → Problem
+with_joins p joins = record p { joins = joins }
+
 -- The text is read as this table, over a base.
 abbrev pub Tells : (base : BaseName) (spec : Spec) → Image → List ℕ → Listings (domain_of (state_type spec) base).Elem → Type 0
-Tells base spec image = IsTableIn (domain_of (state_type spec) base).domain.Reads spec (base_text base) image
+Tells base spec image = IsTableIn (domain_of (state_type spec) base).domain.Reads (domain_of (state_type spec) base).domain.word_in spec (base_text base) image
+
+-- The text is read as this table with these endings, over a base.
+abbrev pub TellsOpen : (base : BaseName) (spec : Spec) → Image → List ℕ → Listings (domain_of (state_type spec) base).Elem → Endings (domain_of (state_type spec) base).Word → Type 0
+TellsOpen base spec image = IsOpenTableIn (domain_of (state_type spec) base).domain.Reads (domain_of (state_type spec) base).domain.word_in spec (base_text base) image
 
 -- Two texts tell one table, up to how its elements are written.
 pub record TellOne (base : BaseName) (spec : Spec) (image : Image) (bytes other : List ℕ) : Type 0 where
@@ -52,6 +62,17 @@ pub record TellOne (base : BaseName) (spec : Spec) (image : Image) (bytes other 
   pub first_is : Tells base spec image bytes first
   pub second_is : Tells base spec image other second
   pub alike : AreAlike (domain_of (state_type spec) base).domain.elements first second
+
+-- Two texts tell one table with its endings, up to how its elements are written.
+pub record TellOneOpen (base : BaseName) (spec : Spec) (image : Image) (bytes other : List ℕ) : Type 0 where
+  pub first : Listings (domain_of (state_type spec) base).Elem
+  pub second : Listings (domain_of (state_type spec) base).Elem
+  pub ends : Endings (domain_of (state_type spec) base).Word
+  pub others : Endings (domain_of (state_type spec) base).Word
+  pub first_is : TellsOpen base spec image bytes first ends
+  pub second_is : TellsOpen base spec image other second others
+  pub alike : AreAlike (domain_of (state_type spec) base).domain.elements first second
+  pub end_alike : (a : ℕ) → ends a ≡ others a
 
 -- A text of the table, in format 2 or in format 1, over a base.
 abbrev pub IsTextIn : (base : BaseName) (spec : Spec) → Image → List ℕ → Listings (domain_of (state_type spec) base).Elem → Type 0
@@ -89,17 +110,23 @@ AnalysesTellOne =
     (image : Image) (p : Problem) (base : BaseName) (bytes other : List ℕ) → IsWellPosed p → IsCodeOf p image
     → Analysed image p base (Ok (text bytes)) → Analysed image p base (Ok (text other)) → TellOne base p.spec image bytes other
 
--- What an analysis prints is accepted.
+-- What an analysis prints is accepted, however many changes of an element joined: a check does not know how a table was made.
 abbrev pub AnalysesAreAccepted : Type 0
 AnalysesAreAccepted =
-    (image : Image) (p : Problem) (base : BaseName) (bytes : List ℕ) (found : Outcome) → IsWellPosed p → IsCodeOf p image
-    → Analysed image p base (Ok (text bytes)) → Checked image p base bytes found → found ≡ Ok (text accepted_line)
+    (image : Image) (p : Problem) (joins : ℕ) (base : BaseName) (bytes : List ℕ) (found : Outcome) → IsWellPosed p → IsCodeOf p image
+    → Analysed image (with_joins p joins) base (Ok (text bytes)) → Checked image p base bytes found → found ≡ Ok (text accepted_line)
 
--- A text that was written anew is, written anew once more, a text of the same table; these very bytes, where each element has one text.
+-- So is what an analysis prints that is left open, where a table may be left open, and the code's words have 32 bits.
+abbrev pub OpenAnalysesAreAccepted : Type 0
+OpenAnalysesAreAccepted =
+    (image : Image) (p : Problem) (joins : ℕ) (base : BaseName) (bytes : List ℕ) (found : Outcome) → IsWellPosed p → IsCodeOf p image → HasCodeWords image
+    → AnalysedOpen image (with_joins p joins) base (Ok (text bytes)) → CheckedOpen image p base bytes found → found ≡ Ok (text accepted_line)
+
+-- A text that was written anew is, written anew once more, a text of the same table with the same endings; these very bytes, where each element has one text.
 pub record IsRewritten (base : BaseName) (spec : Spec) (image : Image) (new : List ℕ) (found : Outcome) : Type 0 where
   pub again : List ℕ
   pub is : found ≡ Ok (text again)
-  pub same : TellOne base spec image new again
+  pub same : TellOneOpen base spec image new again
   pub exact : has_relations base ≡ false → again ≡ new
 
 abbrev pub ConversionsStay : Type 0
@@ -117,13 +144,22 @@ HoldTheSame words held later = (cap : ℕ) (name : List ℕ) → Contains (cappe
 abbrev pub OwedByInputs : Type 0
 OwedByInputs = (words : List (List ℕ)) (held later : Held) (outcome : Outcome) → HoldTheSame words held later → IsOwed words held outcome → IsOwed words later outcome
 
+-- The numbers are those of bytes.
+abbrev pub AreBytes : List ℕ → Type 0
+AreBytes bytes = (i : ℕ) → slice_index bytes i < 256
+
+-- The inputs of these words hold bytes.
+abbrev pub HoldBytes : List (List ℕ) → Held → Type 0
+HoldBytes words held = (cap : ℕ) (name bytes : List ℕ) → Contains (capped_inputs words) (name, cap) → held name ≡ Some bytes → AreBytes bytes
+
 -- Where `analyse` owes a text that is no longer than a table may be, and a name holds it later, `check` of that name, with the same other words and
--- where their inputs still hold the same, owes that it is accepted.
+-- where their inputs still hold the same, owes that it is accepted: both are left open, or none is. How many changes of an element join is not one of these
+-- words. (That the inputs hold bytes tells that a code word has 32 bits, and so that the line of an open block without decoding is read back.)
 abbrev pub AnalyseThenCheck : Type 0
 AnalyseThenCheck =
-    (words check_words : List (List ℕ)) (held later : Held) (request : AnalyseRequest) (table bytes : List ℕ) (found : Outcome)
-    → asked words ≡ Some (analyse request) → asked check_words ≡ Some (check (record { analysis = request; table = table }))
-    → IsOwed words held (Ok (text bytes)) → HoldTheSame words held later → later table ≡ Some bytes → length bytes ≤ table_cap
+    (words check_words : List (List ℕ)) (held later : Held) (request : AnalyseRequest) (joins : ℕ) (table bytes : List ℕ) (found : Outcome)
+    → asked words ≡ Some (analyse request) → asked check_words ≡ Some (check (record { analysis = record request { joins = joins }; table = table }))
+    → (request.open ≡ true → HoldBytes words held) → IsOwed words held (Ok (text bytes)) → HoldTheSame words held later → later table ≡ Some bytes → length bytes ≤ table_cap
     → IsOwed check_words later found → found ≡ Ok (text accepted_line)
 
 -- The text is of the same table as one that `convert` owes, of the code that the names of a request hold: these very bytes, where the base has no

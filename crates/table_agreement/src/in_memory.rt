@@ -1,6 +1,6 @@
 //! An analysis over files in memory, and the check of what it wrote.
 
-ghost use Rattle.std.specs.Prelude.{◌≡◌, ◌≤◌, ℕ, IfOk, List, Some, length};
+ghost use Rattle.std.specs.Prelude.{◌≡◌, ◌≤◌, ℕ, IfOk, List, Some, length, true};
 ghost use Rattle.tsl_io.specs.FileList.{first_file};
 ghost use Rattle.command_words.specs.Requests.{AnalyseRequest, analyse, check};
 ghost use Rattle.command_words.specs.Views.{texts};
@@ -8,7 +8,7 @@ ghost use Rattle.command_words.specs.Words.{asked};
 ghost use Rattle.run_steps.specs.declared.status.Status.TheVariants as Statuses;
 ghost use Rattle.analysis_domains.specs.Checks.{accepted_line};
 ghost use Rattle.table_inputs.specs.Inputs.{table_cap};
-ghost use Rattle.table_agreement.specs.Laws.{HoldTheSame};
+ghost use Rattle.table_agreement.specs.Laws.{HoldBytes, HoldTheSame};
 
 use std::alloc::{AllocError, Global};
 use tsl_run::{Ended, run_in_memory};
@@ -21,11 +21,12 @@ pub fn run_both(
     other_words: &[String],
     other_files: Vec<(String, Vec<u8>)>,
 ) -> Result<(Ended, Ended), AllocError>
-    // Where the first is an analysis that ends well, and the other a check with the same words, over files in which the inputs of the analysis are the
-    // same and the table is what it wrote, the check accepts it.
-    ensures { (request : AnalyseRequest) (table : List ℕ)
+    // Where the first is an analysis that ends well, and the other a check with the same words but for when elements widen, over files in which the inputs of the
+    // analysis are the same and the table is what it wrote, the check accepts it: also where both are left open, and the inputs hold numbers of bytes, as they do.
+    ensures { (request : AnalyseRequest) (joins : ℕ) (table : List ℕ)
         → asked (texts words.now) ≡ Some (analyse request)
-        → asked (texts other_words.now) ≡ Some (check (record { analysis = request; table = table }))
+        → asked (texts other_words.now) ≡ Some (check (record { analysis = record request { joins = joins }; table = table }))
+        → (request.open ≡ true → HoldBytes (texts words.now) (first_file files.items))
         → HoldTheSame (texts words.now) (first_file files.items) (first_file other_files.items)
         → IfOk result (λ both. both.0.status ≡ Statuses.Ok
         → first_file other_files.items table ≡ Some both.0.text.items

@@ -1,6 +1,6 @@
 //! How the commands on tables agree. These functions do nothing: their contracts are laws.
 
-ghost use Rattle.table_agreement.specs.Laws.{AnalyseThenCheck, AnalysesAreAccepted, AnalysesAreTold, AnalysesTellOne, ConversionsStay, ConvertTwice, OwedByInputs, TablesAreTold, TextsAreReadBack};
+ghost use Rattle.table_agreement.specs.Laws.{AnalyseThenCheck, AnalysesAreAccepted, AnalysesAreTold, AnalysesTellOne, ConversionsStay, ConvertTwice, OpenAnalysesAreAccepted, OwedByInputs, TablesAreTold, TextsAreReadBack};
 
 /// A text that is read as a table is a text of it.
 pub fn tables_are_told()
@@ -22,9 +22,14 @@ pub fn analyses_tell_one()
     ensures { AnalysesTellOne }
 {}
 
-/// A check accepts what an analysis prints.
+/// A check accepts what an analysis prints, whenever its elements were widened.
 pub fn analyses_are_accepted()
     ensures { AnalysesAreAccepted }
+{}
+
+/// A check of a table that may be left open accepts what an analysis prints that is left open.
+pub fn open_analyses_are_accepted()
+    ensures { OpenAnalysesAreAccepted }
 {}
 
 /// A text that was written anew stays as it is, up to how elements are written.
@@ -37,7 +42,7 @@ pub fn owed_by_inputs()
     ensures { OwedByInputs }
 {}
 
-/// Where `analyse` owes a text, `check` of that text with the same other words owes that it is accepted.
+/// Where `analyse` owes a text, `check` of that text with the same other words, but for `--widen`, owes that it is accepted; where both are left open, too.
 pub fn analyse_then_check()
     ensures { AnalyseThenCheck }
 {}

@@ -1,30 +1,34 @@
 -- A block, read.
-use Rattle.std.proofs.Common.{◌≡◌, ◌≤◌, ℕ, Bool, true, List, [], length, Option, Some, None, codes, refl, sym, subst, arith}
+use Rattle.std.proofs.Common.{◌≡◌, ◌≤◌, ℕ, Bool, true, false, List, [], length, Option, Some, None, codes, if◌then◌else◌, refl, sym, subst, arith}
 use Rattle.spec_types.specs.Specification.{Spec}
 use Rattle.domain_laws.specs.States.{state_type}
+use Rattle.open_tables.specs.declared.ending.Ending.{Ending}
 use Rattle.text_lines.specs.Lines.{Lines}
 use Rattle.text_lines.specs.Outcomes.{Reading, one}
 use Rattle.text_lines.proofs.Steps.{all_shorter, one_shorter}
 use Rattle.element_readers.specs.Reading.{ElementReading}
+use Rattle.element_readers.specs.Words.{WordReading}
 use Rattle.table_reader.specs.Blocks.{BlockRead, block, listed, no_address, no_element}
+use Rattle.table_reader.specs.Endings.{ending_said, may_end, read_ending}
 use Rattle.table_reader.specs.Ends.{End, addresses_said, next_use, or_empty, read_addresses, read_end, read_uses}
 use Rattle.table_reader.specs.Starts.{read_at}
 
-module _ {E : Type 0} (Reads : ElementReading E) (spec : Spec) (is_word : ℕ → Bool) (low : ℕ) (ls : Lines) where
+module _ {E W : Type 0} (Reads : ElementReading E) (word_in : WordReading W) (spec : Spec) (is_word : ℕ → Bool) (low : ℕ) (ls : Lines) where
   -- the first line names no address
-  pub not_there : (left : Lines) → None ≡ read_at is_word low ls → left ≡ ls → BlockRead Reads spec is_word low ls None left
-  not_there left none same = subst (λ l. BlockRead Reads spec is_word low ls None l) (sym same) (no_address (sym none))
+  pub not_there : (left : Lines) → None ≡ read_at is_word low ls → left ≡ ls → BlockRead Reads word_in spec is_word low ls None None left
+  not_there left none same = subst (λ l. BlockRead Reads word_in spec is_word low ls None None l) (sym same) (no_address (sym none))
 
   module _ (at : ℕ) (later : Lines) (there : Some (at, later) ≡ read_at is_word low ls) where
     -- no element stands there
-    pub not_read : (left : Lines) (r : Option E) → r ≡ None → Reads spec is_word later r left → BlockRead Reads spec is_word low ls None left
+    pub not_read : (left : Lines) (r : Option E) → r ≡ None → Reads spec is_word later r left → BlockRead Reads word_in spec is_word low ls None None left
     not_read left r none read = no_element (sym there) (subst (λ x. Reads spec is_word later x left) none read)
 
-    pub whole : (end : Lines) (r : Option E) (x : E) (e : End) → r ≡ Some x → Reads spec is_word later r end → e ≡ read_end spec is_word end
-        → BlockRead Reads spec is_word low ls (Some (at, listed x e)) e.left
-    whole end r x e some read is =
-        subst (λ f. BlockRead Reads spec is_word low ls (Some (at, listed x f)) f.left) (sym is)
-        (block x (sym there) (subst (λ y. Reads spec is_word later y end) some read))
+    pub whole : (end left : Lines) (r : Option E) (x : E) (e : End) (ending : Option (Ending W)) → r ≡ Some x → Reads spec is_word later r end → e ≡ read_end spec is_word end
+        → (ending, left) ≡ read_ending word_in e → BlockRead Reads word_in spec is_word low ls (Some (at, listed x e)) ending left
+    whole end left r x e ending some read is last =
+        subst (λ (q : Reading (Ending W)). BlockRead Reads word_in spec is_word low ls (Some (at, listed x e)) q.0 q.1) (sym last)
+        (subst (λ f. BlockRead Reads word_in spec is_word low ls (Some (at, listed x f)) (read_ending word_in f).0 (read_ending word_in f).1) (sym is)
+        (block x (sym there) (subst (λ y. Reads spec is_word later y end) some read)))
 
 -- ---- lines are used up
 
@@ -46,3 +50,11 @@ end_shorter spec is_word ls =
 
 pub left_shorter : (spec : Spec) (is_word : ℕ → Bool) (e : End) (ls : Lines) → e ≡ read_end spec is_word ls → length e.left ≤ length ls
 left_shorter spec is_word e ls is = subst (λ f. length f.left ≤ length ls) (sym is) (end_shorter spec is_word ls)
+
+module _ {W : Type 0} (word_in : WordReading W) where
+  ending_shorter : (e : End) → length (read_ending word_in e).1 ≤ length e.left
+  ending_shorter e = at (may_end e.next e.exits)
+    where
+      at : (b : Bool) → length (if b then one (ending_said word_in) e.left else (None, e.left)).1 ≤ length e.left
+      at true = one_shorter (ending_said word_in) e.left
+      at false = omega arith

@@ -1,4 +1,5 @@
 pub mod Blocks
+pub mod Endings
 pub mod Ends
 pub mod Heads
 pub mod Starts

@@ -1,6 +1,7 @@
 //! Blocks.
 
 ghost use Rattle.std.specs.Prelude.{◌≡◌, ◌<◌, ◌≤◌, IfOk, IfNone, IfSome, IsTrue, length, option_map};
+ghost use Rattle.std.specs.Option.{option_and_then};
 ghost use Rattle.spec_types.specs.Views.{specification};
 ghost use Rattle.domain_laws.specs.States.{state_type};
 ghost use Rattle.base_text.specs.Reading as reading;
@@ -12,13 +13,15 @@ ghost use Rattle.table_reader.specs.Ends.{is_word_of};
 ghost use Rattle.table_reader.specs.Views.{end_of};
 
 use crate::addresses::{read_exits, read_next};
+use crate::endings::read_ending;
 use crate::setting::Setting;
 use crate::uses::read_uses;
 use base_text::{behind, number_in};
-use base_trait::Use;
+use base_trait::{Base, Use};
 use element_readers::ReadElement;
 use fixed_point::Block;
 use insn_decode::Image;
+use open_tables::Ending;
 use std::alloc::{AllocError as NoMemory, Global};
 use text_lines::LinesOf;
 
@@ -77,6 +80,14 @@ pub(crate) fn read_end(
     Ok(End { uses, next, exits })
 }
 
+/// A block at its address, with its ending, if it has one.
+#[derive(Drop)]
+pub(crate) struct BlockAt<E, W> {
+    pub(crate) address: u32,
+    pub(crate) block: Block<E>,
+    pub(crate) ending: Option<Ending<W>>,
+}
+
 /// Reads a block at an address that is at least so great.
 pub(crate) fn read_block<D: ReadElement>(
     alloc: Global,
@@ -84,12 +95,12 @@ pub(crate) fn read_block<D: ReadElement>(
     at: &Setting,
     low: u64,
     lines: &mut LinesOf<'_>,
-) -> Result<Option<(u32, Block<D::Elem>)>, NoMemory>
+) -> Result<Option<BlockAt<D::Elem, <D::B as Base>::Word>>, NoMemory>
     requires made { IsTrue (D.is_for domain.now (specification at.now.spec.now)) }
     requires fields { at.now.fields.now ≡ (state_type (specification at.now.spec.now)).fields }
-    ensures block { IfOk result (λ r. BlockRead (D.Reads domain.now) (specification at.now.spec.now) (is_word_of at.now.image.now) low lines.old (option_map (λ p. (p.0, listing (λ x. x) p.1)) r) lines.new) }
-    ensures fits { IfOk result (λ r. IfSome r (λ p. IsTrue (is_word_of at.now.image.now p.0) × (D.elements domain.now).fits (D.view p.1.elem))) }
-    ensures least { IfOk result (λ r. IfSome r (λ p. low ≤ p.0)) }
+    ensures block { IfOk result (λ r. BlockRead (D.Reads domain.now) (D.word_in domain.now) (specification at.now.spec.now) (is_word_of at.now.image.now) low lines.old (option_map (λ p. (p.address, listing (λ x. x) p.block)) r) (option_and_then (λ p. p.ending) r) lines.new) }
+    ensures fits { IfOk result (λ r. IfSome r (λ p. IsTrue (is_word_of at.now.image.now p.address) × (D.elements domain.now).fits (D.view p.block.elem))) }
+    ensures least { IfOk result (λ r. IfSome r (λ p. low ≤ p.address)) }
     ensures shorter { IfOk result (λ r. IfSome r (λ p. length lines.new < length lines.old)) }
 {
     let Some(address) = read_at(at.image, low, lines) else {
@@ -98,14 +109,17 @@ pub(crate) fn read_block<D: ReadElement>(
     let Some(elem) = domain.read_element(alloc, at.spec, at.image, lines)? else {
         return Ok(None);
     };
-    let End { uses, next, exits } = read_end(alloc, at, lines)?;
-    Ok(Some((
+    let end = read_end(alloc, at, lines)?;
+    let ending = read_ending::<D>(alloc, domain, &end, lines)?;
+    let End { uses, next, exits } = end;
+    Ok(Some(BlockAt {
         address,
-        Block {
+        block: Block {
             elem,
             next,
             exits,
             uses,
         },
-    )))
+        ending,
+    }))
 }

@@ -5,21 +5,22 @@
 //!
 //! | fault | the line |
 //! |---|---|
-//! | X1 | has another form, or ends without LF; it names an address that is no code word's, a cell out of order, or a row that adds nothing |
+//! | X1 | has another form, or ends without LF; it names an address that is no code word's, a cell out of order, or a row that adds nothing; it says how a block ends that lists what comes next |
 //! | X2 | is line 2, and names another base |
 //! | X3 | tells of another order of bytes, or of other code |
 //!
 //! What is read of a text, specs/Tables says: the head line by line (specs/Heads), then the blocks (specs/Blocks), each with its address
-//! (specs/Starts), the element that its domain reads, and what stands behind that (specs/Ends). A line is taken where it stands; the
-//! first line that is not taken is faulty. So a field of states may be called `use`, `next` or `at`.
+//! (specs/Starts), the element that its domain reads, what stands behind that (specs/Ends), and how the block ends where it is left open
+//! (specs/Endings). A line is taken where it stands; the first line that is not taken is faulty. So a field of states may be called `use`, `next` or `at`.
 #![tactic(auto)]
 
 mod addresses;
 mod block;
+mod endings;
 mod head;
 mod lines;
 mod setting;
 mod table;
 mod uses;
 
-pub use table::read_table;
+pub use table::{OpenTable, read_table};

@@ -1,6 +1,8 @@
 //! Tables.
 
 ghost use Rattle.std.specs.Prelude.{◌≡◌, ◌⊎◌, ◌+◌, ◌-◌, ◌<◌, ◌^◌, IfErr, IfOk, IfSome, IsTrue, length, option_map, true};
+ghost use Rattle.std.specs.BTreeMap.{get};
+ghost use Rattle.std.specs.Ordering.{nat_cmp};
 ghost use Rattle.spec_types.specs.Views.{specification};
 ghost use Rattle.domain_laws.specs.States.{has_states, state_type};
 ghost use Rattle.command_words.specs.Bases.{base_text};
@@ -8,15 +10,18 @@ ghost use Rattle.text_lines.specs.Lines.{lines};
 ghost use Rattle.fixed_point.specs.Views.{listings};
 ghost use Rattle.table_reader.specs.Blocks.{AreReadAs, BlocksFit};
 ghost use Rattle.table_reader.specs.Ends.{is_word_of};
-ghost use Rattle.table_reader.specs.Tables.{IsErrorIn, IsTableIn, error_at};
+ghost use Rattle.table_reader.specs.Tables.{IsErrorIn, IsOpenTableIn, error_at};
 
-use crate::block::read_block;
+use crate::block::{BlockAt, read_block};
+use crate::endings::put;
 use crate::head::{Rule, Stop, read_head};
 use crate::setting::Setting;
+use base_trait::Base;
 use command_words::BaseName;
 use element_readers::ReadElement;
 use fixed_point::Table;
 use insn_decode::Image;
+use open_tables::Ending;
 use spec_types::Spec;
 use state_domain::fields_of;
 use std::alloc::{AllocError as NoMemory, Global};
@@ -24,37 +29,57 @@ use std::collections::BTreeMap;
 use table_faults::TableError;
 use text_lines::{LinesOf, count_lines};
 
+/// A table that is read, and how the blocks end that are left open.
+#[derive(Drop)]
+pub struct OpenTable<E, W> {
+    pub table: Table<E>,
+    /// By the addresses of the blocks; a block that is not left open has none.
+    pub endings: BTreeMap<u32, Ending<W>>,
+}
+
 /// Reads the blocks of a table to the end of the text.
 fn read_blocks<D: ReadElement>(
     alloc: Global,
     domain: &D,
     at: &Setting,
     lines: &mut LinesOf<'_>,
-) -> Result<Option<Table<D::Elem>>, NoMemory>
+) -> Result<Option<OpenTable<D::Elem, <D::B as Base>::Word>>, NoMemory>
     requires made { IsTrue (D.is_for domain.now (specification at.now.spec.now)) }
     requires fields { at.now.fields.now ≡ (state_type (specification at.now.spec.now)).fields }
-    ensures read { IfOk result (λ r. AreReadAs (D.Reads domain.now) (specification at.now.spec.now) (is_word_of at.now.image.now) lines.old (option_map (listings (λ x. x)) r) lines.new) }
-    ensures fits { IfOk result (λ r. IfSome r (λ t. BlocksFit (is_word_of at.now.image.now) (λ x. (D.elements domain.now).fits (D.view x)) (listings (λ x. x) t))) }
+    ensures read { IfOk result (λ r. AreReadAs (D.Reads domain.now) (D.word_in domain.now) (specification at.now.spec.now) (is_word_of at.now.image.now) lines.old (option_map (λ t. (listings (λ x. x) t.table, λ a. get nat_cmp t.endings a)) r) lines.new) }
+    ensures fits { IfOk result (λ r. IfSome r (λ t. BlocksFit (is_word_of at.now.image.now) (λ x. (D.elements domain.now).fits (D.view x)) (listings (λ x. x) t.table))) }
 {
     let mut blocks = BTreeMap::new(alloc);
+    let mut endings = BTreeMap::new(alloc);
     let mut low = 0;
     'lines: while !lines.is_done() {
         match read_block(alloc, domain, at, low, lines) {
-            Ok(Some((address, block))) => {
+            Ok(Some(found)) => {
+                let BlockAt {
+                    address,
+                    block,
+                    ending,
+                } = found;
                 let _old = blocks.insert(address, block)?;
+                put(&mut endings, address, ending)?;
                 low = u64::from(address) + 1;
             }
             Ok(None) => {
                 drop(blocks);
+                drop(endings);
                 return Ok(None);
             }
             Err(error) => {
                 drop(blocks);
+                drop(endings);
                 return Err(error);
             }
         }
     }
-    Ok(Some(Table { blocks }))
+    Ok(Some(OpenTable {
+        table: Table { blocks },
+        endings,
+    }))
 }
 
 /// The error of a faulty line, where so many lines are left, the faulty one among them.
@@ -71,7 +96,8 @@ fn error_in(bytes: &[u8], rule: Rule, left: u64) -> TableError
     }
 }
 
-/// Reads the table of a text, over a base and of an image. Where the text is none, its first faulty line is refused.
+/// Reads the table of a text, over a base and of an image, with the endings of its blocks that are left open. Where the text is none, its
+/// first faulty line is refused.
 pub fn read_table<D: ReadElement>(
     alloc: Global,
     domain: &D,
@@ -79,13 +105,13 @@ pub fn read_table<D: ReadElement>(
     image: &Image,
     base: BaseName,
     bytes: &[u8],
-) -> Result<Table<D::Elem>, TableError>
+) -> Result<OpenTable<D::Elem, <D::B as Base>::Word>, TableError>
     requires made { IsTrue (D.is_for domain.now (specification spec.now)) }
     requires states { has_states (specification spec.now) ≡ true }
     requires short { length bytes.now < 2 ^ 32 }
-    ensures table { IfOk result (λ r. IsTableIn (D.Reads domain.now) (specification spec.now) (base_text base) image.now bytes.now (listings (λ x. x) r)) }
-    ensures error { IfErr result (λ e. (e ≡ TableError.NoMemory) ⊎ IsErrorIn (D.Reads domain.now) (specification spec.now) (base_text base) image.now bytes.now e) }
-    ensures fits { IfOk result (λ r. BlocksFit (is_word_of image.now) (λ x. (D.elements domain.now).fits (D.view x)) (listings (λ x. x) r)) }
+    ensures table { IfOk result (λ r. IsOpenTableIn (D.Reads domain.now) (D.word_in domain.now) (specification spec.now) (base_text base) image.now bytes.now (listings (λ x. x) r.table) (λ a. get nat_cmp r.endings a)) }
+    ensures error { IfErr result (λ e. (e ≡ TableError.NoMemory) ⊎ IsErrorIn (D.Reads domain.now) (D.word_in domain.now) (specification spec.now) (base_text base) image.now bytes.now e) }
+    ensures fits { IfOk result (λ r. BlocksFit (is_word_of image.now) (λ x. (D.elements domain.now).fits (D.view x)) (listings (λ x. x) r.table)) }
 {
     let rest = match read_head(alloc, base.name(), image, bytes) {
         Ok(rest) => rest,

@@ -1,53 +1,60 @@
 -- Blocks that are read are at code addresses, and their elements fit.
-use Rattle.std.proofs.Common.{◌≡◌, ℕ, ◌+◌, Bool, true, false, cond, List, [], ◌∷◌, Option, Some, None, IsTrue, ap, refl, sym, subst}
+use Rattle.std.proofs.Common.{◌≡◌, ℕ, ◌+◌, ◌≤◌, Bool, true, false, cond, List, [], ◌∷◌, Option, Some, None, IsTrue, ap, refl, sym, subst}
 use Rattle.std.specs.Prelude.{◌==◌, ◌&&◌, codes, nat_le}
 use Rattle.std.specs.Option.{option_and_then}
+use Rattle.std.proofs.lemmas.Bool.{leb-true}
 use Rattle.base_trait.specs.Lists.{Each}
 use Rattle.base_trait.proofs.Lists.{number_told}
 use Rattle.base_trait.proofs.Tests.{and_parts}
 use Rattle.spec_types.specs.Specification.{Spec}
 use Rattle.fixed_point.specs.Elements.{Elements}
 use Rattle.fixed_point.specs.Table.{Listing}
+use Rattle.open_tables.specs.declared.ending.Ending.{Ending}
 use Rattle.text_lines.specs.Lines.{Lines, first_line}
 use Rattle.base_text.specs.Reading.{behind, number_in}
 use Rattle.element_readers.specs.Laws.{ReadingLaws}
 use Rattle.element_readers.specs.Reading.{ElementReading}
+use Rattle.element_readers.specs.Words.{WordReading}
 use Rattle.table_reader.specs.Blocks.{AreRead, BlockRead, block, listings_of, no_address, no_element, none, onto, stopped}
 use Rattle.table_reader.specs.Starts.{address_from, at_said, read_at, read_at_of, with_lines}
 
 module _ (code : ℕ → Bool) (low : ℕ) where
-  from_code : (o : Option ℕ) (at : ℕ) → address_from code low o ≡ Some at → IsTrue (code at)
+  -- an address that is read: at least so great, and that of a code word
+  abbrev IsAddress : ℕ → Type 0
+  IsAddress at = (low ≤ at) × IsTrue (code at)
+
+  from_code : (o : Option ℕ) (at : ℕ) → address_from code low o ≡ Some at → IsAddress at
   from_code None at e = cc
   from_code (Some n) at e = tested (nat_le low n && code n) refl e
     where
-      tested : (b : Bool) → (nat_le low n && code n) ≡ b → cond b (Some n) None ≡ Some at → IsTrue (code at)
-      tested true is e = let same : n ≡ at = cc in subst (λ z. IsTrue (code z)) same (and_parts (nat_le low n) (code n) is).1
+      tested : (b : Bool) → (nat_le low n && code n) ≡ b → cond b (Some n) None ≡ Some at → IsAddress at
+      tested true is e = let same : n ≡ at = cc in let both = and_parts (nat_le low n) (code n) is in subst IsAddress same (leb-true low n both.0, both.1)
       tested false is e = cc
 
-  with_code : (ls : Lines) (line : List ℕ) (at : ℕ) (later : Lines) (o : Option ℕ) → at_said code low line ≡ o → with_lines code ls o ≡ Some (at, later) → IsTrue (code at)
+  with_code : (ls : Lines) (line : List ℕ) (at : ℕ) (later : Lines) (o : Option ℕ) → at_said code low line ≡ o → with_lines code ls o ≡ Some (at, later) → IsAddress at
   with_code ls line at later None is e = cc
   with_code ls line at later (Some a) is e =
       let pair : (a, ls) ≡ (at, later) = cc in
-      subst (λ z. IsTrue (code z)) (ap (λ (p : ℕ × Lines). p.0) pair) (from_code (option_and_then (number_in 32) (behind (codes "at ") line)) a is)
+      subst IsAddress (ap (λ (p : ℕ × Lines). p.0) pair) (from_code (option_and_then (number_in 32) (behind (codes "at ") line)) a is)
 
-  pub at_code : (ls : Lines) (at : ℕ) (later : Lines) → read_at code low ls ≡ Some (at, later) → IsTrue (code at)
+  pub at_code : (ls : Lines) (at : ℕ) (later : Lines) → read_at code low ls ≡ Some (at, later) → IsAddress at
   at_code ls at later e = from (first_line ls) e
     where
-      from : (o : Option (List ℕ × Lines)) → read_at_of code low o ≡ Some (at, later) → IsTrue (code at)
+      from : (o : Option (List ℕ × Lines)) → read_at_of code low o ≡ Some (at, later) → IsAddress at
       from None e = cc
       from (Some cut) e = with_code cut.1 cut.0 at later (at_said code low cut.0) refl e
 
-module _ {E S : Type 0} (Reads : ElementReading E) (D : Elements E S) (spec : Spec) (laws : ReadingLaws Reads D spec) (code : ℕ → Bool) where
+module _ {E W S : Type 0} (Reads : ElementReading E) (word_in : WordReading W) (D : Elements E S) (spec : Spec) (laws : ReadingLaws Reads D spec) (code : ℕ → Bool) where
   abbrev IsFit : ℕ × Listing E → Type 0
   IsFit b = IsTrue (code b.0) × D.fits b.1.elem
 
-  block_fits : (low : ℕ) (ls left : Lines) (b : ℕ × Listing E) → BlockRead Reads spec code low ls (Some b) left → IsFit b
-  block_fits low ls left b (block {at = a} {later = l} {end = u} x e r) = (at_code code low ls a l e, laws.fits code l x u r)
+  block_fits : (low : ℕ) (ls left : Lines) (b : ℕ × Listing E) (ending : Option (Ending W)) → BlockRead Reads word_in spec code low ls (Some b) ending left → IsFit b
+  block_fits low ls left b ending (block {at = a} {later = l} {end = u} x e r) = ((at_code code low ls a l e).1, laws.fits code l x u r)
 
-  blocks_fit : (low : ℕ) (ls : Lines) (blocks : List (ℕ × Listing E)) (fault : Option Lines) → AreRead Reads spec code low ls blocks fault → Each IsFit blocks
-  blocks_fit low ls blocks fault none = tt
-  blocks_fit low ls blocks fault (stopped some r) = tt
-  blocks_fit low ls blocks fault (onto {at = a} {later = l} {b = b} {blocks = bs} {fault = p} r rest) = (block_fits low ls l (a, b) r, blocks_fit (a + 1) l bs p rest)
+  blocks_fit : (low : ℕ) (ls : Lines) (blocks : List (ℕ × Listing E)) (ends : List (ℕ × Option (Ending W))) (fault : Option Lines) → AreRead Reads word_in spec code low ls blocks ends fault → Each IsFit blocks
+  blocks_fit low ls blocks ends fault none = tt
+  blocks_fit low ls blocks ends fault (stopped some r) = tt
+  blocks_fit low ls blocks ends fault (onto {at = a} {later = l} {b = b} {ending = x} {blocks = bs} {ends = es} {fault = p} r rest) = (block_fits low ls l (a, b) x r, blocks_fit (a + 1) l bs es p rest)
 
   listed_fits : (blocks : List (ℕ × Listing E)) → Each IsFit blocks → (at : ℕ) (b : Listing E) → listings_of blocks at ≡ Some b → IsTrue (code at) × D.fits b.elem
   listed_fits [] each at b e = cc
@@ -57,6 +64,6 @@ module _ {E S : Type 0} (Reads : ElementReading E) (D : Elements E S) (spec : Sp
       tested true is e more = let same : c.1 ≡ b = cc in (subst (λ z. IsTrue (code z)) (number_told c.0 at is) each.0.0, subst (λ (z : Listing E). D.fits z.elem) same each.0.1)
       tested false is e more = more e
 
-  pub read_blocks_fit : (low : ℕ) (ls : Lines) (blocks : List (ℕ × Listing E)) (fault : Option Lines) → AreRead Reads spec code low ls blocks fault
+  pub read_blocks_fit : (low : ℕ) (ls : Lines) (blocks : List (ℕ × Listing E)) (ends : List (ℕ × Option (Ending W))) (fault : Option Lines) → AreRead Reads word_in spec code low ls blocks ends fault
       → (at : ℕ) (b : Listing E) → listings_of blocks at ≡ Some b → IsTrue (code at) × D.fits b.elem
-  read_blocks_fit low ls blocks fault h at b e = listed_fits blocks (blocks_fit low ls blocks fault h) at b e
+  read_blocks_fit low ls blocks ends fault h at b e = listed_fits blocks (blocks_fit low ls blocks ends fault h) at b e

@@ -1,4 +1,5 @@
 pub mod Errors
+pub mod FirstOpen
 pub mod Fits
 pub mod One
 pub mod Shorter

@@ -1,12 +1,14 @@
 -- What stands behind an element leaves some of its lines.
 use Rattle.std.proofs.Common.{◌≡◌, ℕ, ◌≤◌, ◌<◌, Bool, List, [], ◌∷◌, ◌++◌, Option, Some, None, length, refl, subst, sym, arith}
-use Rattle.std.specs.Prelude.{codes, true}
+use Rattle.std.specs.Prelude.{codes, true, false, if◌then◌else◌}
 use Rattle.base_trait.specs.Uses.{Seen}
 use Rattle.spec_types.specs.Specification.{Spec}
 use Rattle.domain_laws.specs.States.{state_type}
 use Rattle.text_lines.specs.Lines.{Lines}
 use Rattle.text_lines.specs.Outcomes.{Reading, all_said, go_on, one, taken}
-use Rattle.table_reader.specs.Ends.{addresses_said, next_use, or_empty, read_addresses, read_end, read_uses}
+use Rattle.element_readers.specs.Words.{WordReading}
+use Rattle.table_reader.specs.Endings.{ending_said, may_end, read_ending}
+use Rattle.table_reader.specs.Ends.{End, addresses_said, next_use, or_empty, read_addresses, read_end, read_uses}
 
 module _ {X : Type 0} where
   taken_shorter : (ls later : Lines) (o : Option X) → length later ≤ length ls → length (taken ls later o).1 ≤ length ls
@@ -42,3 +44,18 @@ end_shorter spec is_word ls =
     let behind_next = (read_addresses (codes "next ") is_word behind_uses).1 in
     let exits = addresses_shorter (codes "exit ") (λ a. true) behind_next in
     omega (arith, uses, next, exits)
+
+-- so does how a block ends, behind that
+module _ {W : Type 0} (word_in : WordReading W) where
+  ending_at_most : (e : End) → length (read_ending word_in e).1 ≤ length e.left
+  ending_at_most e = at (may_end e.next e.exits)
+    where
+      at : (b : Bool) → length (if b then one (ending_said word_in) e.left else (None, e.left)).1 ≤ length e.left
+      at true = one_shorter (ending_said word_in) e.left
+      at false = omega arith
+
+  pub ending_shorter : (spec : Spec) (is_word : ℕ → Bool) (ls : Lines) → length (read_ending word_in (read_end spec is_word ls)).1 ≤ length ls
+  ending_shorter spec is_word ls =
+      let end = end_shorter spec is_word ls in
+      let last = ending_at_most (read_end spec is_word ls) in
+      omega (arith, end, last)

@@ -1,7 +1,8 @@
 -- Tables that are alike.
-use Rattle.std.specs.Prelude.{◌≡◌, ℕ, Option, Some, None}
+use Rattle.std.specs.Prelude.{◌≡◌, ◌<◌, ℕ, IsSome, Option, Some, None}
 use Rattle.fixed_point.specs.Elements.{Elements}
 use Rattle.fixed_point.specs.Table.{Listing, Listings}
+use Rattle.open_tables.specs.Endings.{Endings}
 
 module _ {E S : Type 0} (D : Elements E S) where
   -- The same is listed, up to how elements are written.
@@ -19,3 +20,8 @@ module _ {E S : Type 0} (D : Elements E S) where
   -- at each address
   abbrev pub AreAlike : Listings E → Listings E → Type 0
   AreAlike t u = (at : ℕ) → AreAlikeAt (t at) (u at)
+
+-- The first address whose block is left open.
+pub record IsFirstOpen {W : Type 0} (ends : Endings W) (at : ℕ) : Type 0 where
+  pub is_open : IsSome (ends at)
+  pub least : (a : ℕ) → a < at → ends a ≡ None

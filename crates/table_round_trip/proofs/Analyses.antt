@@ -23,6 +23,7 @@ use Rattle.printable_tables.specs.Tables.{IsPrintableTable}
 use Rattle.printable_tables.proofs.Tables.{tables_are_printable}
 use Rattle.element_text.specs.Parts.{ElementText}
 use Rattle.element_readers.specs.Reading.{ElementReading}
+use Rattle.element_readers.specs.Words.{WordReading}
 use Rattle.table_reader.specs.Ends.{is_word_of}
 use Rattle.table_readings.specs.Readings.{AreAlike, AreAlikeAt}
 use Rattle.table_readings.proofs.Errors.{read_tables_fit, tables_are_alike}
@@ -60,18 +61,19 @@ module _ {E W N C : Type 0} (B : Algebra W N C) (laws : Laws W N C B) (cap : ℕ
     same_tables : (t u : Listings E) → AreAlike D t u → AreSameTables A t u
     same_tables t u h at = same_at (t at) (u at) (h at)
 
-  pub texts_of_traces_are_accepted : (Reads : ElementReading E) (IsText : ElementText E) → TextsOfTracesAreAccepted B cap D M K Reads IsText
-  texts_of_traces_are_accepted Reads IsText p calls image base trace t text h parts of_image inside legal full fits table is_text =
+  pub texts_of_traces_are_accepted : (Reads : ElementReading E) (word_in : WordReading W) (IsText : ElementText E) (word_text : ℕ → W → List ℕ) (Fits : W → Type 0)
+      → TextsOfTracesAreAccepted B cap D M K Reads word_in IsText word_text Fits
+  texts_of_traces_are_accepted Reads word_in IsText word_text Fits p calls image base trace t text h parts of_image inside legal full fits table is_text =
       let keeps = transfers_keep_the_laws B laws cap D M p calls h in
       let writable = traces_are_writable p calls image trace t h parts.is_image of_image fits table in
-      let read = texts_are_read Reads IsText D K p.spec image base parts inside text t writable is_text in
+      let read = texts_are_read Reads word_in IsText word_text D K Fits p.spec image base parts inside text t writable is_text in
       let closed = full_traces_close (A p calls) keeps trace t legal full fits table in
       let accepted = (accepted_are_closed (A p calls) keeps t fits).1 closed in (
         read,
         λ u other.
             let fits_read : TableFits (A p calls) u = λ at b e.
-            let fit = read_tables_fit Reads D p.spec parts.laws base image text u other at b e in
+            let fit = read_tables_fit Reads word_in D p.spec parts.laws base image text u other at b e in
             (ap (λ code. is_code code at) of_image.addresses_are ∙ words_are_code image parts.is_image at ∙ fit.0, fit.1) in
-            let alike = tables_are_alike Reads D p.spec parts.laws base image text t u read other in
+            let alike = tables_are_alike Reads word_in D p.spec parts.laws base image text t u read other in
             sym (same_tables_same_verdict (A p calls) keeps t u fits fits_read (same_tables p calls t u alike)) ∙ accepted,
       )

@@ -29,9 +29,32 @@ use Rattle.table_round_trip.proofs.UseLines.{use_back}
 none_of : {X : Type 0} (said : List ℕ → Option X) (text line : List ℕ) (others : Lines) → lines text ≡ Some line ∷ others → said line ≡ None → one said (lines text) ≡ (None, lines text)
 none_of said text line others e nothing = subst (λ ls. one said ls ≡ (None, ls)) (sym e) (ap (λ o. taken (Some line ∷ others) others o) nothing)
 
-none_of_blocks : {X : Type 0} (said : List ℕ → Option X) → ((tail : List ℕ) → said (codes "at " ++ tail) ≡ None) → (more : List ℕ) → AreBlockLines more → one said (lines more) ≡ (None, lines more)
+pub none_of_blocks : {X : Type 0} (said : List ℕ → Option X) → ((tail : List ℕ) → said (codes "at " ++ tail) ≡ None) → (more : List ℕ) → AreBlockLines more → one said (lines more) ≡ (None, lines more)
 none_of_blocks said nothing more none = refl
 none_of_blocks said nothing more (begun at others) = none_of said more (codes "at " ++ number 32 at) (lines others) (at_first at others) (nothing (number 32 at))
+
+-- a word and a text behind it, as a line
+pub word_line : (word text more : List ℕ) → IsTrue (list_all is_inside word) → IsTrue (list_all is_inside text) → lines ((word ++ (text ++ codes "\n")) ++ more) ≡ Some (word ++ text) ∷ lines more
+word_line word text more own inside = first_line_of (word ++ (text ++ codes "\n")) (word ++ text) more (sym (append_assoc word text (codes "\n"))) (both_all is_inside word text own inside)
+
+-- What may stand behind uses, next addresses and exits: an ending, or other blocks.
+pub data AreLinesBehind : List ℕ → Type 0 where
+  blocks : {more : List ℕ} → AreBlockLines more → AreLinesBehind more
+  opened : (text more : List ℕ) → IsTrue (list_all is_inside text) → AreLinesBehind ((codes "open " ++ (text ++ codes "\n")) ++ more)
+  undecoded : (text more : List ℕ) → IsTrue (list_all is_inside text) → AreLinesBehind ((codes "undecodable " ++ (text ++ codes "\n")) ++ more)
+
+-- lines of these forms say nothing
+pub record SaysNothing {X : Type 0} (said : List ℕ → Option X) : Type 0 where
+  pub at : (tail : List ℕ) → said (codes "at " ++ tail) ≡ None
+  pub of_open : (tail : List ℕ) → said (codes "open " ++ tail) ≡ None
+  pub of_undecodable : (tail : List ℕ) → said (codes "undecodable " ++ tail) ≡ None
+
+none_behind : {X : Type 0} (said : List ℕ → Option X) → SaysNothing said → (more : List ℕ) → AreLinesBehind more → one said (lines more) ≡ (None, lines more)
+none_behind said nothing more (blocks b) = none_of_blocks said nothing.at more b
+none_behind said nothing more (opened text others inside) =
+    none_of said ((codes "open " ++ (text ++ codes "\n")) ++ others) (codes "open " ++ text) (lines others) (word_line (codes "open ") text others refl inside) (nothing.of_open text)
+none_behind said nothing more (undecoded text others inside) =
+    none_of said ((codes "undecodable " ++ (text ++ codes "\n")) ++ others) (codes "undecodable " ++ text) (lines others) (word_line (codes "undecodable ") text others refl inside) (nothing.of_undecodable text)
 
 none_of_addresses : {X : Type 0} (said : List ℕ → Option X) (what : List ℕ) → IsTrue (list_all is_inside what) → ((tail : List ℕ) → said (what ++ tail) ≡ None)
     → (xs more : List ℕ) → one said (lines more) ≡ (None, lines more) → one said (lines (addresses_line what xs ++ more)) ≡ (None, lines (addresses_line what xs ++ more))
@@ -74,7 +97,7 @@ module _ (spec : Spec) (has : HasUseTexts spec) (code : ℕ → Bool) where
 
   -- ---- back
 
-  module _ (uses : List Seen) (next exits more : List ℕ) (blocks : AreBlockLines more) (order : AreInOrder fields uses) (each : Each (IsUseOf spec) uses) (stamps : Each (λ u. Each (StampFits code) u.stamps) uses) where
+  module _ (uses : List Seen) (next exits more : List ℕ) (behind : AreLinesBehind more) (order : AreInOrder fields uses) (each : Each (IsUseOf spec) uses) (stamps : Each (λ u. Each (StampFits code) u.stamps) uses) where
     abbrev next_line : List ℕ
     next_line = addresses_line (codes "next") next
 
@@ -88,8 +111,13 @@ module _ (spec : Spec) (has : HasUseTexts spec) (code : ℕ → Bool) where
         of_blocks text none = inl refl
         of_blocks text (begun at others) = inr refl
 
+        of_lines : (text : List ℕ) → AreLinesBehind text → IsBehindElement text
+        of_lines text (blocks b) = of_blocks text b
+        of_lines text (opened word others inside) = inr refl
+        of_lines text (undecoded word others inside) = inr refl
+
         of_exits : (xs : List ℕ) → IsBehindElement (addresses_line (codes "exit") xs ++ more)
-        of_exits [] = of_blocks more blocks
+        of_exits [] = of_lines more behind
         of_exits (x ∷ xs) = inr refl
 
         of_next : (xs : List ℕ) → IsBehindElement ((addresses_line (codes "next") xs ++ exit_line) ++ more)
@@ -107,10 +135,10 @@ module _ (spec : Spec) (has : HasUseTexts spec) (code : ℕ → Bool) where
     end_back ascending below own exits_ascend exits_below =
         let behind_next = exit_line ++ more in
         let behind_uses = next_line ++ behind_next in
-        let no_exits = none_of_blocks (addresses_said (codes "exit ") (λ a. true)) (λ tail. refl) more blocks in
-        let no_next = none_of_addresses (addresses_said (codes "next ") code) (codes "exit") refl (λ tail. refl) exits more (none_of_blocks (addresses_said (codes "next ") code) (λ tail. refl) more blocks) in
+        let no_exits = none_behind (addresses_said (codes "exit ") (λ a. true)) no_exit more behind in
+        let no_next = none_of_addresses (addresses_said (codes "next ") code) (codes "exit") refl (λ tail. refl) exits more (none_behind (addresses_said (codes "next ") code) no_next_line more behind) in
         let no_uses = λ (longer : List Seen). none_of_addresses (next_use spec code fields longer) (codes "next") refl (λ tail. refl) next behind_next
-        (none_of_addresses (next_use spec code fields longer) (codes "exit") refl (λ tail. refl) exits more (none_of_blocks (next_use spec code fields longer) (λ tail. refl) more blocks)) in
+        (none_of_addresses (next_use spec code fields longer) (codes "exit") refl (λ tail. refl) exits more (none_behind (next_use spec code fields longer) (no_use longer) more behind)) in
         let spelled : end_lines spec uses next exits ++ more ≡ use_lines spec uses ++ behind_uses =
         append_assoc (use_lines spec uses) (next_line ++ exit_line) more ∙ ap (λ t. use_lines spec uses ++ t) (append_assoc next_line exit_line more) in
         ap (λ t. read_end spec code (lines t)) spelled
@@ -118,6 +146,15 @@ module _ (spec : Spec) (has : HasUseTexts spec) (code : ℕ → Bool) where
         ∙ ap (with_next uses) (addresses_back (codes "next") code refl behind_next no_next next ascending below own)
         ∙ ap (with_exits uses next) (addresses_back (codes "exit") (λ a. true) refl more no_exits exits exits_ascend exits_below (each_true exits))
       where
+        no_exit : SaysNothing (addresses_said (codes "exit ") (λ a. true))
+        no_exit = record { at = λ tail. refl; of_open = λ tail. refl; of_undecodable = λ tail. refl }
+
+        no_next_line : SaysNothing (addresses_said (codes "next ") code)
+        no_next_line = record { at = λ tail. refl; of_open = λ tail. refl; of_undecodable = λ tail. refl }
+
+        no_use : (longer : List Seen) → SaysNothing (next_use spec code fields longer)
+        no_use longer = record { at = λ tail. refl; of_open = λ tail. refl; of_undecodable = λ tail. refl }
+
         each_true : (xs : List ℕ) → Each (λ a. IsTrue true) xs
         each_true [] = tt
         each_true (x ∷ xs) = (refl, each_true xs)

@@ -4,11 +4,13 @@ pub mod Analyses
 pub mod BlocksBack
 pub mod BlocksTold
 pub mod EndLines
+pub mod Endings
 pub mod Ends
 pub mod Fitting
 pub mod HeadsBack
 pub mod HeadsTold
 pub mod Machines
+pub mod OpenAnalyses
 pub mod Parts
 pub mod Tables
 pub mod UseFields

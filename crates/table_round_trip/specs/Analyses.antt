@@ -19,6 +19,7 @@ use Rattle.transfer_laws.specs.Problem.{Problem}
 use Rattle.text_lines.specs.Lines.{is_inside}
 use Rattle.element_text.specs.Parts.{ElementText}
 use Rattle.element_readers.specs.Reading.{ElementReading}
+use Rattle.element_readers.specs.Words.{WordReading}
 use Rattle.table_reader.specs.Ends.{is_word_of}
 use Rattle.table_reader.specs.Tables.{IsTableIn}
 use Rattle.table_round_trip.specs.FirstTexts.{IsTextOf}
@@ -38,12 +39,12 @@ module _ {E W N C : Type 0} (B : Algebra W N C) (cap : ℕ) (D : Elements E Stat
       → TableFits (analysis_of B cap D M p calls) t → IsTableOf (analysis_of B cap D M p calls) t (play (analysis_of B cap D M p calls) trace)
       → IsWritable D IsPrintable p.spec (is_word_of image) t
 
-  module _ (Reads : ElementReading E) (IsText : ElementText E) where
+  module _ (Reads : ElementReading E) (word_in : WordReading W) (IsText : ElementText E) (word_text : ℕ → W → List ℕ) (Fits : W → Type 0) where
     -- Of the table of a full legal trace each text is read as that table, and as no table that is not accepted.
     abbrev pub TextsOfTracesAreAccepted : Type 0
     TextsOfTracesAreAccepted =
         (p : Problem) (calls : ℕ → ℕ → List (Abs W N) → Answer (Abs W N)) (image : Image) (base : List ℕ) (trace : List ℕ) (t : Listings E) (text : List ℕ) → IsAnalysed B cap D M p calls
-        → HasParts Reads IsText D IsPrintable p.spec image → IsOfImage p image → IsTrue (list_all is_inside base)
+        → HasParts Reads word_in IsText word_text D IsPrintable Fits p.spec image → IsOfImage p image → IsTrue (list_all is_inside base)
         → IsLegal (analysis_of B cap D M p calls) trace → IsFull (play (analysis_of B cap D M p calls) trace)
         → TableFits (analysis_of B cap D M p calls) t → IsTableOf (analysis_of B cap D M p calls) t (play (analysis_of B cap D M p calls) trace) → IsTextOf (IsText p.spec) p.spec image base t text
-        → IsTableIn Reads p.spec base image text t × ((u : Listings E) → IsTableIn Reads p.spec base image text u → verdict_of (analysis_of B cap D M p calls) u ≡ Accepted)
+        → IsTableIn Reads word_in p.spec base image text t × ((u : Listings E) → IsTableIn Reads word_in p.spec base image text u → verdict_of (analysis_of B cap D M p calls) u ≡ Accepted)

@@ -2,9 +2,11 @@
 use Rattle.std.specs.Prelude.{◌≡◌, ◌⊎◌, ℕ, List, [], ◌∷◌, ◌++◌, codes}
 use Rattle.spec_types.specs.Specification.{Spec}
 use Rattle.fixed_point.specs.Table.{Listings}
+use Rattle.open_tables.specs.Endings.{Endings}
 use Rattle.insn_decode.specs.declared.order.Order.TheVariants.{Big}
 use Rattle.insn_decode.specs.Image.{Image, Segment, addresses, words_of}
 use Rattle.table_text.specs.Heads.{code_line}
+use Rattle.table_text.specs.Open.{AreOpenBlocks, IsOpenTableText}
 use Rattle.table_text.specs.Tables.{AreBlocks, IsTableText}
 
 -- the format, the base, and the code of one segment
@@ -25,3 +27,17 @@ module _ {E : Type 0} (IsElement : E → List ℕ → Type 0) (spec : Spec) wher
   -- a text of the table, in format 2 or in format 1
   abbrev pub IsTextOf : Image → List ℕ → Listings E → List ℕ → Type 0
   IsTextOf image base t text = IsTableText IsElement spec image base t text ⊎ IsFirstText image base t text
+
+-- The same of a table whose blocks may be left open, where words of so many bits have these texts.
+module _ {E W : Type 0} (word_text : ℕ → W → List ℕ) (IsElement : E → List ℕ → Type 0) (spec : Spec) where
+  pub record IsOpenFirstText (image : Image) (base : List ℕ) (t : Listings E) (ends : Endings W) (text : List ℕ) : Type 0 where
+    pub segment : Segment
+    pub only : image.segments ≡ segment ∷ []
+    pub order : image.order ≡ Big
+    pub blocks : List ℕ
+    pub are_blocks : AreOpenBlocks word_text IsElement spec t ends (addresses image.segments) blocks
+    pub lines : text ≡ first_head base segment ++ blocks
+
+  -- a text of the table with its endings, in format 2 or in format 1
+  abbrev pub IsOpenTextOf : Image → List ℕ → Listings E → Endings W → List ℕ → Type 0
+  IsOpenTextOf image base t ends text = IsOpenTableText word_text IsElement spec image base t ends text ⊎ IsOpenFirstText image base t ends text

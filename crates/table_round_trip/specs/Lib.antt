@@ -3,4 +3,5 @@ pub mod Fields
 pub mod FirstTexts
 pub mod Laws
 pub mod Machines
+pub mod OpenAnalyses
 pub mod Writable

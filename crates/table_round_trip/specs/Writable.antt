@@ -1,10 +1,13 @@
 -- Tables that their texts tell.
-use Rattle.std.specs.Prelude.{◌≡◌, ℕ, Bool, Some, IsTrue}
+use Rattle.std.specs.Prelude.{◌≡◌, ℕ, ◌<◌, ◌^◌, Bool, List, [], Option, Some, None, IsTrue}
 use Rattle.base_trait.specs.Lists.{Each, IsAscending}
 use Rattle.base_text.specs.Readings.{StampFits}
 use Rattle.spec_types.specs.Specification.{Spec}
 use Rattle.fixed_point.specs.Elements.{Elements}
 use Rattle.fixed_point.specs.Table.{Listing, Listings}
+use Rattle.open_tables.specs.Endings.{Endings}
+use Rattle.open_tables.specs.declared.ending.Ending.{Ending}
+use Rattle.open_tables.specs.declared.ending.Ending.TheVariants.{Open, Undecodable}
 use Rattle.printable_tables.specs.Tables.{IsPrintableTable}
 use Rattle.table_reader.specs.Blocks.{BlocksFit}
 
@@ -25,3 +28,25 @@ pub record IsWritable {E S : Type 0} (D : Elements E S) (IsPrintable : (ℕ → 
   pub fits : BlocksFit code D.fits t
   pub printable : IsPrintableTable spec (IsPrintable code) t
   pub of_code : AreBlocksOfCode code t
+
+-- ---- endings, where words have this
+
+module _ {W : Type 0} (Fits : W → Type 0) where
+  -- a code word of 32 bits, or such a word
+  abbrev pub EndingFits : Ending W → Type 0
+  EndingFits (Undecodable word) = word < 2 ^ 32
+  EndingFits (Open shown) = Fits shown
+
+  -- What a block may end with that has these next addresses and exits: nothing, or an ending, where it has neither.
+  abbrev pub MayEnd : Option (Ending W) → List ℕ → List ℕ → Type 0
+  MayEnd None next exits = Unit {0}
+  MayEnd (Some ending) next exits = (next ≡ []) × (exits ≡ []) × EndingFits ending
+
+  -- what is listed may end so; what is not has no ending
+  abbrev pub MayEndAt : {E : Type 0} → Option (Ending W) → Option (Listing E) → Type 0
+  MayEndAt ending None = ending ≡ None
+  MayEndAt ending (Some b) = MayEnd ending b.next b.exits
+
+  -- each block of a table may end so
+  abbrev pub AreEndingsOf : {E : Type 0} → Listings E → Endings W → Type 0
+  AreEndingsOf t ends = (a : ℕ) → MayEndAt (ends a) (t a)

@@ -1,11 +1,12 @@
 //! Domains whose elements are written and read.
 
-ghost use Rattle.std.specs.Prelude.{ℕ, Bool};
+ghost use Rattle.std.specs.Prelude.{ℕ, Bool, List};
 ghost use Rattle.fixed_point.specs.Elements.{Elements};
 ghost use Rattle.tsl_values.specs.States.{State};
 ghost use Rattle.domain_laws.specs.Domain.{Meaning};
 ghost use Rattle.element_text.specs.Parts.{ElementText};
 ghost use Rattle.element_readers.specs.Reading.{ElementReading};
+ghost use Rattle.element_readers.specs.Words.{WordReading};
 ghost use Rattle.printable_tables.specs.Domains.{ElementsKeep};
 ghost use Rattle.printable_tables.specs.Notes.{NotesKeep};
 
@@ -25,6 +26,15 @@ pub trait WrittenDomain {
 
     /// What is written of elements.
     ghost IsText: { ElementText Plain };
+
+    /// What is read of a text as a word of 32 bits.
+    ghost word_in: { WordReading Self.B.Word };
+
+    /// The text of a word of so many bits.
+    ghost word_text: { ℕ → Self.B.Word → List ℕ };
+
+    /// Which words are of 32 bits.
+    ghost WordFits: { Self.B.Word → Type 0 };
 
     ghost elements: { Self → Elements Plain State };
 

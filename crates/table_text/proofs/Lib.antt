@@ -1,4 +1,5 @@
 pub mod Blocking
 pub mod OpenBlocking
+pub mod Plain
 pub mod Segments
 pub mod Three

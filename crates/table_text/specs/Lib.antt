@@ -1,4 +1,5 @@
 pub mod Blocks
 pub mod Heads
+pub mod Laws
 pub mod Open
 pub mod Tables

@@ -13,7 +13,7 @@ ghost use Rattle.table_text.specs.Blocks as lines;
 use base_text::{push_number, push_spaced, push_stamps};
 use base_trait::Use;
 use cell_text::{push_cell, state_fields};
-use element_text::ElemText;
+use element_text::{ElemText, append_element};
 use fixed_point::Block;
 use spec_types::{Spec, Ty};
 use std::alloc::AllocError as NoMemory;
@@ -115,6 +115,6 @@ pub(crate) fn push_block<D: ElemText>(
     ensures { OnOk result (Appended (lines.IsBlock (D.IsText (specification spec.now)) (specification spec.now) at (listing (λ x. x) block.now)) (string_bytes out.old) (string_bytes out.new)) }
 {
     push_at(out, at)?;
-    D::push_element(out, spec, &block.elem)?;
+    append_element::<D>(out, spec, &block.elem)?;
     push_end::<D::Elem>(out, spec, block)
 }

@@ -13,7 +13,7 @@ use crate::blocks::push_block;
 use crate::head::push_head;
 use base_text::push_number;
 use base_trait::Base;
-use element_text::ElemText;
+use element_text::{ElemText, append_word};
 use fixed_point::{Block, Table};
 use insn_decode::Image;
 use open_tables::Ending;
@@ -35,7 +35,7 @@ fn push_open<D: ElemText>(out: &mut String, shown: &<D::B as Base>::Word) -> Res
     ensures { OnOk result (string_bytes out.new ≡ string_bytes out.old ++ open_line D.word_text shown.now) }
 {
     out.push_str("open ")?;
-    D::push_word(out, 32, shown)?;
+    append_word::<D>(out, 32, shown)?;
     out.push_str("\n")
 }
 

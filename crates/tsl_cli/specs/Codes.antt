@@ -3,6 +3,9 @@ use Rattle.std.specs.Prelude.{ℕ, Result, Ok, Err}
 use Rattle.std.specs.declared.io.ErrorKind.{ErrorKind}
 use Rattle.std.specs.declared.io.ErrorKind.TheVariants.{OutOfMemory}
 use Rattle.run_steps.specs.declared.status.Status.{Status}
+use Rattle.help_words.specs.declared.help_error.HelpError.{HelpError}
+use Rattle.help_words.specs.declared.help_error.HelpError.TheVariants as help
+use Rattle.run_steps.specs.declared.status.Status.TheVariants as status
 use Rattle.run_steps.specs.declared.status.Status.TheVariants.{NoMemory}
 use Rattle.run_steps.specs.Statuses.{exit_status}
 
@@ -11,3 +14,9 @@ abbrev pub code_of : Result Status ErrorKind → ℕ
 code_of (Ok status) = exit_status status
 code_of (Err OutOfMemory) = exit_status NoMemory
 code_of (Err _) = 70
+
+-- the status where a text of help was asked for
+abbrev pub status_of_help : Result (Unit {0}) HelpError → Status
+status_of_help (Ok told) = status.Ok
+status_of_help (Err help.WriteFault) = status.WriteFault
+status_of_help (Err help.NoMemory) = status.NoMemory

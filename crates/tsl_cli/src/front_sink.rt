@@ -1,18 +1,20 @@
-//! A sink that keeps the front of what it hands on.
+//! A sink that keeps the front of what it hands on, and what is to be said of the open blocks of a table.
 
 ghost use Rattle.std.specs.Prelude.{◌≡◌};
 
+use refusal_help::OpenBlocks;
 use std::alloc::Global;
 use tsl_io::{Failed, Sink};
 
 /// How many bytes are kept at most.
 const MOST_KEPT: usize = 4096;
 
-/// A sink that hands each piece on to another one, and keeps the first 4,096 bytes that this one took.
+/// A sink that hands each piece on to another one, and keeps the first 4,096 bytes that this one took, and what is to be said of open blocks.
 #[derive(Drop)]
 pub struct FrontSink<S> {
     sink: S,
     front: Vec<u8>,
+    open: OpenBlocks,
 }
 
 impl<S: Sink> FrontSink<S> {
@@ -23,12 +25,18 @@ impl<S: Sink> FrontSink<S> {
         FrontSink {
             sink,
             front: Vec::new(alloc),
+            open: OpenBlocks::new(alloc),
         }
     }
 
     /// What is kept.
     pub fn front(&self) -> &[u8] {
         self.front.as_slice()
+    }
+
+    /// What is known of the open blocks.
+    pub fn open_blocks(&self) -> &OpenBlocks {
+        &self.open
     }
 }
 
@@ -39,6 +47,8 @@ impl<S: Sink> Sink for FrontSink<S> {
         match self.sink.write(bytes) {
             Ok(count) => {
                 keep(&mut self.front, &bytes[..count]);
+                // (where memory runs out, less is said)
+                let _taken = self.open.take_in(&bytes[..count]);
                 Ok(count)
             }
             Err(failed) => Err(failed),

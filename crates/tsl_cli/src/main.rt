@@ -1,15 +1,18 @@
 //! The program: it answers what its words ask for. All that it does is in `tsl_run`; here are the words, the files, standard
-//! output and the exit status, which is proved to be that of the run (`exit_code`). Behind the run it says on standard error what
-//! `refusal_help` has to say of what was written.
+//! output and the exit status, which is proved to be that of the run (`exit_code`). Words that ask for help or the version are looked at
+//! before: `help_words` answers them, and they ask for nothing else. Behind a run `diagnostics` says on standard error what to do.
 #![tactic(auto)]
 
 ghost use Rattle.std.specs.Prelude.{◌≡◌, ◌<◌};
-ghost use Rattle.tsl_cli.specs.Codes.{code_of};
+ghost use Rattle.tsl_cli.specs.Codes.{code_of, status_of_help};
 
 mod front_sink;
-mod told;
+mod own_runs;
 
+use diagnostics::{EndedRun, tell};
 use front_sink::FrontSink;
+use help_words::{HelpError, tell_help};
+use own_runs::OwnRuns;
 use std::io::{Eprint, ErrorKind, Print};
 use std::marker::Brand;
 use std::process::ExitCode;
@@ -17,7 +20,6 @@ use std::rt::{Env, Files};
 use std::sync::ledger::{Blank, Ledger};
 use std::{env, io};
 use step_counter::Steps;
-use told::tell;
 use tsl_io::{FileInputs, StdSink};
 use tsl_run::{Status, run};
 
@@ -40,6 +42,33 @@ fn exit_code(ended: Result<Status, ErrorKind>) -> u8
     }
 }
 
+/// The status where a text of help was asked for.
+fn status_of_help(told: Result<(), HelpError>) -> Status
+    ensures { result ≡ status_of_help told }
+{
+    match told {
+        Ok(()) => Status::Ok,
+        Err(HelpError::WriteFault) => Status::WriteFault,
+        Err(HelpError::NoMemory) => Status::NoMemory,
+    }
+}
+
+/// Help or the version, where the words ask for it; else the run of the words.
+fn answered<R: Files + Print + Eprint + AllocGlobal, L: Ledger>(
+    rt: &R,
+    words: &[String],
+    blank: Blank,
+) -> Status
+    requires name { blank.name ≡ L.name }
+    requires parts { blank.parts ≡ L.parts }
+    requires some { 0 < blank.parts }
+{
+    match tell_help(rt.alloc(), words, &mut StdSink::new(rt)) {
+        Some(told) => status_of_help(told),
+        None => ended::<R, L>(rt, words, blank),
+    }
+}
+
 /// The run of the words over files, into standard output. A counter of transfers is on the ledger of this blank; it takes no code.
 fn ended<R: Files + Print + Eprint + AllocGlobal, L: Ledger>(
     rt: &R,
@@ -59,13 +88,19 @@ fn ended<R: Files + Print + Eprint + AllocGlobal, L: Ledger>(
         &mut sink,
         &mut steps,
     );
-    tell(rt, words, status, sink.front());
+    let told = EndedRun {
+        words,
+        status,
+        front: sink.front(),
+        open: sink.open_blocks(),
+    };
+    tell(rt, &OwnRuns, &told);
     status
 }
 
 fn main(rt: HostRuntime) -> ExitCode {
     let ended = match arguments(&rt) {
-        Ok(words) => Ok(ended::<HostRuntime, Brand>(&rt, &words, Blank::new(1))),
+        Ok(words) => Ok(answered::<HostRuntime, Brand>(&rt, &words, Blank::new(1))),
         Err(error) => Err(error.kind()),
     };
     ExitCode::from(exit_code(ended))

@@ -1,5 +1,5 @@
 -- Named files in a list.
-use Rattle.std.specs.Prelude.{ℕ, Bool, List, Option, String, Vec, drop, find, is_some}
+use Rattle.std.specs.Prelude.{ℕ, Bool, List, [], Option, String, Vec, drop, find, is_some, unwrap_or}
 use Rattle.std.specs.List.{slice_get}
 use Rattle.std.specs.Option.{option_map, option_and_then}
 use Rattle.std.specs.Str.{bytes_eq}
@@ -20,6 +20,10 @@ first_file files name = option_map (λ (file : File). file.1.items) (find (has_n
 -- the bytes of the file at a place
 abbrev pub file_at : List File → Option ℕ → Option (List ℕ)
 file_at files at = option_map (λ (file : File). file.1.items) (option_and_then (slice_get files) at)
+
+-- its name, or nothing where there is none
+abbrev pub name_at : List File → Option ℕ → List ℕ
+name_at files at = unwrap_or (option_map (λ (file : File). string_bytes file.0) (option_and_then (slice_get files) at)) []
 
 -- the bytes of that file from an offset on
 abbrev pub unread : List File → Option ℕ → ℕ → Option (List ℕ)

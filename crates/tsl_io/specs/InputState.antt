@@ -8,6 +8,8 @@ pub record InputState : Type 0 where
   pub held : List ℕ → Option (List ℕ)
   -- whether an input is open
   pub is_open : Bool
+  -- the name of the open input, where the inputs tell
+  pub name : List ℕ
   -- what of the open input is left to read
   pub left : List ℕ
   -- how many faults were counted: a 64-bit count, which stays at its last value
@@ -27,6 +29,7 @@ pub record InputsKept (old new : InputState) : Type 0 where
 -- The named input is open at its first byte, and no fault was counted.
 pub record Opened (old : InputState) (name : List ℕ) (new : InputState) : Type 0 where
   pub is_open : IsTrue new.is_open
+  pub named : IsTrue old.tells → new.name ≡ name
   pub sure : new.is_open_sure ≡ old.sure name
   pub first_byte : IsTrue old.tells → old.held name ≡ Some new.left
   pub no_fault : new.faults ≡ old.faults
@@ -34,4 +37,5 @@ pub record Opened (old : InputState) (name : List ℕ) (new : InputState) : Type
 -- The same input is open.
 pub record StillOpen (old new : InputState) : Type 0 where
   pub is_open : IsTrue new.is_open
+  pub named : new.name ≡ old.name
   pub sure : new.is_open_sure ≡ old.is_open_sure

@@ -2,7 +2,7 @@
 use Rattle.std.specs.Prelude.{true, ◌==◌, is_some, length}
 use Rattle.tsl_io.specs.FailingCalls.{sure_names}
 use Rattle.tsl_io.specs.InputState.{InputState}
-use Rattle.tsl_io.specs.NamedFiles.{held_in, open_in, left_in}
+use Rattle.tsl_io.specs.NamedFiles.{held_in, left_in, name_in, open_in}
 use Rattle.tsl_io.specs.declared.failing_calls.FailingCalls.{FailingCalls}
 use Rattle.tsl_io.specs.declared.mem_inputs.MemInputs.{MemInputs}
 use Rattle.tsl_io.specs.declared.named_files.NamedFiles.{NamedFiles}
@@ -20,6 +20,7 @@ state_of inputs = record {
   tells = true;
   held = held_in inputs.files;
   is_open = is_some (open_in inputs.files);
+  name = name_in inputs.files;
   left = left_in inputs.files;
   faults = inputs.faults;
   sure = sure_names inputs.calls (held_in inputs.files);

@@ -1,7 +1,7 @@
 -- What named files hold, and what of the open one is left.
 use Rattle.std.specs.Prelude.{ℕ, List, [], Option, unwrap_or}
 use Rattle.tsl_io.specs.declared.named_files.NamedFiles.{NamedFiles}
-use Rattle.tsl_io.specs.FileList.{first_file, unread}
+use Rattle.tsl_io.specs.FileList.{first_file, name_at, unread}
 
 -- the bytes that each name holds
 abbrev pub held_in : NamedFiles → List ℕ → Option (List ℕ)
@@ -11,6 +11,10 @@ held_in files = first_file files.files.items
 abbrev pub open_in : NamedFiles → Option (List ℕ)
 open_in files = unread files.files.items files.opened files.from
 
--- that, or nothing where none is open
+-- the name of the open file, or nothing where none is open
+abbrev pub name_in : NamedFiles → List ℕ
+name_in files = name_at files.files.items files.opened
+
+-- what of it is left, or nothing where none is open
 abbrev pub left_in : NamedFiles → List ℕ
 left_in files = unwrap_or (open_in files) []

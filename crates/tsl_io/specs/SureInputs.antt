@@ -2,7 +2,7 @@
 use Rattle.std.specs.Prelude.{true, is_some}
 use Rattle.tsl_io.specs.FileList.{is_held}
 use Rattle.tsl_io.specs.InputState.{InputState}
-use Rattle.tsl_io.specs.NamedFiles.{held_in, open_in, left_in}
+use Rattle.tsl_io.specs.NamedFiles.{held_in, left_in, name_in, open_in}
 use Rattle.tsl_io.specs.declared.sure_inputs.SureInputs.{SureInputs}
 
 abbrev pub state_of : SureInputs → InputState
@@ -10,6 +10,7 @@ state_of inputs = record {
   tells = true;
   held = held_in inputs.files;
   is_open = is_some (open_in inputs.files);
+  name = name_in inputs.files;
   left = left_in inputs.files;
   faults = inputs.faults;
   sure = is_held (held_in inputs.files);

@@ -42,6 +42,7 @@ impl<R: Files> Inputs for FileInputs<'_, R> {
       tells = false;
       held = λ _. None;
       is_open = is_some inputs.file;
+      name = [];
       left = [];
       faults = inputs.faults;
       sure = λ _. false;

@@ -1,6 +1,6 @@
 //! Inputs in memory that fail where they are told to.
 
-ghost use Rattle.std.specs.Prelude.{◌≡◌, ◌↔◌, ◌⊎◌, ◌<◌, ◌≤◌, ◌++◌, [], if◌then◌else◌, None, is_some, is_ok, min, take, IfOk, OnErr, IsErr, IsTrue, length, IsOkAnd};
+ghost use Rattle.std.specs.Prelude.{◌≡◌, ◌↔◌, ◌⊎◌, ◌<◌, ◌≤◌, ◌++◌, [], if◌then◌else◌, None, is_some, is_ok, min, take, IfOk, OnErr, OnOk, IsErr, IsTrue, length, IsOkAnd};
 ghost use Rattle.std.specs.Bool.{IsFalse};
 ghost use Rattle.tsl_io.specs.FileList.{first_file};
 ghost use Rattle.tsl_io.specs.FailingCalls.{FailsNext, GoesOn, sure_names};
@@ -65,6 +65,7 @@ impl Inputs for MemInputs {
         // It fails exactly where it is told to, and at a name that is not held.
         ensures fails { IsErr result ↔ (FailsNext (calls_of self.old) ⊎ (held_in (files_of self.old) name.now ≡ None)) }
         ensures opened { open_in (files_of self.new) ≡ (if is_ok result then held_in (files_of self.old) name.now else None) }
+        ensures named { OnOk result ((state_of self.new).name ≡ name.now) }
         ensures counts { (state_of self.new).faults ≡ (if is_ok result then (state_of self.old).faults else counted (state_of self.old).faults) }
 
         ensures kept { InputsKept (state_of self.old) (state_of self.new) }

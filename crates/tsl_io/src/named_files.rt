@@ -1,6 +1,6 @@
 //! Named files in memory.
 
-ghost use Rattle.std.specs.Prelude.{◌≡◌, ◌+◌, ◌<◌, ◌≤◌, ◌++◌, [], Some, None, length, take, drop, min, is_some, position, unwrap_or, vec_len, IsSome};
+ghost use Rattle.std.specs.Prelude.{◌≡◌, ◌+◌, ◌<◌, ◌≤◌, ◌++◌, [], Some, None, length, take, drop, min, is_some, position, unwrap_or, vec_len, IsSome, IsTrue};
 ghost use Rattle.std.specs.Option.{ForSome};
 ghost use Rattle.tsl_io.specs.FileList.{first_file, file_at, has_name};
 
@@ -24,7 +24,7 @@ pub struct NamedFiles {
 }
 
 impl NamedFiles {
-    ghost use Rattle.tsl_io.specs.NamedFiles.{held_in, open_in};
+    ghost use Rattle.tsl_io.specs.NamedFiles.{held_in, name_in, open_in};
 
     /// These files, none of them open.
     pub fn new(files: Vec<(String, Vec<u8>)>) -> Self
@@ -43,6 +43,7 @@ impl NamedFiles {
         ensures held { held_in self.new ≡ held_in self.old }
         ensures opened { open_in self.new ≡ held_in self.old name.now }
         ensures found { result ≡ is_some (held_in self.old name.now) }
+        ensures named { IsTrue result → name_in self.new ≡ name.now }
     {
         self.opened = place_of(self.files.as_slice(), name);
         self.from = 0;
@@ -64,6 +65,7 @@ impl NamedFiles {
 
         ensures held { held_in self.new ≡ held_in self.old }
         ensures still_open { IsSome (open_in self.new) }
+        ensures named { name_in self.new ≡ name_in self.old }
         ensures count { result ≡ min (length buf.old) (length (unwrap_or (open_in self.old) [])) }
         ensures taken { unwrap_or (open_in self.old) [] ≡ take result buf.new ++ unwrap_or (open_in self.new) [] }
     {

@@ -8,22 +8,18 @@ ghost use Rattle.tsl_io.specs.declared.whole_read.ReadError.TheVariants.{NoMemor
 
 use crate::{Failed, Inputs};
 use std::alloc::{AllocError, Global};
-use thiserror::Error;
 
 /// How many bytes are read at a time.
 pub const PIECE: usize = 4096;
 
 /// Why a whole read has no bytes to give.
-#[derive(Clone, Copy, Debug, PartialEq, Eq, Error)]
+#[derive(Clone, Copy, Debug, PartialEq, Eq)]
 pub enum ReadError {
     /// The input could not be opened or read.
-    #[error("the input cannot be read")]
     ReadFault,
     /// The input holds more bytes than the cap allows.
-    #[error("the input is too long")]
     TooLong,
     /// There was no memory for the bytes.
-    #[error("out of memory")]
     NoMemory,
 }
 
@@ -144,6 +140,7 @@ pub fn read_whole<I: Inputs>(
 
     // How much was taken from the input, which is left open but for a fault.
     ensures still_open { result ≢ Err ReadError.ReadFault → IsTrue (I.state inputs.new).is_open }
+    ensures named { IsTrue (I.state inputs.old).tells → IsTrue (I.state inputs.new).is_open → (I.state inputs.new).name ≡ name.now }
     ensures ended { IsTrue (I.state inputs.old).tells → OnOk result ((I.state inputs.new).left ≡ []) }
     ensures one_past { IsTrue (I.state inputs.old).tells → IsErrOf result ReadError.TooLong
         → IfSome ((I.state inputs.old).held name.now) (λ bytes. (I.state inputs.new).left ≡ drop (cap + 1) bytes) }

@@ -5,11 +5,9 @@ ghost use Rattle.tsl_io.specs.Faults.{RoseByOne};
 ghost use Rattle.tsl_io.specs.SinkState.{SinkKept, Appends, AppendsFront};
 
 use crate::Sink;
-use thiserror::Error;
 
 /// A whole write that failed: of the bytes at most a front was written.
-#[derive(Clone, Copy, Debug, PartialEq, Eq, Error)]
-#[error("the output cannot be written")]
+#[derive(Clone, Copy, Debug, PartialEq, Eq)]
 pub struct WriteFault;
 
 /// Writes all of `bytes`, in order. It takes no memory.

@@ -2,20 +2,16 @@
 
 use crate::pattern::Pattern;
 use std::alloc::{AllocError, AllocFailed};
-use thiserror::Error;
 
 /// Why a match is refused.
-#[derive(Debug, Drop, Error)]
+#[derive(Debug, Drop)]
 pub enum MatchError {
     /// Some value meets no row; each that meets the example is one.
-    #[error("no row matches {example:?}")]
     NotExhaustive { example: Pattern },
     /// Every value meets some row, and each that meets this row, from 0, meets one above it. No
     /// row above is such a row.
-    #[error("row {row} is never chosen")]
     Useless { row: u32 },
     /// Memory ran out.
-    #[error("out of memory")]
     NoMemory,
 }
 

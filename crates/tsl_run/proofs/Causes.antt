@@ -1,24 +1,26 @@
 -- The cause of each outcome, whatever the inputs hold.
-use Rattle.std.proofs.Common.{◌≡◌, ℕ, All, List, [], ◌∷◌, ◌++◌, Option, Some, None, IsTrue, append_assoc, refl, sym, subst, arith}
+use Rattle.std.proofs.Common.{◌≡◌, ◌≢◌, ℕ, All, List, [], ◌∷◌, ◌++◌, Option, Some, None, IsTrue, append_assoc, refl, sym, subst, arith}
 use Rattle.std.specs.Prelude.{Contains, Result, Ok, Err}
 use Rattle.std.proofs.lemmas.List.Elements.{All-cons, All-contains, All-nil, Contains-append_left, Contains-append_right}
 use Rattle.tsl_io.specs.InputState.{InputState}
 use Rattle.command_words.specs.Code.{Code, CodePart}
-use Rattle.command_words.specs.Requests.{AnalyseRequest, CallRequest, CheckRequest, ClaimsRequest, ConvertRequest, EmulateRequest, ListRequest, Request, SliceRequest, call, emulate, analyse, check, convert, list, slice, claims}
+use Rattle.command_words.specs.Requests.{AnalyseRequest, CallRequest, CheckRequest, ClaimsRequest, ConvertRequest, EmulateRequest, ListRequest, Request, SliceRequest, StressRequest, call, emulate, analyse, check, convert, list, slice, claims, stress}
 use Rattle.command_words.specs.SpecNames.{SpecName, input, power_pc, risc_v}
 use Rattle.function_calls.specs.Calls as calls
 use Rattle.function_calls.specs.Calls.{call_end, spent, value, value_line}
 use Rattle.function_calls.proofs.Written.{values_are_written}
 use Rattle.insn_decode.specs.declared.image_error.ImageError.{ImageError}
+use Rattle.insn_decode.specs.declared.image_error.ImageError.TheVariants as imaging
 use Rattle.insn_decode.specs.Faults.{image_fault}
 use Rattle.insn_decode.specs.Image.{Image, Segment}
 use Rattle.spec_types.specs.declared.spec.Use.{Use}
 use Rattle.spec_types.specs.declared.spec.Use.TheVariants.{Library, Machine}
 use Rattle.spec_types.specs.Specification.{Spec}
 use Rattle.state_text.specs.declared.entry_error.EntryError.{EntryError}
+use Rattle.state_text.specs.declared.entry_error.EntryError.TheVariants as entering
 use Rattle.state_text.specs.Reading.{Entry, read}
 use Rattle.tsl_values.specs.States.{State}
-use Rattle.run_steps.specs.Outcome.{Outcome, Refusal, bad_words, not_built, cannot_read, too_long, spec_refused, code_refused, entry_refused, calls_spent, undecodable_at, too_many_targets, table_refused, claims_refused, rejected}
+use Rattle.run_steps.specs.Outcome.{Outcome, Refusal, bad_words, cannot_read, too_long, spec_refused, code_refused, entry_refused, calls_spent, undecodable_at, too_many_targets, table_refused, claims_refused, rejected}
 use Rattle.run_steps.specs.Reading as reading
 use Rattle.run_steps.specs.Reading.{Capped, CouldNotRead, Gave}
 use Rattle.run_steps.specs.Sources.{IsSpecification, SourceOf, Specifies, source_cap, source_inputs}
@@ -35,14 +37,17 @@ use Rattle.analysis_domains.proofs.Verdicts.{MayStop}
 use Rattle.run_tables.proofs.Stops.{analysis_stops, check_stops, claims_stop, conversion_stops, slice_stops}
 use Rattle.slice_text.specs.Asked.{asked}
 use Rattle.slice_text.specs.declared.asked.Asked.{Asked}
+use Rattle.run_stress.specs.Steps.{StressSteps}
+use Rattle.run_stress.proofs.Stops.{MayStress, stress_stops}
 use Rattle.table_inputs.specs.Cells.{CellOf, some_cell}
 use Rattle.table_inputs.specs.Entry.{Enters, EntryOf}
 use Rattle.table_inputs.specs.Inputs.{Coded, CodedOf, Posed, PosedOf, PosedWith, Sought, SoughtOf, claims_cap, coded_inputs, posed_inputs, table_cap}
 use Rattle.table_inputs.proofs.Chains.{code_behind, entry_behind, entry_with, posed_and_cell, sought_behind}
-use Rattle.tsl_run.specs.Possible.{Answers, MayBeBad, MayComeTo}
+use Rattle.tsl_run.specs.Possible.{Answers, IsOfSource, MayBeBad, MayComeTo}
 use Rattle.tsl_run.specs.Steps.{CallSteps, Steps, answered}
-use Rattle.tsl_run.specs.Words.{IsUnbuilt, capped_in, has_code, has_entry, names_in, names_of}
+use Rattle.tsl_run.specs.Words.{capped_in, has_code, has_entry, names_in, names_of}
 use Rattle.tsl_run.proofs.Chain.{Called, Ended}
+use Rattle.tsl_run.proofs.Faults.{entry_told, image_told, source_told, start_told, work_told}
 use Rattle.tsl_run.proofs.Giving.{is_accepted}
 use Rattle.tsl_run.proofs.Others.{only}
 
@@ -77,12 +82,11 @@ module _ {A B : Type 0} (first : Result A Refusal → Type 0) (next : A → Resu
 module _ (old new : InputState) (what : Option Request) where
   abbrev pub Cause : Refusal → Type 0
   Cause bad_words = MayBeBad what
-  Cause not_built = IsUnbuilt what
   Cause (cannot_read name) = Contains (names_in what) name × CouldNotRead old new name
   Cause (too_long name) = Contains (names_in what) name
-  Cause (spec_refused fault) = Unit {0}
-  Cause (code_refused fault) = IsTrue (has_code what)
-  Cause (entry_refused fault) = IsTrue (has_entry what)
+  Cause (spec_refused fault) = IsOfSource fault
+  Cause (code_refused fault) = IsTrue (has_code what) × (fault ≢ imaging.NoMemory)
+  Cause (entry_refused fault) = IsTrue (has_entry what) × (fault ≢ entering.NoMemory)
   Cause calls_spent = Unit {0}
   Cause (undecodable_at at word) = MayComeTo what (Err (undecodable_at at word))
   Cause (too_many_targets at shown) = MayComeTo what (Err (too_many_targets at shown))
@@ -116,10 +120,9 @@ module _ (old new : InputState) (what : Option Request) where
   specified_known : (wanted : Use) (source : List ℕ) (found : Result Spec Refusal) → Specifies wanted source found → KnowsCause found
   specified_known wanted source (Ok spec) p = tt
   specified_known wanted source (Err bad_words) p = absurd p
-  specified_known wanted source (Err not_built) p = absurd p
   specified_known wanted source (Err (cannot_read name)) p = absurd p
   specified_known wanted source (Err (too_long name)) p = absurd p
-  specified_known wanted source (Err (spec_refused fault)) p = tt
+  specified_known wanted source (Err (spec_refused fault)) p = source_told wanted source fault p
   specified_known wanted source (Err (code_refused fault)) p = absurd p
   specified_known wanted source (Err (entry_refused fault)) p = absurd p
   specified_known wanted source (Err calls_spent) p = tt
@@ -144,31 +147,31 @@ module _ (old new : InputState) (what : Option Request) where
       (λ bytes gave. both_know (SegmentsOf (Gave old new) parts) (Joins part.base bytes) Cause Anything
       (segments_known parts (behind_among ((part.name, code_cap) ∷ []) (part_inputs parts) among)) (λ segments given found further. joined_known part.base bytes segments found further)) found steps
 
-  by_fault : IsTrue (has_code what) → (code : Code) (segments : List Segment) (fault : Option ImageError) → KnowsCause (imaged (order_of code.order) segments fault)
-  by_fault has code segments None = tt
-  by_fault has code segments (Some fault) = has
+  by_fault : IsTrue (has_code what) → (code : Code) (segments : List Segment) (fault : Option ImageError) → image_fault segments ≡ fault → KnowsCause (imaged (order_of code.order) segments fault)
+  by_fault has code segments None is = tt
+  by_fault has code segments (Some fault) is = (has, image_told segments fault is)
 
   images_known : IsTrue (has_code what) → (code : Code) (segments : List Segment) (found : Result Image Refusal) → Images (order_of code.order) segments found → KnowsCause found
   images_known has code segments found is =
-      subst (λ (f : Result Image Refusal). KnowsCause f) (sym is) (by_fault has code segments (image_fault segments))
+      subst (λ (f : Result Image Refusal). KnowsCause f) (sym is) (by_fault has code segments (image_fault segments) refl)
 
   code_known : IsTrue (has_code what) → (code : Code) → Among (part_inputs code.parts) → (found : Result Image Refusal) → CodeOf (Gave old new) code found → KnowsCause found
   code_known has code among found steps =
       both_know (SegmentsOf (Gave old new) code.parts) (Images (order_of code.order)) Cause Anything (segments_known code.parts among) (λ segments given found further. images_known has code segments found further) found steps
 
-  entered_known : {A : Type 0} → IsTrue (has_entry what) → (found : Result A EntryError) → KnowsCause (entered found)
-  entered_known has (Ok found) = tt
-  entered_known has (Err fault) = has
+  entered_known : {A : Type 0} → IsTrue (has_entry what) → (found : Result A EntryError) → ((error : EntryError) → found ≡ Err error → error ≢ entering.NoMemory) → KnowsCause (entered found)
+  entered_known has (Ok found) told = tt
+  entered_known has (Err fault) told = (has, told fault refl)
 
   starts_known : IsTrue (has_entry what) → (spec : Spec) (bytes : List ℕ) (found : Result State Refusal) → StartsFrom spec bytes found → KnowsCause found
-  starts_known has spec bytes found is = subst (λ (f : Result State Refusal). KnowsCause f) (sym is) (entered_known has (state_in spec (read spec bytes)))
+  starts_known has spec bytes found is = subst (λ (f : Result State Refusal). KnowsCause f) (sym is) (entered_known has (state_in spec (read spec bytes)) (start_told spec bytes))
 
   start_known : IsTrue (has_entry what) → (spec : Spec) (name : List ℕ) → Among ((name, entry_cap) ∷ []) → (found : Result State Refusal) → StartOf (Gave old new) spec name found → KnowsCause found
   start_known has spec name among found steps =
       both_know (Gave old new entry_cap name) (StartsFrom spec) Cause Anything (reading_known entry_cap name (among (name, entry_cap) (only (name, entry_cap)))) (λ bytes gave found further. starts_known has spec bytes found further) found steps
 
   enters_known : IsTrue (has_entry what) → (spec : Spec) (bytes : List ℕ) (found : Result Entry Refusal) → Enters spec bytes found → KnowsCause found
-  enters_known has spec bytes found is = subst (λ (f : Result Entry Refusal). KnowsCause f) (sym is) (entered_known has (read spec bytes))
+  enters_known has spec bytes found is = subst (λ (f : Result Entry Refusal). KnowsCause f) (sym is) (entered_known has (read spec bytes) (entry_told spec bytes))
 
   entry_known : IsTrue (has_entry what) → (spec : Spec) (name : List ℕ) → Among ((name, entry_cap) ∷ []) → (found : Result Entry Refusal) → EntryOf (Gave old new) spec name found → KnowsCause found
   entry_known has spec name among found steps =
@@ -246,9 +249,6 @@ module _ (old new : InputState) (what : Option Request) where
 module _ (old new : InputState) where
   abbrev pub Caused : Option Request → Outcome → Type 0
   Caused what outcome = Knows (Cause old new what) (Answers what) outcome
-
-  unbuilt_known : (what : Option Request) (outcome : Outcome) → IsUnbuilt what → outcome ≡ Err not_built → Caused what outcome
-  unbuilt_known what outcome unbuilt is = subst (λ (o : Outcome). Caused what o) (sym is) unbuilt
 
   ended_known : (request : CallRequest) (source : List ℕ) (spec : Spec) → IsSpecification Library source spec
       → (end : calls.End) → call_end spec request.calls request.fun request.numbers ≡ end → Caused (Some (call request)) (answered end)
@@ -367,6 +367,18 @@ module _ (old new : InputState) where
       (code_known old new what refl request.code (behind_among old new what sources parts (λ x named. named))) (λ image is_image found is.
       subst (λ (o : Outcome). Caused what o) (sym is) (record { spec = spec; image = image; lists = refl }))) outcome steps
 
+  stress_refused : (request : StressRequest) (refusal : Refusal) → MayStress refusal → StressSteps request (Err refusal) → Cause old new (Some (stress request)) refusal
+  stress_refused request (spec_refused fault) may is = work_told (Some (stress request)) (spec_refused fault) is
+  stress_refused request (code_refused fault) may is = (refl, work_told (Some (stress request)) (code_refused fault) is)
+  stress_refused request (entry_refused fault) may is = (refl, work_told (Some (stress request)) (entry_refused fault) is)
+  stress_refused request (undecodable_at at word) may is = is
+  stress_refused request (too_many_targets at shown) may is = is
+  stress_refused request _ may is = absurd may
+
+  stress_known : (request : StressRequest) (outcome : Outcome) → StressSteps request outcome → Caused (Some (stress request)) outcome
+  stress_known request (Ok answer) is = is
+  stress_known request (Err refusal) is = stress_refused request refusal (stress_stops request refusal is) is
+
   pub asked_known : (what : Option Request) (outcome : Outcome) → Steps (Gave old new) what outcome → Caused what outcome
   asked_known None outcome is = subst (λ (o : Outcome). Caused None o) (sym is) tt
   asked_known (Some (call request)) outcome steps = call_known request outcome steps
@@ -377,4 +389,4 @@ module _ (old new : InputState) where
   asked_known (Some (list request)) outcome steps = list_known request outcome steps
   asked_known (Some (slice request)) outcome steps = slice_known request outcome steps
   asked_known (Some (claims request)) outcome steps = claim_known request outcome steps
-  asked_known (Some other) outcome is = unbuilt_known (Some other) outcome refl is
+  asked_known (Some (stress request)) outcome steps = stress_known request outcome steps

@@ -9,14 +9,17 @@ use Rattle.tsl_io.specs.SinkState.{SinkState, Appends, AppendsFront}
 use Rattle.run_steps.specs.declared.status.Status.{Status}
 use Rattle.run_steps.specs.declared.status.Status.TheVariants as s
 use Rattle.run_steps.specs.Outcome as answers
-use Rattle.run_steps.specs.Outcome.{Outcome, Refusal, bad_words, not_built, cannot_read, too_long, spec_refused, code_refused, entry_refused, calls_spent, undecodable_at, too_many_targets, table_refused, claims_refused, rejected, line_of, status_of}
+use Rattle.run_steps.specs.Outcome.{Outcome, Refusal, bad_words, cannot_read, too_long, spec_refused, code_refused, entry_refused, calls_spent, undecodable_at, too_many_targets, table_refused, claims_refused, rejected, line_of, status_of}
 use Rattle.run_steps.specs.Reading as owing
 use Rattle.run_steps.specs.Reading.{CouldNotRead, Gave, Holds}
 use Rattle.run_steps.specs.Statuses.{IsAnswer}
 use Rattle.run_steps.proofs.Steps.{Fails}
-use Rattle.command_words.specs.Requests.{AnalyseRequest, CheckRequest, ClaimsRequest, Request, SliceRequest, call, emulate, analyse, check, convert, list, slice, claims}
+use Rattle.command_words.specs.Requests.{AnalyseRequest, CheckRequest, ClaimsRequest, Request, SliceRequest, StressRequest, analyse, check, slice, claims, stress}
 use Rattle.command_words.specs.Words.{asked}
 use Rattle.analysis_domains.specs.Checks.{accepted_line}
+use Rattle.run_stress.specs.Laws.{IsStress}
+use Rattle.run_stress.specs.Steps.{StressSteps}
+use Rattle.run_stress.proofs.Accepted.{stress_is_accepted}
 use Rattle.tsl_run.specs.Follows.{Due, EndsAsOwed, EndsWith, FinishesAsOwed, IsCut, Unread, owed, unread}
 use Rattle.tsl_run.specs.Laws.{EndsFollow}
 use Rattle.tsl_run.specs.Output as output
@@ -25,12 +28,12 @@ use Rattle.tsl_run.specs.Owed.{ComesTo, IsOwed, Owes}
 use Rattle.tsl_run.specs.Possible as possible
 use Rattle.tsl_run.specs.Possible.{IsLineOf, IsPossible}
 use Rattle.tsl_run.specs.Steps.{Steps}
-use Rattle.tsl_run.specs.Tables.{AreClaimsFor, IsAcceptedFor, IsOpenTableFor, IsSliceFor, IsTableFor}
-use Rattle.tsl_run.specs.Words.{IsUnbuilt, capped_in, input_names, names_in}
+use Rattle.tsl_run.specs.Tables.{AreClaimsFor, AreOpenClaimsFor, IsAcceptedFor, IsOpenAcceptedFor, IsOpenSliceFor, IsOpenTableFor, IsSliceFor, IsTableFor}
+use Rattle.tsl_run.specs.Words.{capped_in, input_names, names_in}
 use Rattle.tsl_run.proofs.Causes.{Caused, asked_known, is_named}
 use Rattle.tsl_run.proofs.Exists.{some_answer}
 use Rattle.tsl_run.proofs.Others.{asked_either}
-use Rattle.tsl_run.proofs.Tables.{owed_acceptance, owed_claims, owed_open_table, owed_slice, owed_table}
+use Rattle.tsl_run.proofs.Tables.{owed_acceptance, owed_claims, owed_open_acceptance, owed_open_claims, owed_open_slice, owed_open_table, owed_slice, owed_table}
 use Rattle.tsl_run.proofs.Unique.{one_answer}
 
 -- ---- the cause of each outcome
@@ -42,12 +45,11 @@ module _ (words : List (List ℕ)) (old new : InputState) where
   possible_outcome : (what : Option Request) (outcome : Outcome) → Caused old new what outcome → IsPossible what outcome
   possible_outcome what (Ok answer) cause = possible.answered cause
   possible_outcome what (Err bad_words) cause = possible.bad_words cause
-  possible_outcome what (Err not_built) cause = possible.not_built cause
   possible_outcome what (Err (cannot_read name)) cause = possible.cannot_read cause.0
   possible_outcome what (Err (too_long name)) cause = possible.too_long cause
-  possible_outcome what (Err (spec_refused fault)) cause = possible.spec_refused
-  possible_outcome what (Err (code_refused fault)) cause = possible.code_refused cause
-  possible_outcome what (Err (entry_refused fault)) cause = possible.entry_refused cause
+  possible_outcome what (Err (spec_refused fault)) cause = possible.spec_refused cause
+  possible_outcome what (Err (code_refused fault)) cause = possible.code_refused cause.0 cause.1
+  possible_outcome what (Err (entry_refused fault)) cause = possible.entry_refused cause.0 cause.1
   possible_outcome what (Err calls_spent) cause = possible.calls_spent
   possible_outcome what (Err (undecodable_at at word)) cause = possible.undecodable_at cause
   possible_outcome what (Err (too_many_targets at shown)) cause = possible.too_many_targets cause
@@ -64,7 +66,6 @@ module _ (words : List (List ℕ)) (old new : InputState) where
   unread_outcome (Ok (answers.undecodable bytes)) comes is = absurd (cc)
   unread_outcome (Ok (answers.calls_ended bytes)) comes is = absurd (cc)
   unread_outcome (Err bad_words) comes is = absurd (cc)
-  unread_outcome (Err not_built) comes is = absurd (cc)
   unread_outcome (Err (cannot_read name)) comes is =
       let cause = caused (Err (cannot_read name)) comes in record { name = name; named = cause.0; cause = cause.1; line = refl }
   unread_outcome (Err (too_long name)) comes is = absurd (cc)
@@ -141,7 +142,6 @@ module _ (words : List (List ℕ)) (old new : InputState) (told : IsTrue old.tel
   due_outcome (Ok (answers.undecodable bytes)) comes = owed (λ e. cc) (owes_outcome (Ok (answers.undecodable bytes)) (comes_owed (Ok (answers.undecodable bytes)) comes (λ e. cc)))
   due_outcome (Ok (answers.calls_ended bytes)) comes = owed (λ e. cc) (owes_outcome (Ok (answers.calls_ended bytes)) (comes_owed (Ok (answers.calls_ended bytes)) comes (λ e. cc)))
   due_outcome (Err bad_words) comes = owed (λ e. cc) (owes_outcome (Err bad_words) (comes_owed (Err bad_words) comes (λ e. cc)))
-  due_outcome (Err not_built) comes = owed (λ e. cc) (owes_outcome (Err not_built) (comes_owed (Err not_built) comes (λ e. cc)))
   due_outcome (Err (cannot_read name)) comes = unread (unread_outcome words old new (Err (cannot_read name)) comes refl)
   due_outcome (Err (too_long name)) comes = owed (λ e. cc) (owes_outcome (Err (too_long name)) (comes_owed (Err (too_long name)) comes (λ e. cc)))
   due_outcome (Err (spec_refused fault)) comes = owed (λ e. cc) (owes_outcome (Err (spec_refused fault)) (comes_owed (Err (spec_refused fault)) comes (λ e. cc)))
@@ -166,7 +166,6 @@ no_write_fault (Ok (answers.text bytes)) is = cc
 no_write_fault (Ok (answers.undecodable bytes)) is = cc
 no_write_fault (Ok (answers.calls_ended bytes)) is = cc
 no_write_fault (Err bad_words) is = cc
-no_write_fault (Err not_built) is = cc
 no_write_fault (Err (cannot_read name)) is = cc
 no_write_fault (Err (too_long name)) is = cc
 no_write_fault (Err (spec_refused fault)) is = cc
@@ -181,7 +180,6 @@ no_write_fault (Err (rejected rejection)) is = cc
 
 no_ok : (refusal : Refusal) → status_of (Err refusal) ≡ s.Ok → ⊥
 no_ok bad_words is = cc
-no_ok not_built is = cc
 no_ok (cannot_read name) is = cc
 no_ok (too_long name) is = cc
 no_ok (spec_refused fault) is = cc
@@ -205,21 +203,6 @@ rose old new by_one = omega (arith, by_one)
 
 asks_bad : (words : List (List ℕ)) (old new : InputState) (outcome : Outcome) → asked words ≡ None → ComesTo words old new outcome → outcome ≡ Err bad_words
 asks_bad words old new outcome asks comes = subst (λ (what : Option Request). Steps (Gave old new) what outcome) asks comes
-
-not_built_by : (old new : InputState) (what : Option Request) → IsUnbuilt what → (outcome : Outcome) → Steps (Gave old new) what outcome → outcome ≡ Err not_built
-not_built_by old new None unbuilt outcome is = absurd unbuilt
-not_built_by old new (Some (call request)) unbuilt outcome steps = absurd (cc)
-not_built_by old new (Some (emulate request)) unbuilt outcome steps = absurd (cc)
-not_built_by old new (Some (analyse request)) unbuilt outcome steps = absurd (cc)
-not_built_by old new (Some (check request)) unbuilt outcome steps = absurd (cc)
-not_built_by old new (Some (convert request)) unbuilt outcome steps = absurd (cc)
-not_built_by old new (Some (list request)) unbuilt outcome steps = absurd (cc)
-not_built_by old new (Some (slice request)) unbuilt outcome steps = absurd (cc)
-not_built_by old new (Some (claims request)) unbuilt outcome steps = absurd (cc)
-not_built_by old new (Some _) unbuilt outcome is = is
-
-asks_not_built : (words : List (List ℕ)) (old new : InputState) (outcome : Outcome) → IsUnbuilt (asked words) → ComesTo words old new outcome → outcome ≡ Err not_built
-asks_not_built words old new outcome unbuilt comes = not_built_by old new (asked words) unbuilt outcome comes
 
 module _ (words : List (List ℕ)) (old new : InputState) (sink_old sink_new : SinkState) (result : Status) where
   abbrev pub End : Type 0
@@ -326,22 +309,52 @@ module _ (words : List (List ℕ)) (old new : InputState) (sink_old sink_new : S
   by_open_table told request asks left_open ok end = let found = of_ok told ok end in (found.0, owed_open_table words old.held request found.0 asks left_open found.1, found.2)
 
   -- a check
-  by_accepted : IsTrue old.tells → (request : CheckRequest) → asked words ≡ Some (check request) → result ≡ s.Ok → End
+  by_accepted : IsTrue old.tells → (request : CheckRequest) → asked words ≡ Some (check request) → request.analysis.open ≡ false → result ≡ s.Ok → End
       → IsAcceptedFor old.held request × Appends sink_old sink_new accepted_line
-  by_accepted told request asks ok end =
+  by_accepted told request asks closed ok end =
       let found = of_ok told ok end in
-      let accepted = owed_acceptance words old.held request found.0 asks found.1 in
+      let accepted = owed_acceptance words old.held request found.0 asks closed found.1 in
+      (accepted.0, as_text found.0 accepted_line accepted.1 found.2)
+
+  -- one whose table may be left open
+  by_open_accepted : IsTrue old.tells → (request : CheckRequest) → asked words ≡ Some (check request) → request.analysis.open ≡ true → result ≡ s.Ok → End
+      → IsOpenAcceptedFor old.held request × Appends sink_old sink_new accepted_line
+  by_open_accepted told request asks left_open ok end =
+      let found = of_ok told ok end in
+      let accepted = owed_open_acceptance words old.held request found.0 asks left_open found.1 in
       (accepted.0, as_text found.0 accepted_line accepted.1 found.2)
 
   -- a slice
-  by_slice : IsTrue old.tells → (request : SliceRequest) → asked words ≡ Some (slice request) → result ≡ s.Ok → End
+  by_slice : IsTrue old.tells → (request : SliceRequest) → asked words ≡ Some (slice request) → request.check.analysis.open ≡ false → result ≡ s.Ok → End
       → (text : List ℕ) × IsSliceFor old.held request text × Appends sink_old sink_new text
-  by_slice told request asks ok end = let found = of_ok told ok end in (found.0, owed_slice words old.held request found.0 asks found.1, found.2)
+  by_slice told request asks closed ok end = let found = of_ok told ok end in (found.0, owed_slice words old.held request found.0 asks closed found.1, found.2)
+
+  -- one whose table may be left open
+  by_open_slice : IsTrue old.tells → (request : SliceRequest) → asked words ≡ Some (slice request) → request.check.analysis.open ≡ true → result ≡ s.Ok → End
+      → (text : List ℕ) × IsOpenSliceFor old.held request text × Appends sink_old sink_new text
+  by_open_slice told request asks left_open ok end = let found = of_ok told ok end in (found.0, owed_open_slice words old.held request found.0 asks left_open found.1, found.2)
 
   -- claims
-  by_claims : IsTrue old.tells → (request : ClaimsRequest) → asked words ≡ Some (claims request) → result ≡ s.Ok → End
+  by_claims : IsTrue old.tells → (request : ClaimsRequest) → asked words ≡ Some (claims request) → request.check.analysis.open ≡ false → result ≡ s.Ok → End
       → (text : List ℕ) × AreClaimsFor old.held request text × Appends sink_old sink_new text
-  by_claims told request asks ok end = let found = of_ok told ok end in (found.0, owed_claims words old.held request found.0 asks found.1, found.2)
+  by_claims told request asks closed ok end = let found = of_ok told ok end in (found.0, owed_claims words old.held request found.0 asks closed found.1, found.2)
+
+  -- those on a table that may be left open
+  by_open_claims : IsTrue old.tells → (request : ClaimsRequest) → asked words ≡ Some (claims request) → request.check.analysis.open ≡ true → result ≡ s.Ok → End
+      → (text : List ℕ) × AreOpenClaimsFor old.held request text × Appends sink_old sink_new text
+  by_open_claims told request asks left_open ok end = let found = of_ok told ok end in (found.0, owed_open_claims words old.held request found.0 asks left_open found.1, found.2)
+
+  -- a stress
+  by_stress : (request : StressRequest) → asked words ≡ Some (stress request) → result ≡ s.Ok → End → (text : List ℕ) × IsStress request text × Appends sink_old sink_new text
+  by_stress request asks ok (output.written outcome comes is appends) = of_text outcome (subst (λ (what : Option Request). Steps (Gave old new) what outcome) asks comes) (sym is ∙ ok) appends
+    where
+      of_text : (outcome : Outcome) → StressSteps request outcome → status_of outcome ≡ s.Ok → Appends sink_old sink_new (line_of outcome) → (text : List ℕ) × IsStress request text × Appends sink_old sink_new text
+      of_text (Ok (answers.text bytes)) steps is appends = (bytes, stress_is_accepted request bytes steps, appends)
+      of_text (Ok (answers.undecodable bytes)) steps is appends = absurd (cc)
+      of_text (Ok (answers.calls_ended bytes)) steps is appends = absurd (cc)
+      of_text (Err refusal) steps is appends = absurd (no_ok refusal is)
+  by_stress request asks ok (output.cut outcome comes is no_room front) = absurd (let wrong : s.Ok ≡ s.WriteFault = sym ok ∙ is in cc)
+  by_stress request asks ok (output.no_memory is) = absurd (let wrong : s.Ok ≡ s.NoMemory = sym ok ∙ is in cc)
 
   unsure_names : All (λ name. IsTrue (old.sure name)) (input_names words) → (name : List ℕ) → Contains (input_names words) name → CouldNotRead old new name → ⊥
   unsure_names sure name named cause =
@@ -352,12 +365,15 @@ ends_follow words old new sink_old sink_new result end write_fault = record {
   answered = λ told answer. by_answered words old new sink_old sink_new result told answer end;
   table = λ told request asks closed ok. by_table words old new sink_old sink_new result told request asks closed ok end;
   open_table = λ told request asks left_open ok. by_open_table words old new sink_old sink_new result told request asks left_open ok end;
-  accepted = λ told request asks ok. by_accepted words old new sink_old sink_new result told request asks ok end;
-  sliced = λ told request asks ok. by_slice words old new sink_old sink_new result told request asks ok end;
-  claimed = λ told request asks ok. by_claims words old new sink_old sink_new result told request asks ok end;
+  accepted = λ told request asks closed ok. by_accepted words old new sink_old sink_new result told request asks closed ok end;
+  accepted_open = λ told request asks left_open ok. by_open_accepted words old new sink_old sink_new result told request asks left_open ok end;
+  sliced = λ told request asks closed ok. by_slice words old new sink_old sink_new result told request asks closed ok end;
+  sliced_open = λ told request asks left_open ok. by_open_slice words old new sink_old sink_new result told request asks left_open ok end;
+  claimed = λ told request asks closed ok. by_claims words old new sink_old sink_new result told request asks closed ok end;
+  claimed_open = λ told request asks left_open ok. by_open_claims words old new sink_old sink_new result told request asks left_open ok end;
+  stressed = λ request asks ok. by_stress words old new sink_old sink_new result request asks ok end;
   owed = λ told status text owes. by_owed words old new sink_old sink_new result told status text owes end;
   bad_words = λ asks. by_known words old new sink_old sink_new result (Err bad_words) (λ outcome comes. asks_bad words old new outcome asks comes) end;
-  not_built = λ asks. by_known words old new sink_old sink_new result (Err not_built) (λ outcome comes. asks_not_built words old new outcome asks comes) end;
   read_fault = λ fault. by_read_fault words old new sink_old sink_new result fault end;
   cut = λ told fault. by_cut words old new sink_old sink_new result told fault end;
   one_line = λ no_fault memory. by_one_line words old new sink_old sink_new result no_fault memory end;

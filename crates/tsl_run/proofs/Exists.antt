@@ -1,16 +1,17 @@
 -- Something is owed for all words.
 use Rattle.std.proofs.Common.{Option, Some, None, refl}
 use Rattle.std.specs.Prelude.{Err}
-use Rattle.command_words.specs.Requests.{Request, call, emulate, analyse, check, convert, list, slice, claims}
+use Rattle.command_words.specs.Requests.{Request, call, emulate, analyse, check, convert, list, slice, claims, stress}
 use Rattle.command_words.specs.Words.{asked}
 use Rattle.function_calls.specs.Calls.{call_end}
 use Rattle.spec_types.specs.declared.spec.Use.TheVariants.{Library}
-use Rattle.run_steps.specs.Outcome.{bad_words, not_built, line_of, status_of}
+use Rattle.run_steps.specs.Outcome.{bad_words, line_of, status_of}
 use Rattle.run_steps.specs.Reading.{Held, Holds}
 use Rattle.run_steps.specs.Sources.{SourceOf, Specifies}
 use Rattle.run_steps.proofs.OneSource.{some_source, some_specified}
 use Rattle.run_steps.proofs.Steps.{IsTotal, total}
 use Rattle.run_emulate.proofs.Whole.{emulate_has_some, list_has_some}
+use Rattle.run_stress.proofs.One.{stress_has_some}
 use Rattle.run_tables.proofs.One.{analyse_has_some, check_has_some, claims_has_some, convert_has_some, slice_has_some}
 use Rattle.tsl_run.specs.Laws.{SomeAnswer}
 use Rattle.tsl_run.specs.Steps.{Steps, answered}
@@ -25,12 +26,12 @@ some_asked held (Some (call request)) few =
     (answered (call_end spec request.calls request.fun request.numbers), refl)))
 some_asked held (Some (emulate request)) few = emulate_has_some held request
 some_asked held (Some (analyse request)) few = analyse_has_some held request few
-some_asked held (Some (check request)) few = check_has_some held request few.0
+some_asked held (Some (check request)) few = check_has_some held request few
 some_asked held (Some (convert request)) few = convert_has_some held request few
 some_asked held (Some (list request)) few = list_has_some held request
 some_asked held (Some (slice request)) few = slice_has_some held request few.0
 some_asked held (Some (claims request)) few = claims_has_some held request few
-some_asked held (Some _) few = (Err not_built, refl)
+some_asked held (Some (stress request)) few = stress_has_some request
 
 pub some_answer : SomeAnswer
 some_answer words held =

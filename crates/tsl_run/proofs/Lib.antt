@@ -3,6 +3,7 @@ pub mod Chain
 pub mod Ending
 pub mod Exact
 pub mod Exists
+pub mod Faults
 pub mod Giving
 pub mod Others
 pub mod Parts

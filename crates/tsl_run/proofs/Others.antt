@@ -3,7 +3,7 @@ use Rattle.std.proofs.Common.{◌≡◌, ◌⊎◌, inl, ℕ, List, [], ◌∷�
 use Rattle.std.specs.Prelude.{Contains, Result, Ok}
 use Rattle.std.proofs.lemmas.List.Elements.{Contains-append_left, Contains-append_right}
 use Rattle.command_words.specs.Code.{Code, CodePart}
-use Rattle.command_words.specs.Requests.{AnalyseRequest, CallRequest, CheckRequest, ClaimsRequest, ConvertRequest, EmulateRequest, ListRequest, Request, SliceRequest, call, emulate, analyse, check, convert, list, slice, claims}
+use Rattle.command_words.specs.Requests.{AnalyseRequest, CallRequest, CheckRequest, ClaimsRequest, ConvertRequest, EmulateRequest, ListRequest, Request, SliceRequest, call, emulate, analyse, check, convert, list, slice, claims, stress}
 use Rattle.command_words.specs.SpecNames.{SpecName, input, power_pc, risc_v}
 use Rattle.insn_decode.specs.Image.{Image, Segment}
 use Rattle.spec_types.specs.declared.spec.Use.TheVariants.{Machine}
@@ -194,4 +194,4 @@ module _ (reads other : Reading) (fault : Refusal → Type 0) where
   asked_either (Some (list request)) by outcome steps = list_either request by outcome steps
   asked_either (Some (slice request)) by outcome steps = slice_either request by outcome steps
   asked_either (Some (claims request)) by outcome steps = claims_either request by outcome steps
-  asked_either (Some _) by outcome is = inl is
+  asked_either (Some (stress request)) by outcome is = inl is

@@ -1,13 +1,11 @@
 -- The code that words ask for has few parts.
-use Rattle.std.proofs.Common.{◌≡◌, ℕ, ◌≤◌, ◌&&◌, Bool, true, false, List, [], ◌∷◌, ◌++◌, Option, Some, None, length, map, refl, sym, ◌∙◌, ap, subst, arith, leb-true}
-use Rattle.std.specs.Prelude.{◌||◌, IsTrue, if◌then◌else◌, nat_le, not, option_and_then, option_map, suc}
-use Rattle.std.specs.List.{list_all, slice_split}
+use Rattle.std.proofs.Common.{◌≡◌, ℕ, ◌≤◌, List, [], ◌∷◌, Option, Some, None, length, map, refl, sym, ◌∙◌, ap, subst, arith, leb-true}
+use Rattle.std.specs.Prelude.{IsTrue, if◌then◌else◌, nat_le, option_and_then, option_map, suc}
+use Rattle.std.specs.List.{slice_split}
 use Rattle.std.proofs.lemmas.List.{length-map}
 use Rattle.command_words.specs.declared.bases.BaseName.{BaseName}
 use Rattle.command_words.specs.declared.commands.CommandName.{CommandName}
 use Rattle.command_words.specs.declared.commands.CommandName.TheVariants as c
-use Rattle.command_words.specs.declared.options.OptionName.{OptionName}
-use Rattle.command_words.specs.declared.options.OptionName.TheVariants as o
 use Rattle.command_words.specs.declared.code_word.CodePart as code-part
 use Rattle.command_words.specs.declared.requests.AnalyseRequest as code-analyse
 use Rattle.command_words.specs.declared.requests.CheckRequest as code-check
@@ -18,8 +16,8 @@ use Rattle.command_words.specs.declared.requests.ClaimsRequest as code-claims
 use Rattle.command_words.specs.declared.requests.SliceRequest as code-slice
 use Rattle.command_words.specs.Bases.{is_stamped}
 use Rattle.command_words.specs.Code.{Code, CodePart, code_parts, is_comma, part_at, part_in, parts_from, parts_in}
-use Rattle.command_words.specs.CommandLine.{Given, given_in, is_given}
-use Rattle.command_words.specs.Commands.{command_named, takes as takes_option}
+use Rattle.command_words.specs.CommandLine.{Given, given_in}
+use Rattle.command_words.specs.Commands.{command_named}
 use Rattle.command_words.specs.Numbers.{address_in}
 use Rattle.command_words.specs.OptionValues.{address_of, base_of, calls_of, joins_of, limit_of, order_of, steps_of}
 use Rattle.command_words.specs.Requests.{AnalyseRequest, CheckRequest, ClaimsRequest, ConvertRequest, EmulateRequest, ListRequest, Request, SliceRequest, call, emulate, analyse, check, convert, list, slice, claims, stress}
@@ -75,11 +73,11 @@ few_in_code given word code is =
 
 -- ---- requests
 
--- its code has few parts; a check is not left open, and a slice is over a base that tells stamps
+-- its code has few parts, and a slice is over a base that tells stamps
 abbrev pub IsFew : Request → Type 0
 IsFew (emulate request) = length request.code.parts ≤ 16
 IsFew (analyse request) = length request.code.parts ≤ 16
-IsFew (check request) = (length request.analysis.code.parts ≤ 16) × (request.analysis.open ≡ false)
+IsFew (check request) = length request.analysis.code.parts ≤ 16
 IsFew (convert request) = length request.code.parts ≤ 16
 IsFew (list request) = length request.code.parts ≤ 16
 IsFew (slice request) = (length request.check.analysis.code.parts ≤ 16) × IsTrue (is_stamped request.check.analysis.base)
@@ -100,16 +98,12 @@ few_in_emulate given (spec ∷ []) request is = absurd (cc)
 few_in_emulate given (spec ∷ word ∷ []) request is = absurd (cc)
 few_in_emulate given (spec ∷ word ∷ entry ∷ more ∷ rest) request is = absurd (cc)
 
--- It is left open as the words say, and its code has few parts.
-abbrev IsGiven : Given → AnalyseRequest → Type 0
-IsGiven given request = (length request.code.parts ≤ 16) × (request.open ≡ given.open)
-
 abbrev analysis_with : Given → List ℕ → List ℕ → Code → BaseName → ℕ → ℕ → AnalyseRequest
 analysis_with given spec entry code base limit joins = record { spec = spec_in spec; code = code; entry = entry; base = base; limit = limit; joins = joins; «open» = given.open }
 
-given_in_analysis : (given : Given) (spec word entry : List ℕ) (request : AnalyseRequest) → analysis_of given spec word entry ≡ Some request → IsGiven given request
+few_in_analysis : (given : Given) (spec word entry : List ℕ) (request : AnalyseRequest) → analysis_of given spec word entry ≡ Some request → length request.code.parts ≤ 16
 unfolding analysis_of
-given_in_analysis given spec word entry request is =
+few_in_analysis given spec word entry request is =
     let made = analysis_with given spec entry in
     let code = bound (code_of given word) (λ code. option_and_then (λ base. option_and_then (λ limit. option_and_then (λ joins. Some (made code base limit joins)) (joins_of given)) (limit_of given)) (base_of given)) request is in
     let base = bound (base_of given) (λ base. option_and_then (λ limit. option_and_then (λ joins. Some (made code.0 base limit joins)) (joins_of given)) (limit_of given)) request code.2 in
@@ -117,32 +111,32 @@ given_in_analysis given spec word entry request is =
     let joins = bound (joins_of given) (λ joins. Some (made code.0 base.0 limit.0 joins)) request limit.2 in
     let whole : Some (made code.0 base.0 limit.0 joins.0) ≡ Some request = joins.2 in
     let same : made code.0 base.0 limit.0 joins.0 ≡ request = cc in
-    subst (λ (r : AnalyseRequest). IsGiven given r) same (few_in_code given word code.0 code.1, refl)
+    subst (λ (r : AnalyseRequest). length r.code.parts ≤ 16) same (few_in_code given word code.0 code.1)
 
 few_in_analyse : (given : Given) (words : List (List ℕ)) (request : AnalyseRequest) → analyse_of given words ≡ Some request → length request.code.parts ≤ 16
 unfolding analyse_of
-few_in_analyse given (spec ∷ word ∷ entry ∷ []) request is = (given_in_analysis given spec word entry request is).0
+few_in_analyse given (spec ∷ word ∷ entry ∷ []) request is = few_in_analysis given spec word entry request is
 few_in_analyse given [] request is = absurd (cc)
 few_in_analyse given (spec ∷ []) request is = absurd (cc)
 few_in_analyse given (spec ∷ word ∷ []) request is = absurd (cc)
 few_in_analyse given (spec ∷ word ∷ entry ∷ more ∷ rest) request is = absurd (cc)
 
-given_in_check_from : (given : Given) (spec word entry table : List ℕ) (request : CheckRequest) → check_from given spec word entry table ≡ Some request → IsGiven given request.analysis
+few_in_check_from : (given : Given) (spec word entry table : List ℕ) (request : CheckRequest) → check_from given spec word entry table ≡ Some request → length request.analysis.code.parts ≤ 16
 unfolding check_from
-given_in_check_from given spec word entry table request is =
+few_in_check_from given spec word entry table request is =
     let analysis = bound (analysis_of given spec word entry) (λ analysis. Some (record { analysis = analysis; table = table })) request is in
     let made : Some (record { analysis = analysis.0; table = table }) ≡ Some request = analysis.2 in
     let same : record { analysis = analysis.0; table = table } ≡ request = cc in
-    subst (λ (r : CheckRequest). IsGiven given r.analysis) same (given_in_analysis given spec word entry analysis.0 analysis.1)
+    subst (λ (r : CheckRequest). length r.analysis.code.parts ≤ 16) same (few_in_analysis given spec word entry analysis.0 analysis.1)
 
-given_in_check : (given : Given) (words : List (List ℕ)) (request : CheckRequest) → check_of given words ≡ Some request → IsGiven given request.analysis
+few_in_check : (given : Given) (words : List (List ℕ)) (request : CheckRequest) → check_of given words ≡ Some request → length request.analysis.code.parts ≤ 16
 unfolding check_of
-given_in_check given (spec ∷ word ∷ entry ∷ table ∷ []) request is = given_in_check_from given spec word entry table request is
-given_in_check given [] request is = absurd (cc)
-given_in_check given (spec ∷ []) request is = absurd (cc)
-given_in_check given (spec ∷ word ∷ []) request is = absurd (cc)
-given_in_check given (spec ∷ word ∷ entry ∷ []) request is = absurd (cc)
-given_in_check given (spec ∷ word ∷ entry ∷ table ∷ more ∷ rest) request is = absurd (cc)
+few_in_check given (spec ∷ word ∷ entry ∷ table ∷ []) request is = few_in_check_from given spec word entry table request is
+few_in_check given [] request is = absurd (cc)
+few_in_check given (spec ∷ []) request is = absurd (cc)
+few_in_check given (spec ∷ word ∷ []) request is = absurd (cc)
+few_in_check given (spec ∷ word ∷ entry ∷ []) request is = absurd (cc)
+few_in_check given (spec ∷ word ∷ entry ∷ table ∷ more ∷ rest) request is = absurd (cc)
 
 few_in_convert : (given : Given) (words : List (List ℕ)) (request : ConvertRequest) → convert_of given words ≡ Some request → length request.code.parts ≤ 16
 unfolding convert_of
@@ -181,7 +175,7 @@ few_in_slice : (given : Given) (words : List (List ℕ)) (request : SliceRequest
 unfolding slice_of
 few_in_slice given (spec ∷ word ∷ entry ∷ table ∷ place ∷ cell ∷ []) request is =
     let table_of = bound (check_from given spec word entry table) (λ t. slice_from t place cell) request is in
-    few_in_slice_from given table_of.0 place cell request (given_in_check_from given spec word entry table table_of.0 table_of.1).0 table_of.2
+    few_in_slice_from given table_of.0 place cell request (few_in_check_from given spec word entry table table_of.0 table_of.1) table_of.2
 few_in_slice given [] request is = absurd (cc)
 few_in_slice given (spec ∷ []) request is = absurd (cc)
 few_in_slice given (spec ∷ word ∷ []) request is = absurd (cc)
@@ -196,7 +190,7 @@ few_in_claims given (spec ∷ word ∷ entry ∷ table ∷ name ∷ []) request 
     let table_of = bound (check_from given spec word entry table) (λ t. Some (record { check = t; claims = name })) request is in
     let made : Some (record { check = table_of.0; claims = name }) ≡ Some request = table_of.2 in
     let same : record { check = table_of.0; claims = name } ≡ request = cc in
-    subst (λ (r : ClaimsRequest). length r.check.analysis.code.parts ≤ 16) same (given_in_check_from given spec word entry table table_of.0 table_of.1).0
+    subst (λ (r : ClaimsRequest). length r.check.analysis.code.parts ≤ 16) same (few_in_check_from given spec word entry table table_of.0 table_of.1)
 few_in_claims given [] request is = absurd (cc)
 few_in_claims given (spec ∷ []) request is = absurd (cc)
 few_in_claims given (spec ∷ word ∷ []) request is = absurd (cc)
@@ -204,38 +198,18 @@ few_in_claims given (spec ∷ word ∷ entry ∷ []) request is = absurd (cc)
 few_in_claims given (spec ∷ word ∷ entry ∷ table ∷ []) request is = absurd (cc)
 few_in_claims given (spec ∷ word ∷ entry ∷ table ∷ name ∷ more ∷ rest) request is = absurd (cc)
 
--- ---- what a command takes
+-- ---- the request of a command
 
-both_true : (a b : Bool) → (a && b) ≡ true → (a ≡ true) × (b ≡ true)
-both_true true b e = (refl, e)
-both_true false b e = absurd (cc)
-
-last_true : (test : OptionName → Bool) (front : List OptionName) (last : OptionName) → list_all test (front ++ last ∷ []) ≡ true → test last ≡ true
-last_true test [] last e = (both_true (test last) true e).0
-last_true test (option ∷ front) last e = last_true test front last (both_true (test option) (list_all test (front ++ last ∷ [])) e).1
-
-not_given : (is : Bool) → (not is || false) ≡ true → is ≡ false
-not_given true e = absurd (cc)
-not_given false e = refl
-
--- `check` is not given `--open`
-closed_check : (given : Given) → takes_all c.Check given ≡ true → given.open ≡ false
-closed_check given takes =
-    not_given given.open (last_true (λ option. not (is_given given option) || takes_option c.Check option) (o.At ∷ o.Order ∷ o.Steps ∷ o.Calls ∷ o.Limit ∷ o.Base ∷ o.Widen ∷ []) o.Open takes)
-
-few_by : (command : CommandName) (given : Given) (request : Request) → takes_all command given ≡ true → request_of command given ≡ Some request → IsFew request
-few_by c.Call given request takes is = let m = mapped call (w.call_of given given.words) request is in subst IsFew m.2 tt
-few_by c.Emulate given request takes is = let m = mapped emulate (emulate_of given given.words) request is in subst IsFew m.2 (few_in_emulate given given.words m.0 m.1)
-few_by c.Analyse given request takes is = let m = mapped analyse (analyse_of given given.words) request is in subst IsFew m.2 (few_in_analyse given given.words m.0 m.1)
-few_by c.Check given request takes is =
-    let m = mapped check (check_of given given.words) request is in
-    let asks = given_in_check given given.words m.0 m.1 in
-    subst IsFew m.2 (asks.0, asks.1 ∙ closed_check given takes)
-few_by c.Convert given request takes is = let m = mapped convert (convert_of given given.words) request is in subst IsFew m.2 (few_in_convert given given.words m.0 m.1)
-few_by c.List given request takes is = let m = mapped list (list_of given given.words) request is in subst IsFew m.2 (few_in_list given given.words m.0 m.1)
-few_by c.Slice given request takes is = let m = mapped slice (slice_of given given.words) request is in subst IsFew m.2 (few_in_slice given given.words m.0 m.1)
-few_by c.Claims given request takes is = let m = mapped claims (claims_of given given.words) request is in subst IsFew m.2 (few_in_claims given given.words m.0 m.1)
-few_by c.Stress given request takes is = let m = mapped stress (w.stress_of given given.words) request is in subst IsFew m.2 tt
+few_by : (command : CommandName) (given : Given) (request : Request) → request_of command given ≡ Some request → IsFew request
+few_by c.Call given request is = let m = mapped call (w.call_of given given.words) request is in subst IsFew m.2 tt
+few_by c.Emulate given request is = let m = mapped emulate (emulate_of given given.words) request is in subst IsFew m.2 (few_in_emulate given given.words m.0 m.1)
+few_by c.Analyse given request is = let m = mapped analyse (analyse_of given given.words) request is in subst IsFew m.2 (few_in_analyse given given.words m.0 m.1)
+few_by c.Check given request is = let m = mapped check (check_of given given.words) request is in subst IsFew m.2 (few_in_check given given.words m.0 m.1)
+few_by c.Convert given request is = let m = mapped convert (convert_of given given.words) request is in subst IsFew m.2 (few_in_convert given given.words m.0 m.1)
+few_by c.List given request is = let m = mapped list (list_of given given.words) request is in subst IsFew m.2 (few_in_list given given.words m.0 m.1)
+few_by c.Slice given request is = let m = mapped slice (slice_of given given.words) request is in subst IsFew m.2 (few_in_slice given given.words m.0 m.1)
+few_by c.Claims given request is = let m = mapped claims (claims_of given given.words) request is in subst IsFew m.2 (few_in_claims given given.words m.0 m.1)
+few_by c.Stress given request is = let m = mapped stress (w.stress_of given given.words) request is in subst IsFew m.2 tt
 
 few_given : (given : Given) (request : Request) → asked_by given ≡ Some request → IsFew request
 unfolding asked_by
@@ -243,7 +217,7 @@ few_given given request is =
     let name = bound given.command (λ name. option_and_then (λ command. if takes_all command given then request_of command given else None) (command_named name)) request is in
     let command = bound (command_named name.0) (λ command. if takes_all command given then request_of command given else None) request name.2 in
     let found = guarded (takes_all command.0 given) (request_of command.0 given) request command.2 in
-    few_by command.0 given request found.0 found.1
+    few_by command.0 given request found.1
 
 -- what words ask for
 pub few_asked : (words : List (List ℕ)) (request : Request) → asked words ≡ Some request → IsFew request
@@ -276,7 +250,7 @@ pub few_analysed : (words : List (List ℕ)) (request : code-analyse.AnalyseRequ
 few_analysed words request is = few_of request.code.parts.items (few_asked words (analyse (view.analyse_of request)) is)
 
 pub few_checked : (words : List (List ℕ)) (request : code-check.CheckRequest) → asked words ≡ Some (check (view.check_of request)) → length request.analysis.code.parts.items ≤ 16
-few_checked words request is = few_of request.analysis.code.parts.items (few_asked words (check (view.check_of request)) is).0
+few_checked words request is = few_of request.analysis.code.parts.items (few_asked words (check (view.check_of request)) is)
 
 pub few_converted : (words : List (List ℕ)) (request : code-convert.ConvertRequest) → asked words ≡ Some (convert (view.convert_of request)) → length request.code.parts.items ≤ 16
 few_converted words request is = few_of request.code.parts.items (few_asked words (convert (view.convert_of request)) is)

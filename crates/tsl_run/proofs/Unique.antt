@@ -1,7 +1,7 @@
 -- What is owed has one status, and one text where it may have no other.
 use Rattle.std.proofs.Common.{◌≡◌, ℕ, inl, inr, Bool, List, Option, Some, None, IsTrue, refl, sym, ◌∙◌, ap, subst}
 use Rattle.std.specs.Prelude.{Ok, not}
-use Rattle.command_words.specs.Requests.{AnalyseRequest, CallRequest, ConvertRequest, Request, call, emulate, analyse, check, convert, list, slice, claims}
+use Rattle.command_words.specs.Requests.{AnalyseRequest, CallRequest, ConvertRequest, Request, call, emulate, analyse, check, convert, list, slice, claims, stress}
 use Rattle.command_words.specs.Words.{asked}
 use Rattle.command_words.specs.declared.bases.BaseName.{BaseName}
 use Rattle.spec_types.specs.Specification.{Spec}
@@ -19,6 +19,7 @@ use Rattle.run_steps.proofs.OneSource.{one_source, one_specified}
 use Rattle.run_steps.proofs.Steps.{IsOne, one}
 use Rattle.run_emulate.proofs.Single.{emulate_has_one, list_has_one}
 use Rattle.run_tables.specs.Laws.{AreOneAnalysis, AreOneConversion}
+use Rattle.run_stress.proofs.One.{stress_has_one}
 use Rattle.run_tables.proofs.One.{analyse_has_one, check_has_one, claims_has_one, convert_has_one, slice_has_one}
 use Rattle.tsl_run.specs.Laws.{OneAnswer, TellTheSame}
 use Rattle.tsl_run.specs.Steps.{CallSteps, Steps}
@@ -72,12 +73,12 @@ one_asked held None few found other p q = as_same held None found other (p ∙ s
 one_asked held (Some (call request)) few found other p q = as_same held (Some (call request)) found other (one_call held request found other p q)
 one_asked held (Some (emulate request)) few found other p q = as_same held (Some (emulate request)) found other (emulate_has_one held request found other p q)
 one_asked held (Some (analyse request)) few found other p q = of_analyses held request found other (analyse_has_one held request found other few p q)
-one_asked held (Some (check request)) few found other p q = as_same held (Some (check request)) found other (check_has_one held request found other few.0 p q)
+one_asked held (Some (check request)) few found other p q = as_same held (Some (check request)) found other (check_has_one held request found other few p q)
 one_asked held (Some (convert request)) few found other p q = of_conversions held request found other (convert_has_one held request found other few p q)
 one_asked held (Some (list request)) few found other p q = as_same held (Some (list request)) found other (list_has_one held request found other p q)
 one_asked held (Some (slice request)) few found other p q = as_same held (Some (slice request)) found other (slice_has_one held request found other few.0 p q)
 one_asked held (Some (claims request)) few found other p q = as_same held (Some (claims request)) found other (claims_has_one held request found other few p q)
-one_asked held (Some what) few found other p q = as_same held (Some what) found other (p ∙ sym q)
+one_asked held (Some (stress request)) few found other p q = as_same held (Some (stress request)) found other (stress_has_one request found other p q)
 
 pub one_answer : OneAnswer
 one_answer words held status other text line owes too =

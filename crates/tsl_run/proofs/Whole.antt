@@ -6,16 +6,17 @@ use Rattle.tsl_io.specs.Faults.{RoseByOne}
 use Rattle.tsl_io.specs.FileList.{is_held}
 use Rattle.tsl_io.specs.InputState.{InputState}
 use Rattle.tsl_io.specs.SinkState.{SinkState, Appends}
-use Rattle.command_words.specs.Requests.{AnalyseRequest, CheckRequest, ClaimsRequest, SliceRequest, analyse, check, claims, slice}
+use Rattle.command_words.specs.Requests.{AnalyseRequest, CheckRequest, ClaimsRequest, SliceRequest, StressRequest, analyse, check, claims, slice, stress}
 use Rattle.command_words.specs.Words.{asked}
 use Rattle.analysis_domains.specs.Checks.{accepted_line}
 use Rattle.run_steps.specs.declared.status.Status.{Status}
 use Rattle.run_steps.specs.declared.status.Status.TheVariants as s
+use Rattle.run_stress.specs.Laws.{IsStress}
 use Rattle.tsl_run.specs.Output.{Ends}
 use Rattle.run_steps.specs.Reading.{Held}
 use Rattle.tsl_run.specs.Follows.{Follows}
 use Rattle.tsl_run.specs.Owed.{Owes, OwesAlone, OwesLonger}
-use Rattle.tsl_run.specs.Tables.{AreClaimsFor, IsAcceptedFor, IsOpenTableFor, IsSliceFor, IsTableFor}
+use Rattle.tsl_run.specs.Tables.{AreClaimsFor, AreOpenClaimsFor, IsAcceptedFor, IsOpenAcceptedFor, IsOpenSliceFor, IsOpenTableFor, IsSliceFor, IsTableFor}
 use Rattle.tsl_run.specs.Words.{input_names}
 use Rattle.tsl_run.proofs.Ending.{ends_follow}
 use Rattle.tsl_run.proofs.Exact.{exact_answers}
@@ -78,19 +79,38 @@ module _ (words : List (List ℕ)) (old new : InputState) (sink_old sink_new : S
         subst (λ (h : Held). IsOpenTableFor h request copy) holds (subst (λ (text : List ℕ). IsOpenTableFor old.held request text) (sym (all_of found.0 found.2)) found.1)
 
     -- and what says that a table is accepted
-    pub acceptances : (request : CheckRequest) → asked words ≡ Some (check request) → result ≡ s.Ok → IsAcceptedFor held request × (copy ≡ accepted_line)
-    acceptances request asks ok =
-        let found = follows.accepted told request asks ok in
+    pub acceptances : (request : CheckRequest) → asked words ≡ Some (check request) → request.analysis.open ≡ false → result ≡ s.Ok → IsAcceptedFor held request × (copy ≡ accepted_line)
+    acceptances request asks closed ok =
+        let found = follows.accepted told request asks closed ok in
         (subst (λ (h : Held). IsAcceptedFor h request) holds found.0, all_of accepted_line found.1)
 
+    pub open_acceptances : (request : CheckRequest) → asked words ≡ Some (check request) → request.analysis.open ≡ true → result ≡ s.Ok → IsOpenAcceptedFor held request × (copy ≡ accepted_line)
+    open_acceptances request asks left_open ok =
+        let found = follows.accepted_open told request asks left_open ok in
+        (subst (λ (h : Held). IsOpenAcceptedFor h request) holds found.0, all_of accepted_line found.1)
+
     -- the slice is the copy
-    pub slices : (request : SliceRequest) → asked words ≡ Some (slice request) → result ≡ s.Ok → IsSliceFor held request copy
-    slices request asks ok =
-        let found = follows.sliced told request asks ok in
+    pub slices : (request : SliceRequest) → asked words ≡ Some (slice request) → request.check.analysis.open ≡ false → result ≡ s.Ok → IsSliceFor held request copy
+    slices request asks closed ok =
+        let found = follows.sliced told request asks closed ok in
         subst (λ (h : Held). IsSliceFor h request copy) holds (subst (λ (text : List ℕ). IsSliceFor old.held request text) (sym (all_of found.0 found.2)) found.1)
 
+    pub open_slices : (request : SliceRequest) → asked words ≡ Some (slice request) → request.check.analysis.open ≡ true → result ≡ s.Ok → IsOpenSliceFor held request copy
+    open_slices request asks left_open ok =
+        let found = follows.sliced_open told request asks left_open ok in
+        subst (λ (h : Held). IsOpenSliceFor h request copy) holds (subst (λ (text : List ℕ). IsOpenSliceFor old.held request text) (sym (all_of found.0 found.2)) found.1)
+
     -- and the answers to claims
-    pub answers : (request : ClaimsRequest) → asked words ≡ Some (claims request) → result ≡ s.Ok → AreClaimsFor held request copy
-    answers request asks ok =
-        let found = follows.claimed told request asks ok in
+    pub answers : (request : ClaimsRequest) → asked words ≡ Some (claims request) → request.check.analysis.open ≡ false → result ≡ s.Ok → AreClaimsFor held request copy
+    answers request asks closed ok =
+        let found = follows.claimed told request asks closed ok in
         subst (λ (h : Held). AreClaimsFor h request copy) holds (subst (λ (text : List ℕ). AreClaimsFor old.held request text) (sym (all_of found.0 found.2)) found.1)
+
+    pub open_answers : (request : ClaimsRequest) → asked words ≡ Some (claims request) → request.check.analysis.open ≡ true → result ≡ s.Ok → AreOpenClaimsFor held request copy
+    open_answers request asks left_open ok =
+        let found = follows.claimed_open told request asks left_open ok in
+        subst (λ (h : Held). AreOpenClaimsFor h request copy) holds (subst (λ (text : List ℕ). AreOpenClaimsFor old.held request text) (sym (all_of found.0 found.2)) found.1)
+
+    -- and the summary
+    pub summaries : (request : StressRequest) → asked words ≡ Some (stress request) → result ≡ s.Ok → IsStress request copy
+    summaries request asks ok = let found = follows.stressed request asks ok in subst (λ (text : List ℕ). IsStress request text) (sym (all_of found.0 found.2)) found.1

@@ -7,15 +7,16 @@ use Rattle.tsl_io.specs.SinkState.{SinkState, Appends, AppendsFront}
 use Rattle.run_steps.specs.declared.status.Status.{Status}
 use Rattle.run_steps.specs.declared.status.Status.TheVariants as s
 use Rattle.analysis_domains.specs.Checks.{accepted_line}
-use Rattle.run_steps.specs.Lines.{bad_words_line, cannot_read_line, not_built_line}
+use Rattle.run_steps.specs.Lines.{bad_words_line, cannot_read_line}
 use Rattle.run_steps.specs.Reading.{CouldNotRead}
+use Rattle.run_stress.specs.Laws.{IsStress}
 use Rattle.tsl_run.specs.Owed.{Owes}
 use Rattle.tsl_run.specs.Possible.{IsLineOf}
 use Rattle.run_steps.specs.Statuses.{IsAnswer}
-use Rattle.command_words.specs.Requests.{AnalyseRequest, CheckRequest, ClaimsRequest, SliceRequest, analyse, check, claims, slice}
+use Rattle.command_words.specs.Requests.{AnalyseRequest, CheckRequest, ClaimsRequest, SliceRequest, StressRequest, analyse, check, claims, slice, stress}
 use Rattle.command_words.specs.Words.{asked}
-use Rattle.tsl_run.specs.Tables.{AreClaimsFor, IsAcceptedFor, IsOpenTableFor, IsSliceFor, IsTableFor}
-use Rattle.tsl_run.specs.Words.{input_names, IsUnbuilt}
+use Rattle.tsl_run.specs.Tables.{AreClaimsFor, AreOpenClaimsFor, IsAcceptedFor, IsOpenAcceptedFor, IsOpenSliceFor, IsOpenTableFor, IsSliceFor, IsTableFor}
+use Rattle.tsl_run.specs.Words.{input_names}
 
 -- An input of the words could not be read, as the text says.
 pub record Unread (words : List (List ℕ)) (old new : InputState) (text : List ℕ) : Type 0 where
@@ -68,20 +69,33 @@ module _ (words : List (List ℕ)) (old new : InputState) (sink_old sink_new : S
     -- the first state at an address that is open, in the same sense. (specs/Tables names the definition of this, `IsTrueUntilOpen`.)
     pub open_table : IsTrue old.tells → (request : AnalyseRequest) → asked words ≡ Some (analyse request) → request.open ≡ true → result ≡ s.Ok
         → (text : List ℕ) × IsOpenTableFor old.held request text × Appends sink_old sink_new text
-    -- Over inputs that tell: a check that ends well was of a table that is true of every run of the machine, in the same sense, and says so.
-    pub accepted : IsTrue old.tells → (request : CheckRequest) → asked words ≡ Some (check request) → result ≡ s.Ok
+    -- Over inputs that tell: a check whose table may not be left open, and that ends well, was of a table that is true of every run of the machine, in the same
+    -- sense, and says so.
+    pub accepted : IsTrue old.tells → (request : CheckRequest) → asked words ≡ Some (check request) → request.analysis.open ≡ false → result ≡ s.Ok
         → IsAcceptedFor old.held request × Appends sink_old sink_new accepted_line
-    -- Over inputs that tell: a slice that ends well was of a table that is true of every run, and holds every chain of every read that it is of: what
-    -- it leaves out no chain reaches. (specs/Tables)
-    pub sliced : IsTrue old.tells → (request : SliceRequest) → asked words ≡ Some (slice request) → result ≡ s.Ok
+    -- Over inputs that tell: a check whose table may be left open, and that ends well, was of a table that is true of every run of the machine up to and with
+    -- the first state at an address that is open, and says that it is accepted. (specs/Tables)
+    pub accepted_open : IsTrue old.tells → (request : CheckRequest) → asked words ≡ Some (check request) → request.analysis.open ≡ true → result ≡ s.Ok
+        → IsOpenAcceptedFor old.held request × Appends sink_old sink_new accepted_line
+    -- Over inputs that tell: a slice whose table may not be left open, and that ends well, was of a table that is true of every run, and holds every chain of
+    -- every read that it is of: what it leaves out no chain reaches. (specs/Tables)
+    pub sliced : IsTrue old.tells → (request : SliceRequest) → asked words ≡ Some (slice request) → request.check.analysis.open ≡ false → result ≡ s.Ok
         → (text : List ℕ) × IsSliceFor old.held request text × Appends sink_old sink_new text
-    -- Over inputs that tell: claims that end well were on a table that is true of every run, and each that is answered with yes is true of every
-    -- state that a run has at its address. (specs/Tables)
-    pub claimed : IsTrue old.tells → (request : ClaimsRequest) → asked words ≡ Some (claims request) → result ≡ s.Ok
+    -- Over inputs that tell: one whose table may be left open, and that ends well, holds every such chain until a run is at an address that is open. (specs/Tables)
+    pub sliced_open : IsTrue old.tells → (request : SliceRequest) → asked words ≡ Some (slice request) → request.check.analysis.open ≡ true → result ≡ s.Ok
+        → (text : List ℕ) × IsOpenSliceFor old.held request text × Appends sink_old sink_new text
+    -- Over inputs that tell: claims that end well, on a table that may not be left open, were on one that is true of every run, and each that is answered with
+    -- yes is true of every state that a run has at its address. (specs/Tables)
+    pub claimed : IsTrue old.tells → (request : ClaimsRequest) → asked words ≡ Some (claims request) → request.check.analysis.open ≡ false → result ≡ s.Ok
         → (text : List ℕ) × AreClaimsFor old.held request text × Appends sink_old sink_new text
-    -- Words that ask for nothing, or for what is not built, are refused.
+    -- Over inputs that tell: where the table may be left open, each is true of every such state until the run is at an address that is open. (specs/Tables)
+    pub claimed_open : IsTrue old.tells → (request : ClaimsRequest) → asked words ≡ Some (claims request) → request.check.analysis.open ≡ true → result ≡ s.Ok
+        → (text : List ℕ) × AreOpenClaimsFor old.held request text × Appends sink_old sink_new text
+    -- Over all inputs: a stress that ends well has written what its analysis and its run come to. Its table is true of every run of the code that was made, and a
+    -- check accepts it. (run_stress specs/Laws)
+    pub stressed : (request : StressRequest) → asked words ≡ Some (stress request) → result ≡ s.Ok → (text : List ℕ) × IsStress request text × Appends sink_old sink_new text
+    -- Words that ask for nothing are refused.
     pub bad_words : asked words ≡ None → EndsWith s.BadWords bad_words_line
-    pub not_built : IsUnbuilt (asked words) → EndsWith s.NotBuilt not_built_line
     -- A fault of an input has its cause in this run, at a name that is not sure, and is written.
     pub read_fault : result ≡ s.ReadFault → (text : List ℕ) × Unread words old new text × Appends sink_old sink_new text
     -- Over inputs that tell: a fault of the sink comes only where the text that is due has no room, and a front of it is written.

@@ -1,29 +1,36 @@
 -- The outcomes that words may have, whatever the inputs hold.
-use Rattle.std.specs.Prelude.{◌≡◌, ℕ, List, Option, Some, None, Ok, Err, Contains, IsTrue}
-use Rattle.command_words.specs.Requests.{AnalyseRequest, CallRequest, CheckRequest, ClaimsRequest, ConvertRequest, EmulateRequest, Request, SliceRequest, call, emulate, analyse, check, convert, list, slice, claims}
+use Rattle.std.specs.Prelude.{◌≡◌, ◌≢◌, ℕ, List, Option, Some, None, Ok, Err, Contains, IsTrue}
+use Rattle.command_words.specs.Requests.{AnalyseRequest, CallRequest, CheckRequest, ClaimsRequest, ConvertRequest, EmulateRequest, Request, SliceRequest, StressRequest, call, emulate, analyse, check, convert, list, slice, claims, stress}
 use Rattle.command_words.specs.Words.{asked}
 use Rattle.claim_faults.specs.declared.claim_error.ClaimError.{ClaimError}
 use Rattle.function_calls.specs.Calls as calls
 use Rattle.function_calls.specs.Calls.{call_end, value_line}
 use Rattle.function_calls.specs.Laws.{IsWritten}
 use Rattle.insn_decode.specs.declared.image_error.ImageError.{ImageError}
+use Rattle.insn_decode.specs.declared.image_error.ImageError.TheVariants as imaging
 use Rattle.insn_decode.specs.Image.{Image}
 use Rattle.insn_decode.specs.Listing.{listing}
+use Rattle.spec_types.specs.declared.spec_error.SpecError.TheVariants as checker
 use Rattle.spec_types.specs.Specification.{Spec}
 use Rattle.state_text.specs.declared.entry_error.EntryError.{EntryError}
+use Rattle.state_text.specs.declared.entry_error.EntryError.TheVariants as entering
+use Rattle.tsl_lexer.specs.declared.lex_error.LexError.TheVariants as lexer
+use Rattle.tsl_parser.specs.declared.ParseError.TheVariants as parser
 use Rattle.tsl_values.specs.States.{State}
 use Rattle.tsl_values.specs.Values.{Val}
 use Rattle.table_faults.specs.declared.table_error.TableError.{TableError}
 use Rattle.run_steps.specs.declared.rejection.Rejection.{Rejection}
 use Rattle.run_steps.specs.declared.spec_fault.SpecFault.{SpecFault}
+use Rattle.run_steps.specs.declared.spec_fault.SpecFault.TheVariants.{Checking, Lexing, Parsing}
 use Rattle.run_steps.specs.declared.status.Status.{Status}
 use Rattle.run_steps.specs.Outcome as o
 use Rattle.run_steps.specs.Outcome.{Answer, Outcome, line_of, status_of, text}
 use Rattle.run_emulate.specs.Running.{IsRunOf}
 use Rattle.run_tables.specs.Steps.{AnalysisOf, CheckOf, ClaimsOf, ConversionOf, SliceOf}
+use Rattle.run_stress.specs.Steps.{StressSteps}
 use Rattle.slice_text.specs.Asked as cells
 use Rattle.table_inputs.specs.Inputs.{Coded, Posed, Sought}
-use Rattle.tsl_run.specs.Words.{IsUnbuilt, has_code, has_entry, names_in}
+use Rattle.tsl_run.specs.Words.{has_code, has_entry, names_in}
 
 -- The answer is the line of a value.
 pub record IsValue (answer : Answer) : Type 0 where
@@ -85,9 +92,9 @@ Answers (Some (convert request)) answer = IsConverted request (Ok answer)
 Answers (Some (list request)) answer = IsListing answer
 Answers (Some (slice request)) answer = IsSliced request (Ok answer)
 Answers (Some (claims request)) answer = AreClaimed request (Ok answer)
-Answers (Some _) answer = ⊥
+Answers (Some (stress request)) answer = StressSteps request (Ok answer)
 
--- Work on a table is asked for, and may come to this.
+-- Work on a table is asked for, or a stress, and may come to this.
 abbrev pub MayComeTo : Option Request → Outcome → Type 0
 MayComeTo None outcome = ⊥
 MayComeTo (Some (analyse request)) outcome = IsAnalysed request outcome
@@ -95,6 +102,7 @@ MayComeTo (Some (check request)) outcome = IsChecked request outcome
 MayComeTo (Some (convert request)) outcome = IsConverted request outcome
 MayComeTo (Some (slice request)) outcome = IsSliced request outcome
 MayComeTo (Some (claims request)) outcome = AreClaimed request outcome
+MayComeTo (Some (stress request)) outcome = StressSteps request outcome
 MayComeTo (Some _) outcome = ⊥
 
 -- A function of a specification does not take the numbers of a call.
@@ -112,16 +120,21 @@ MayBeBad (Some (call request)) = TakesNoSuch request
 MayBeBad (Some (slice request)) = HasNoSuch request
 MayBeBad (Some _) = ⊥
 
--- an outcome of what is asked for
+-- The fault is one of a source: its line is not empty, as that of want of memory is.
+abbrev pub IsOfSource : SpecFault → Type 0
+IsOfSource (Lexing error) = error ≢ lexer.NoMemory
+IsOfSource (Parsing error) = error ≢ parser.NoMemory
+IsOfSource (Checking error) = error ≢ checker.NoMemory
+
+-- An outcome of what is asked for. Want of memory is none: a fault of a specification, of code or of an entry is one that has a line.
 pub data IsPossible (what : Option Request) : Outcome → Type 0 where
   answered : {answer : Answer} → Answers what answer → IsPossible what (Ok answer)
   bad_words : MayBeBad what → IsPossible what (Err o.bad_words)
-  not_built : IsUnbuilt what → IsPossible what (Err o.not_built)
   cannot_read : {name : List ℕ} → Contains (names_in what) name → IsPossible what (Err (o.cannot_read name))
   too_long : {name : List ℕ} → Contains (names_in what) name → IsPossible what (Err (o.too_long name))
-  spec_refused : {fault : SpecFault} → IsPossible what (Err (o.spec_refused fault))
-  code_refused : {fault : ImageError} → IsTrue (has_code what) → IsPossible what (Err (o.code_refused fault))
-  entry_refused : {fault : EntryError} → IsTrue (has_entry what) → IsPossible what (Err (o.entry_refused fault))
+  spec_refused : {fault : SpecFault} → IsOfSource fault → IsPossible what (Err (o.spec_refused fault))
+  code_refused : {fault : ImageError} → IsTrue (has_code what) → fault ≢ imaging.NoMemory → IsPossible what (Err (o.code_refused fault))
+  entry_refused : {fault : EntryError} → IsTrue (has_entry what) → fault ≢ entering.NoMemory → IsPossible what (Err (o.entry_refused fault))
   calls_spent : IsPossible what (Err o.calls_spent)
   undecodable_at : {at word : ℕ} → MayComeTo what (Err (o.undecodable_at at word)) → IsPossible what (Err (o.undecodable_at at word))
   too_many_targets : {at : ℕ} {shown : List ℕ} → MayComeTo what (Err (o.too_many_targets at shown)) → IsPossible what (Err (o.too_many_targets at shown))

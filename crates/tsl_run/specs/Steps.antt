@@ -1,14 +1,15 @@
 -- The steps of a run, one after another.
 use Rattle.std.specs.Prelude.{◌≡◌, Option, Some, None, Ok, Err}
-use Rattle.command_words.specs.Requests.{CallRequest, Request, call, emulate, analyse, check, convert, list, slice, claims}
+use Rattle.command_words.specs.Requests.{CallRequest, Request, call, emulate, analyse, check, convert, list, slice, claims, stress}
 use Rattle.spec_types.specs.declared.spec.Use.TheVariants.{Library}
 use Rattle.function_calls.specs.Calls as calls
 use Rattle.function_calls.specs.Calls.{End, call_end, value, value_line, spent}
-use Rattle.run_steps.specs.Outcome.{Outcome, bad_words, calls_spent, not_built, text}
+use Rattle.run_steps.specs.Outcome.{Outcome, bad_words, calls_spent, text}
 use Rattle.run_steps.specs.Reading.{Reading}
 use Rattle.run_steps.specs.Sources.{SourceOf, Specifies}
 use Rattle.run_steps.specs.Steps.{Then}
 use Rattle.run_emulate.specs.Steps.{EmulateSteps, ListSteps}
+use Rattle.run_stress.specs.Steps.{StressSteps}
 use Rattle.run_tables.specs.Steps.{AnalyseSteps, CheckSteps, ClaimsSteps, ConvertSteps, SliceSteps}
 
 -- what is answered for the end of a call
@@ -35,4 +36,4 @@ Steps reads (Some (convert request)) outcome = ConvertSteps reads request outcom
 Steps reads (Some (list request)) outcome = ListSteps reads request outcome
 Steps reads (Some (slice request)) outcome = SliceSteps reads request outcome
 Steps reads (Some (claims request)) outcome = ClaimsSteps reads request outcome
-Steps reads (Some _) outcome = outcome ≡ Err not_built
+Steps reads (Some (stress request)) outcome = StressSteps request outcome

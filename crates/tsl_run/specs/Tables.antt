@@ -2,7 +2,7 @@
 use Rattle.std.specs.Prelude.{◌≡◌, ℕ, List, Some, Ok}
 use Rattle.command_words.specs.Requests.{AnalyseRequest, CheckRequest, ClaimsRequest, SliceRequest}
 use Rattle.run_steps.specs.Reading.{Held, Holds}
-use Rattle.run_tables.specs.Steps.{AcceptedBy, ClaimedBy, OpenTabledBy, SlicedBy, TabledBy}
+use Rattle.run_tables.specs.Steps.{AcceptedBy, ClaimedBy, OpenAcceptedBy, OpenClaimedBy, OpenSlicedBy, OpenTabledBy, SlicedBy, TabledBy}
 use Rattle.table_inputs.specs.Inputs.{Posed, PosedOf, Sought, SoughtOf}
 
 -- The bytes are the text of the table of an analysis: of the machine, the code and the entry that the names of a request hold.
@@ -37,6 +37,19 @@ pub record IsAcceptedFor (held : Held) (request : CheckRequest) : Type 0 where
   pub is_held : held request.table ≡ Some bytes
   pub accepted : AcceptedBy request.analysis posed bytes
 
+-- The table of a request, which may be left open, holds the text of a table that is accepted so for the machine, the code and the entry that the other names
+-- hold.
+--
+-- So that table is closed but at its open addresses, and true of every run of that machine up to and with the first state at one of them, just as a table
+-- of an analysis that is left open is: this is `is_true` of `IsOpenAccepted` (analysis_domains specs/OpenChecks), to which `accepted` comes. A table of
+-- which no address is open is true of every run.
+pub record IsOpenAcceptedFor (held : Held) (request : CheckRequest) : Type 0 where
+  pub posed : Posed
+  pub bytes : List ℕ
+  pub is_posed : PosedOf (Holds held) request.analysis.spec request.analysis.code request.analysis.entry (Ok posed)
+  pub is_held : held request.table ≡ Some bytes
+  pub accepted : OpenAcceptedBy request.analysis posed bytes
+
 -- The text is that of the slice of a table that is accepted: of the table that a request names, for the machine, the code and the entry that the other
 -- names hold, and for the reads of the cell by the instruction at the address that the words give.
 --
@@ -49,6 +62,19 @@ pub record IsSliceFor (held : Held) (request : SliceRequest) (text : List ℕ) :
   pub is_sought : SoughtOf (Holds held) request.check.analysis.spec request.cell request.check.analysis.code request.check.analysis.entry (Ok sought)
   pub is_held : held request.check.table ≡ Some bytes
   pub sliced : SlicedBy request.check.analysis sought request.address bytes text
+
+-- The text is that of the slice of a table, which may be left open and is accepted so: of the table that a request names, for the machine, the code and the
+-- entry that the other names hold, and for the reads of the cell by the instruction at the address that the words give.
+--
+-- So it holds every chain of every such read whose step no state at an open address comes before, in every run of that machine, on that code, from every
+-- state that the entry describes; its first line is `until open` exactly where some address is open. This is `chains` of `HoldsOpenChains`
+-- (analysis_domains specs/OpenSlices), to which `sliced` comes.
+pub record IsOpenSliceFor (held : Held) (request : SliceRequest) (text : List ℕ) : Type 0 where
+  pub sought : Sought
+  pub bytes : List ℕ
+  pub is_sought : SoughtOf (Holds held) request.check.analysis.spec request.cell request.check.analysis.code request.check.analysis.entry (Ok sought)
+  pub is_held : held request.check.table ≡ Some bytes
+  pub sliced : OpenSlicedBy request.check.analysis sought request.address bytes text
 
 -- The text has a line, yes or open, for each claim that a request names, on a table that is accepted: the one that it names, for the machine, the code and
 -- the entry that the other names hold.
@@ -63,3 +89,18 @@ pub record AreClaimsFor (held : Held) (request : ClaimsRequest) (text : List ℕ
   pub is_held : held request.check.table ≡ Some table_bytes
   pub are_held : held request.claims ≡ Some claims_bytes
   pub claimed : ClaimedBy request.check.analysis posed table_bytes claims_bytes text
+
+-- The text has a line, yes or open, for each claim that a request names, on a table that may be left open and is accepted so: the one that it names, for the
+-- machine, the code and the entry that the other names hold.
+--
+-- So each claim whose line is yes is true of every state that a run of that machine, on that code, has at its address as long as no state before is at an open
+-- address, from every state that the entry describes; the first line is `until open` exactly where some address is open. This is `hold` of
+-- `HoldsOpenClaims` (analysis_domains specs/OpenClaims), to which `claimed` comes.
+pub record AreOpenClaimsFor (held : Held) (request : ClaimsRequest) (text : List ℕ) : Type 0 where
+  pub posed : Posed
+  pub table_bytes : List ℕ
+  pub claims_bytes : List ℕ
+  pub is_posed : PosedOf (Holds held) request.check.analysis.spec request.check.analysis.code request.check.analysis.entry (Ok posed)
+  pub is_held : held request.check.table ≡ Some table_bytes
+  pub are_held : held request.claims ≡ Some claims_bytes
+  pub claimed : OpenClaimedBy request.check.analysis posed table_bytes claims_bytes text

@@ -1,6 +1,6 @@
 -- What the words ask for of this program, and the inputs that they name.
-use Rattle.std.specs.Prelude.{◌≡◌, ℕ, Bool, true, false, not, List, [], map, Option, Some, None}
-use Rattle.command_words.specs.Requests.{Request, call, emulate, analyse, check, convert, list, slice, claims}
+use Rattle.std.specs.Prelude.{ℕ, Bool, true, false, not, List, [], map, Option, Some, None}
+use Rattle.command_words.specs.Requests.{Request, call, emulate, analyse, check, convert, list, slice, claims, stress}
 use Rattle.command_words.specs.Words.{asked}
 use Rattle.analysis_domains.specs.Named.{has_relations}
 use Rattle.run_steps.specs.declared.status.Status.{Status}
@@ -9,23 +9,6 @@ use Rattle.run_steps.specs.Reading.{Capped}
 use Rattle.run_steps.specs.Sources.{source_inputs}
 use Rattle.run_emulate.specs.Steps.{emulate_inputs, list_inputs}
 use Rattle.run_tables.specs.Steps.{analyse_inputs, check_inputs, claims_inputs, convert_inputs, slice_inputs}
-
--- what is asked for is built
-abbrev pub is_built : Request → Bool
-is_built (call request) = true
-is_built (emulate request) = true
-is_built (analyse request) = true
-is_built (check request) = true
-is_built (convert request) = true
-is_built (list request) = true
-is_built (slice request) = true
-is_built (claims request) = true
-is_built _ = false
-
--- Words ask for something that is not built.
-abbrev pub IsUnbuilt : Option Request → Type 0
-IsUnbuilt None = ⊥
-IsUnbuilt (Some request) = is_built request ≡ false
 
 -- the inputs of what is asked for, and how many bytes each may have
 abbrev pub capped_in : Option Request → List Capped
@@ -38,7 +21,7 @@ capped_in (Some (convert request)) = convert_inputs request
 capped_in (Some (list request)) = list_inputs request
 capped_in (Some (slice request)) = slice_inputs request
 capped_in (Some (claims request)) = claims_inputs request
-capped_in (Some _) = []
+capped_in (Some (stress request)) = []
 
 -- their names
 abbrev pub names_of : List Capped → List (List ℕ)
@@ -53,7 +36,7 @@ capped_inputs words = capped_in (asked words)
 abbrev pub input_names : List (List ℕ) → List (List ℕ)
 input_names words = names_in (asked words)
 
--- code is read for it
+-- code is read or made for it
 abbrev pub has_code : Option Request → Bool
 has_code None = false
 has_code (Some (emulate request)) = true
@@ -63,6 +46,7 @@ has_code (Some (convert request)) = true
 has_code (Some (list request)) = true
 has_code (Some (slice request)) = true
 has_code (Some (claims request)) = true
+has_code (Some (stress request)) = true
 has_code (Some _) = false
 
 -- and an entry
@@ -73,6 +57,7 @@ has_entry (Some (analyse request)) = true
 has_entry (Some (check request)) = true
 has_entry (Some (slice request)) = true
 has_entry (Some (claims request)) = true
+has_entry (Some (stress request)) = true
 has_entry (Some _) = false
 
 -- One text at most is owed with this status: it is not a table over relations, which has several.

@@ -13,13 +13,14 @@ ghost use Rattle.tsl_run.specs.Owed.{ComesTo};
 ghost use Rattle.tsl_run.specs.Steps.{answered, CallSteps};
 ghost use Rattle.command_words.specs.Views.{call_of, texts};
 ghost use Rattle.command_words.specs.Words.{asked};
-ghost use Rattle.tsl_run.specs.Words.{IsUnbuilt, capped_inputs};
+ghost use Rattle.tsl_run.specs.Words.{capped_inputs};
 ghost use Rattle.tsl_run.specs.Work.{RunWork};
 
 use command_words::{CallRequest, Request, read_words};
 use function_calls::{CallEnd, call_by_words, value_line};
 use run_emulate::{emulated, listed};
 use run_steps::{Answer, Halt, Outcome, Refusal, source_of, specified};
+use run_stress::stressed;
 use run_tables::{analysed, checked, claimed, converted, sliced};
 use std::alloc::{AllocError, Global};
 use std::sync::ledger::Ledger;
@@ -43,7 +44,6 @@ pub fn come_to<'a, I: Inputs, L: Ledger>(
         ⊎ (IsTrue (I.state inputs.new).is_open
         → IsTakenFrom (capped_inputs (texts words.now)) (I.state inputs.old) (I.state inputs.new)) }
     ensures bad_words { asked (texts words.now) ≡ None → inputs.new ≡ inputs.old }
-    ensures not_built { IsUnbuilt (asked (texts words.now)) → inputs.new ≡ inputs.old }
     ensures work { RunWork (Gave (I.state inputs.old) (I.state inputs.new)) (asked (texts words.now)) steps.old steps.new }
 {
     match answer::<I, L>(alloc, words, inputs, steps) {
@@ -68,9 +68,8 @@ fn answer<'a, I: Inputs, L: Ledger>(
         ⊎ (IsTrue (I.state inputs.new).is_open
         → IsTakenFrom (capped_inputs (texts words.now)) (I.state inputs.old) (I.state inputs.new)) }
 
-    // Words that ask for nothing, or for what is not built, are refused before any input is opened.
+    // Words that ask for nothing are refused before any input is opened.
     ensures bad_words { asked (texts words.now) ≡ None → inputs.new ≡ inputs.old }
-    ensures not_built { IsUnbuilt (asked (texts words.now)) → inputs.new ≡ inputs.old }
     ensures work { RunWork (Gave (I.state inputs.old) (I.state inputs.new)) (asked (texts words.now)) steps.old steps.new }
 {
     match read_words(alloc, words)? {
@@ -82,7 +81,7 @@ fn answer<'a, I: Inputs, L: Ledger>(
         Request::List(request) => listed(alloc, inputs, &request),
         Request::Slice(request) => sliced::<I, L>(alloc, inputs, &request, steps),
         Request::Claims(request) => claimed::<I, L>(alloc, inputs, &request, steps),
-        Request::Stress(_) => Err(Halt::Refused(Refusal::NotBuilt)),
+        Request::Stress(request) => stressed::<L>(alloc, request, steps),
     }
 }
 

@@ -5,11 +5,12 @@ ghost use Rattle.tsl_io.specs.FileList.{first_file};
 ghost use Rattle.run_steps.specs.declared.status.Status.{Status};
 ghost use Rattle.run_steps.specs.declared.status.Status.TheVariants as Statuses;
 ghost use Rattle.analysis_domains.specs.Checks.{accepted_line};
-ghost use Rattle.command_words.specs.Requests.{AnalyseRequest, CheckRequest, ClaimsRequest, SliceRequest, analyse, check, claims, slice};
+ghost use Rattle.command_words.specs.Requests.{AnalyseRequest, CheckRequest, ClaimsRequest, SliceRequest, StressRequest, analyse, check, claims, slice, stress};
 ghost use Rattle.command_words.specs.Views.{texts};
 ghost use Rattle.command_words.specs.Words.{asked};
+ghost use Rattle.run_stress.specs.Laws.{IsStress};
 ghost use Rattle.tsl_run.specs.Owed.{Owes, OwesAlone, OwesLonger};
-ghost use Rattle.tsl_run.specs.Tables.{AreClaimsFor, IsAcceptedFor, IsOpenTableFor, IsSliceFor, IsTableFor};
+ghost use Rattle.tsl_run.specs.Tables.{AreClaimsFor, AreOpenClaimsFor, IsAcceptedFor, IsOpenAcceptedFor, IsOpenSliceFor, IsOpenTableFor, IsSliceFor, IsTableFor};
 
 use crate::uncounted::run_uncounted;
 use run_steps::Status;
@@ -51,20 +52,40 @@ pub fn run_in_memory(
         → IfOk result (λ ended. ended.status ≡ Statuses.Ok
         → IsOpenTableFor (first_file files.items) request ended.text.items) }
 
-    // Where a check ends well, the table that it was asked for is true of every run of the machine, and the text says that it is accepted.
-    ensures accepted { (request : CheckRequest) → asked (texts words.now) ≡ Some (check request)
+    // Where a check ends well, of a table that may not be left open, the table that it was asked for is true of every run of the machine, and the text says that
+    // it is accepted.
+    ensures accepted { (request : CheckRequest) → asked (texts words.now) ≡ Some (check request) → request.analysis.open ≡ false
         → IfOk result (λ ended. ended.status ≡ Statuses.Ok
         → IsAcceptedFor (first_file files.items) request × (ended.text.items ≡ accepted_line)) }
 
-    // Where a slice ends well, its text is that of a slice which holds every chain of every read that it is of.
-    ensures sliced { (request : SliceRequest) → asked (texts words.now) ≡ Some (slice request)
+    // Where it may be left open, it is true of every run up to and with the first state at an open address.
+    ensures accepted_open { (request : CheckRequest) → asked (texts words.now) ≡ Some (check request) → request.analysis.open ≡ true
+        → IfOk result (λ ended. ended.status ≡ Statuses.Ok
+        → IsOpenAcceptedFor (first_file files.items) request × (ended.text.items ≡ accepted_line)) }
+
+    // Where a slice ends well, of a table that may not be left open, its text is that of a slice which holds every chain of every read that it is of.
+    ensures sliced { (request : SliceRequest) → asked (texts words.now) ≡ Some (slice request) → request.check.analysis.open ≡ false
         → IfOk result (λ ended. ended.status ≡ Statuses.Ok
         → IsSliceFor (first_file files.items) request ended.text.items) }
 
-    // Where claims end well, each that the text answers with yes is true of every state that a run has at its address.
-    ensures claimed { (request : ClaimsRequest) → asked (texts words.now) ≡ Some (claims request)
+    // Where the table may be left open, it holds each until a run is at an open address.
+    ensures sliced_open { (request : SliceRequest) → asked (texts words.now) ≡ Some (slice request) → request.check.analysis.open ≡ true
+        → IfOk result (λ ended. ended.status ≡ Statuses.Ok
+        → IsOpenSliceFor (first_file files.items) request ended.text.items) }
+
+    // Where claims end well, on a table that may not be left open, each that the text answers with yes is true of every state that a run has at its address.
+    ensures claimed { (request : ClaimsRequest) → asked (texts words.now) ≡ Some (claims request) → request.check.analysis.open ≡ false
         → IfOk result (λ ended. ended.status ≡ Statuses.Ok
         → AreClaimsFor (first_file files.items) request ended.text.items) }
+
+    // Where the table may be left open, each is true of every such state until the run is at an open address.
+    ensures claimed_open { (request : ClaimsRequest) → asked (texts words.now) ≡ Some (claims request) → request.check.analysis.open ≡ true
+        → IfOk result (λ ended. ended.status ≡ Statuses.Ok
+        → AreOpenClaimsFor (first_file files.items) request ended.text.items) }
+
+    // Where a stress ends well, its text tells of a table that is true of every run of the code that was made, and that a check accepts.
+    ensures stressed { (request : StressRequest) → asked (texts words.now) ≡ Some (stress request)
+        → IfOk result (λ ended. ended.status ≡ Statuses.Ok → IsStress request ended.text.items) }
 {
     let mut inputs = SureInputs::new(alloc, files)?;
     let mut sink = SureSink::new(alloc)?;

@@ -14,8 +14,8 @@ pub fn some_answer()
 
 /// What follows for the caller of `run` from its clauses `ends` and `write_fault`: what is owed is answered, each other
 /// answer has its cause, one line or a front of it is written, and nothing is left out. A table that an analysis writes is true of
-/// every run of the machine, or, where it was left open, up to the first open address; one that a check accepts is true of every run. A
-/// slice holds every chain of reads, and a claim that is answered with yes is true.
+/// every run of the machine, or, where it was left open, up to the first open address; so is one that a check accepts. A
+/// slice holds every chain of reads, and a claim that is answered with yes is true, of a table that may be left open until there.
 pub fn ends_follow()
     ensures { EndsFollow }
 {}

@@ -6,7 +6,7 @@
 //!
 //! `answer` shows the chain from words to answer. It is the chain of the definition, specs/Steps: each step gives something to the
 //! next one, or refuses, and then that is what the run comes to. The chain of `call` is here; those of `emulate` and `list` are
-//! those of `run_emulate`, and those of `analyse`, `check`, `convert`, `slice` and `claims` are those of `run_tables`. Over the bytes that the names hold (`Holds`) what these
+//! those of `run_emulate`, those of `analyse`, `check`, `convert`, `slice` and `claims` are those of `run_tables`, and that of `stress` is that of `run_stress`. Over the bytes that the names hold (`Holds`) what these
 //! steps come to is *owed* (`Owes`): one outcome, but that a table over affine relations has several texts. Over inputs that may
 //! fail (`Gave`) they come to something that is owed, or that an input could not be read; the code gives just that (`Gives`, for
 //! each of its steps), and so the whole is proved step by step.
@@ -24,7 +24,10 @@
 //! address that is left open. The clause `accepted` promises the same of checks: where the words ask for `check` and the run ends with `Ok`, the
 //! table that was asked for is true of every run. The clauses `sliced` and `claimed` promise what such a table tells: where the words ask for `slice`
 //! and the run ends with `Ok`, what was written is a slice that holds every chain of every read that it is of; where they ask for `claims`, each
-//! claim that is answered with `yes` is true of every state that a run has at its address.
+//! claim that is answered with `yes` is true of every state that a run has at its address. With `--open` these are the clauses `accepted_open`, `sliced_open`
+//! and `claimed_open`: the table may have addresses that are left open, and what it and its answers say is true up to and with the first state at one of
+//! them. The clause `stressed` says of `stress` that what was written tells of a
+//! table that is true of every run of the code that was made, and that a check accepts it.
 #![tactic(auto)]
 
 ghost use Rattle.std.specs.Prelude.{◌≡◌, ◌≢◌, ◌⊎◌, IsTrue, List, None, ℕ};
@@ -37,7 +40,7 @@ ghost use Rattle.run_steps.specs.Reading.{Gave, IsTakenFrom};
 ghost use Rattle.run_steps.specs.Statuses.{IsAnswer};
 ghost use Rattle.command_words.specs.Views.{texts};
 ghost use Rattle.command_words.specs.Words.{asked};
-ghost use Rattle.tsl_run.specs.Words.{IsUnbuilt, capped_inputs};
+ghost use Rattle.tsl_run.specs.Words.{capped_inputs};
 ghost use Rattle.tsl_run.specs.Work.{RunWork};
 
 mod answer;
@@ -86,17 +89,16 @@ pub fn run<I: Inputs, S: Sink, L: Ledger>(
     ensures no_sink_fault { result ≢ Status.WriteFault
         → (S.state sink.new).faults ≡ (S.state sink.old).faults }
 
-    // Words that ask for nothing, or for what is not built, are refused before any input is opened.
+    // Words that ask for nothing are refused before any input is opened.
     ensures bad_words { asked (texts words.now) ≡ None → inputs.new ≡ inputs.old }
-    ensures not_built { IsUnbuilt (asked (texts words.now)) → inputs.new ≡ inputs.old }
 
-    // No more is taken of an input than its cap and one byte, from the last time it was opened.
+    // The input that is open at the end is one of the words, and no more was taken of it than its cap and one byte since it was opened.
     ensures taken { IsTrue (I.state inputs.old).tells → (inputs.new ≡ inputs.old)
         ⊎ (IsTrue (I.state inputs.new).is_open
         → IsTakenFrom (capped_inputs (texts words.now)) (I.state inputs.old) (I.state inputs.new)) }
 
     // How many transfers it makes: an analysis at most N(H + J + 1) + N, of N code words and elements of the height H of which J changes join, and N
-    // more where it is left open; a check, a slice and claims at most one for each address that the table lists.
+    // more where it is left open or measured; a check, a slice and claims at most one for each address that the table lists, and two where it may be left open.
     ensures work { RunWork (Gave (I.state inputs.old) (I.state inputs.new)) (asked (texts words.now)) steps.old steps.new }
 
     // Where memory runs out nothing is written.

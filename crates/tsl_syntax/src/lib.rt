@@ -20,19 +20,15 @@ pub mod rules;
 pub mod tree;
 
 use std::alloc::{AllocError, Global};
-use thiserror::Error;
 
 /// Why tokens have no tree. `at` is a byte offset into the source.
-#[derive(Clone, Copy, Debug, PartialEq, Eq, Error)]
+#[derive(Clone, Copy, Debug, PartialEq, Eq)]
 pub enum ParseError {
     /// P1: no specification goes on with the token that begins here, or the tokens end too early.
-    #[error("no specification goes on at byte {at}")]
     Syntax { at: u32 },
     /// P2: the token that begins here stands in more than 256 levels.
-    #[error("the token at byte {at} stands in more than 256 levels")]
     TooDeep { at: u32 },
     /// Memory ran out.
-    #[error("out of memory")]
     NoMemory,
 }
 

@@ -1,6 +1,6 @@
 //! Maps: access and update by a key.
 
-ghost use Rattle.std.specs.Prelude.{◌≡◌, ◌<◌, ◌≤◌, IfOk, IfErr, OnOk, length, set};
+ghost use Rattle.std.specs.Prelude.{◌≡◌, ◌<◌, ◌≤◌, IfOk, IfErr, OnErr, OnOk, length, set};
 ghost use Rattle.std.specs.List.{insert};
 ghost use Rattle.tsl_values.specs.Values.{cell_at, put_cell};
 ghost use Rattle.tsl_values.specs.Views.{map_val};
@@ -27,6 +27,7 @@ impl MapValue {
         ensures cells { OnOk result (self.new.cells.items ≡ put_cell key cell self.old.cells.items) }
         ensures rest { OnOk result (self.new.rest ≡ self.old.rest) }
         ensures map { OnOk result (self.new.map ≡ self.old.map) }
+        ensures error { OnErr result (map_val self.new ≡ map_val self.old) }
     {
         match place_of(&self.cells, key) {
             Ok(place) => self.cells[place] = (key, cell),

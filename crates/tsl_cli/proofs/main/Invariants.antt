@@ -1,4 +1,4 @@
 use Rattle.tsl_cli.proofs.main.Given as goal
 
-abbrev pub ghosts-ended : goal.ghosts-ended
-ghosts-ended a = record { name = a.blank.name; parts = a.blank.parts }
+abbrev pub ghosts-answered : goal.ghosts-answered
+ghosts-answered a = record { name = a.blank.name; parts = a.blank.parts }

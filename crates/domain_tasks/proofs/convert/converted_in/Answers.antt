@@ -1,3 +1,5 @@
+use Rattle.std.specs.BTreeMap.{get}
+use Rattle.std.specs.Ordering.{nat_cmp}
 use Rattle.command_words.specs.Bases.{base_text}
 use Rattle.spec_types.specs.Views.{specification}
 use Rattle.table_reader.specs.Tables.{IsErrorIn}
@@ -15,11 +17,11 @@ returns-in_err-table g c =
     let s = c.args.it.now in
     let spec = specification s.spec.now in
     let base = base_text c.args.base in
-    gives_unread (OwnRewrites (record { base = g.D.B.Base.algebra; cap = g.D.B.Base.CAP; elements = g.D.Domain.elements c.args.domain.now; meaning = g.D.Domain.meaning c.args.domain.now; view = g.D.Domain.view; IsText = g.D.ElemText.IsText; Reads = g.D.ReadElement.Reads c.args.domain.now; word_text = g.D.ElemText.word_text }) spec s.image.now base c.args.bytes.now)
-    (IsErrorIn (g.D.ReadElement.Reads c.args.domain.now) spec base s.image.now c.args.bytes.now) (λ error is. unread is) answer_of c.in_err-table.field-0.0 c.in_err-table.ensures.error c.from_residual.result c.from_residual.ensures.1
+    gives_unread (OwnRewrites (record { base = g.D.B.Base.algebra; cap = g.D.B.Base.CAP; elements = g.D.Domain.elements c.args.domain.now; meaning = g.D.Domain.meaning c.args.domain.now; view = g.D.Domain.view; IsText = g.D.ElemText.IsText; Reads = g.D.ReadElement.Reads c.args.domain.now; word_in = g.D.ReadElement.word_in c.args.domain.now; word_text = g.D.ElemText.word_text }) spec s.image.now base c.args.bytes.now)
+    (IsErrorIn (g.D.ReadElement.Reads c.args.domain.now) (g.D.ReadElement.word_in c.args.domain.now) spec base s.image.now c.args.bytes.now) (λ error is. unread is) answer_of c.in_err-table.field-0.0 c.in_err-table.ensures.error c.from_residual.result c.from_residual.ensures.1
 
 pub returns : goal.returns
 returns g c =
     let s = c.args.it.now in
-    own_rewritten (record { base = g.D.B.Base.algebra; cap = g.D.B.Base.CAP; elements = g.D.Domain.elements c.args.domain.now; meaning = g.D.Domain.meaning c.args.domain.now; view = g.D.Domain.view; IsText = g.D.ElemText.IsText; Reads = g.D.ReadElement.Reads c.args.domain.now; word_text = g.D.ElemText.word_text }) s.image.now (base_text c.args.base) c.args.bytes.now
-    (specification s.spec.now) c.in_ok-table.table (answer_of c.in_ok-tabled.field-0) c.in_ok-table.ensures.table c.in_ok-tabled.ensures
+    own_rewritten (record { base = g.D.B.Base.algebra; cap = g.D.B.Base.CAP; elements = g.D.Domain.elements c.args.domain.now; meaning = g.D.Domain.meaning c.args.domain.now; view = g.D.Domain.view; IsText = g.D.ElemText.IsText; Reads = g.D.ReadElement.Reads c.args.domain.now; word_in = g.D.ReadElement.word_in c.args.domain.now; word_text = g.D.ElemText.word_text }) s.image.now (base_text c.args.base) c.args.bytes.now
+    (specification s.spec.now) c.in_ok-table.field-0.table (λ a. get nat_cmp c.in_ok-table.field-0.endings a) (answer_of c.in_ok-open_tabled.field-0) c.in_ok-table.ensures.table c.in_ok-open_tabled.ensures

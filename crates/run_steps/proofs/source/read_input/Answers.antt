@@ -18,16 +18,16 @@ returns-in-Err-TooLong-clause-gives g c =
 
 pub returns-in-Ok-clause-taken : goal.returns-in-Ok-clause-taken
 returns-in-Ok-clause-taken g c told is_open =
-    taken_alone (g.I.Inputs.state c.args.inputs.now) (g.I.Inputs.state c.read_whole.new.inputs) c.args.name.now c.args.cap (c.read_whole.ensures.taken told is_open)
+    taken_alone (g.I.Inputs.state c.args.inputs.now) (g.I.Inputs.state c.read_whole.new.inputs) c.args.name.now c.args.cap (c.read_whole.ensures.named told is_open) (c.read_whole.ensures.taken told is_open)
 
 pub returns-in-Err-TooLong-clause-taken : goal.returns-in-Err-TooLong-clause-taken
 returns-in-Err-TooLong-clause-taken g c told is_open =
-    taken_alone (g.I.Inputs.state c.args.inputs.now) (g.I.Inputs.state c.read_whole.new.inputs) c.args.name.now c.args.cap (c.read_whole.ensures.taken told is_open)
+    taken_alone (g.I.Inputs.state c.args.inputs.now) (g.I.Inputs.state c.read_whole.new.inputs) c.args.name.now c.args.cap (c.read_whole.ensures.named told is_open) (c.read_whole.ensures.taken told is_open)
 
 pub returns-in-Err-ReadFault-clause-taken : goal.returns-in-Err-ReadFault-clause-taken
 returns-in-Err-ReadFault-clause-taken g c told is_open =
-    taken_alone (g.I.Inputs.state c.args.inputs.now) (g.I.Inputs.state c.read_whole.new.inputs) c.args.name.now c.args.cap (c.read_whole.ensures.taken told is_open)
+    taken_alone (g.I.Inputs.state c.args.inputs.now) (g.I.Inputs.state c.read_whole.new.inputs) c.args.name.now c.args.cap (c.read_whole.ensures.named told is_open) (c.read_whole.ensures.taken told is_open)
 
 pub returns-in-Err-NoMemory-clause-taken : goal.returns-in-Err-NoMemory-clause-taken
 returns-in-Err-NoMemory-clause-taken g c told is_open =
-    taken_alone (g.I.Inputs.state c.args.inputs.now) (g.I.Inputs.state c.read_whole.new.inputs) c.args.name.now c.args.cap (c.read_whole.ensures.taken told is_open)
+    taken_alone (g.I.Inputs.state c.args.inputs.now) (g.I.Inputs.state c.read_whole.new.inputs) c.args.name.now c.args.cap (c.read_whole.ensures.named told is_open) (c.read_whole.ensures.taken told is_open)

@@ -82,4 +82,4 @@ returns-clause-work g c =
     let bytes = c.in_ok-table.table.items in
     let was_posed = posed_still asked.spec asked.code asked.entry (Gave old mid) (Gave old new) (gave_still old mid new) posed c.in_ok-posed.ensures.gives in
     let was_read = gave_later old mid new c.posed_of.ensures.kept c.in_ok-posed.ensures.no_other_fault table_cap request.table (Ok bytes) c.in_ok-table.ensures.gives in
-    inr ((posed, bytes), (was_posed, was_read), subst (λ (text : List ℕ). CheckTakes asked.base posed text c.args.steps.now c.verdict_of.new.steps) c.deref.ensures.value c.verdict_of.ensures.work)
+    inr ((posed, bytes), (was_posed, was_read), subst (λ (text : List ℕ). CheckTakes asked posed text c.args.steps.now c.verdict_of.new.steps) c.deref.ensures.value c.verdict_of.ensures.work)

@@ -128,5 +128,5 @@ returns-clause-work g c =
     inr (
       (posed, bytes),
       (was_posed, gave_still old late new table_cap request.check.table bytes was_read),
-      subst (λ (text : List ℕ). CheckTakes asked.base posed text c.args.steps.now c.answers_of.new.steps) c.deref.ensures.value c.answers_of.ensures.work,
+      subst (λ (text : List ℕ). CheckTakes asked posed text c.args.steps.now c.answers_of.new.steps) c.deref.ensures.value c.answers_of.ensures.work,
     )

@@ -84,4 +84,4 @@ returns-clause-work g c =
     let bytes = c.in_ok-table.table.items in
     let was_sought = sought_still asked.spec request.cell asked.code asked.entry (Gave old mid) (Gave old new) (gave_still old mid new) sought c.in_ok-sought.ensures.gives in
     let was_read = gave_later old mid new c.sought_of.ensures.kept c.in_ok-sought.ensures.no_other_fault table_cap request.check.table (Ok bytes) c.in_ok-table.ensures.gives in
-    inr ((sought, bytes), (was_sought, was_read), subst (λ (text : List ℕ). CheckTakes asked.base sought.posed text c.args.steps.now c.slice_over.new.steps) c.deref.ensures.value c.slice_over.ensures.work)
+    inr ((sought, bytes), (was_sought, was_read), subst (λ (text : List ℕ). CheckTakes asked sought.posed text c.args.steps.now c.slice_over.new.steps) c.deref.ensures.value c.slice_over.ensures.work)

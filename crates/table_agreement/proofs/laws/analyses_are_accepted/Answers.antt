@@ -1,4 +1,4 @@
-use Rattle.table_agreement.proofs.Agreement.{analyses_are_accepted}
+use Rattle.table_agreement.proofs.Accepted.{analyses_are_accepted}
 use Rattle.table_agreement.proofs.laws.analyses_are_accepted.Goals as goal
 
 pub returns : goal.returns

@@ -1,4 +1,5 @@
-use Rattle.std.proofs.Common.{length}
+use Rattle.std.proofs.Common.{length, nat_cmp}
+use Rattle.std.specs.BTreeMap.{get}
 use Rattle.spec_types.specs.Views.{specification}
 use Rattle.fixed_point.specs.Views.{listings}
 use Rattle.table_reader.specs.Ends.{is_word_of}
@@ -7,7 +8,8 @@ use Rattle.table_reader.proofs.table.read_blocks.Given as goal
 
 abbrev pub invariant-lines : goal.invariant-lines
 invariant-lines g l =
-    SoFar (g.D.ReadElement.Reads l.domain) (specification l.at.spec.now) (is_word_of l.at.image.now) (λ x. (g.D.Domain.elements l.domain).fits (g.D.Domain.view x)) l.fn.lines l.low l.lines (listings (λ x. x) (record { blocks = l.blocks }))
+    SoFar (g.D.ReadElement.Reads l.domain) (g.D.ReadElement.word_in l.domain) (specification l.at.spec.now) (is_word_of l.at.image.now) (λ x. (g.D.Domain.elements l.domain).fits (g.D.Domain.view x)) l.fn.lines l.low l.lines
+    (listings (λ x. x) (record { blocks = l.blocks })) (λ a. get nat_cmp l.endings a)
 
 abbrev pub decreases-lines : goal.decreases-lines
 decreases-lines g l = length l.lines

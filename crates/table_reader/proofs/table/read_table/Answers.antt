@@ -14,7 +14,7 @@ returns-in-Err-At-clause-error g c =
     let head = rw c.name.ensures at stopped in
     let count = rw c.in-Err-At.field-0-is at c.count_lines.ensures in
     let is = rw c.in-Err-At.field-0-is at c.error_in.ensures in
-    inr (in_the_head (g.D.ReadElement.Reads c.args.domain.now) (specification c.args.spec.now) (base_text c.args.base) c.args.image.now c.args.bytes.now c.count_lines.result c.error_in.result
+    inr (in_the_head (g.D.ReadElement.Reads c.args.domain.now) (g.D.ReadElement.word_in c.args.domain.now) (specification c.args.spec.now) (base_text c.args.base) c.args.image.now c.args.bytes.now c.count_lines.result c.error_in.result
     c.in-Err-At.rule (lines c.in-Err-At.left.now) head count is)
 
 pub fields_of-requires : goal.fields_of-requires
@@ -26,5 +26,5 @@ pub returns-clause-error : goal.returns-clause-error
 returns-clause-error g c =
     let head = rw c.name.ensures at c.in-Ok.ensures in
     let read = rw (c.in-None.is, c.new-left.ensures) at c.in_ok-table.ensures.read in
-    inr (behind_the_head (g.D.ReadElement.Reads c.args.domain.now) (specification c.args.spec.now) (base_text c.args.base) c.args.image.now c.args.bytes.now c.count.result c.error_in-in-None.result
+    inr (behind_the_head (g.D.ReadElement.Reads c.args.domain.now) (g.D.ReadElement.word_in c.args.domain.now) (specification c.args.spec.now) (base_text c.args.base) c.args.image.now c.args.bytes.now c.count.result c.error_in-in-None.result
     (lines c.in-Ok.rest.now) c.read_blocks.new.lines head read c.count.ensures c.error_in-in-None.ensures)

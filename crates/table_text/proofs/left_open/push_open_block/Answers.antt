@@ -3,7 +3,7 @@ use Rattle.std.specs.BTreeMap.{get}
 use Rattle.std.specs.Ordering.{nat_cmp}
 use Rattle.std.specs.String.{string_bytes}
 use Rattle.spec_types.specs.Views.{specification}
-use Rattle.fixed_point.specs.Views.{listing, listings}
+use Rattle.fixed_point.specs.Views.{listing}
 use Rattle.table_text.proofs.OpenBlocking.{with_ending}
 use Rattle.table_text.proofs.left_open.push_open_block.Goals as goal
 

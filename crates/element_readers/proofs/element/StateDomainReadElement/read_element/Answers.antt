@@ -1,4 +1,4 @@
-use Rattle.std.proofs.Common.{map, sym}
+use Rattle.std.proofs.Common.{map}
 use Rattle.spec_types.specs.Views.{specification}
 use Rattle.value_laws.specs.Abs.{parts}
 use Rattle.domain_laws.specs.States.{state_type}

@@ -1,0 +1,4 @@
+pub mod Help
+pub mod Laws
+pub mod Pages
+pub mod Views

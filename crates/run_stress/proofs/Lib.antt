@@ -1,0 +1,5 @@
+pub mod Accepted
+pub mod Giving
+pub mod Making
+pub mod One
+pub mod Stops
