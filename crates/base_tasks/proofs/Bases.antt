@@ -1,13 +1,14 @@
--- What is given in the domain of a base is given over the base.
+-- What is given in a domain that is made is given in some; what is given in the domain of a base is given over the base.
 use Rattle.std.proofs.Common.{◌≡◌, ◌≤◌, ◌+◌, ℕ, refl, sym, subst}
-use Rattle.std.specs.Prelude.{Result}
+use Rattle.std.specs.Prelude.{Result, Ok, Err}
 use Rattle.command_words.specs.declared.bases.BaseName.{BaseName}
 use Rattle.command_words.specs.Bases.{base_text}
 use Rattle.insn_decode.specs.Image.{Image}
 use Rattle.spec_types.specs.Specification.{Spec}
 use Rattle.domain_laws.specs.States.{state_type}
 use Rattle.run_steps.specs.declared.outcome.Halt.{Halt}
-use Rattle.run_steps.specs.Outcome.{Answer}
+use Rattle.run_steps.specs.declared.outcome.Halt.TheVariants.{NoMemory, Refused}
+use Rattle.run_steps.specs.Outcome.{Answer, Refusal}
 use Rattle.run_steps.specs.Outcomes.{Gives}
 use Rattle.analysis_domains.specs.Named.{Done, domain_of}
 use Rattle.analysis_domains.specs.Tasks.{Comes, spec_of}
@@ -15,6 +16,12 @@ use Rattle.analysis_domains.specs.Work.{IsWork, WorkOf}
 use Rattle.domain_tasks.specs.Read.{task_of}
 use Rattle.domain_tasks.specs.declared.task.Task.{Task}
 use Rattle.domain_tasks.specs.declared.task.Task.TheVariants.{Analyse, AnalyseOpen, Check, CheckOpen, Claims, ClaimsOpen, Convert, Measure, Slice, SliceOpen}
+
+-- what one value gives, some value gives
+pub gives_some : {A B D : Type 0} (d : D) (Is : D → Type 0) (step : D → Result B Refusal → Type 0) (seen : A → B) (r : Result A Halt) → Is d → Gives (step d) seen r → Gives (λ o. (x : D) × Is x × step x o) seen r
+gives_some d Is step seen (Ok found) is given = (d, is, given)
+gives_some d Is step seen (Err NoMemory) is given = tt
+gives_some d Is step seen (Err (Refused refusal)) is given = (d, is, given)
 
 module _ (spec : Spec) (image : Image) where
   spec_is : (task : Task) → spec_of (task_of spec image task) ≡ spec

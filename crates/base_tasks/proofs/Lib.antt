@@ -1,3 +1,4 @@
+pub mod Asked
 pub mod Bases
 pub mod Seen
 pub mod Ties

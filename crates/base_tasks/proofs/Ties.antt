@@ -1,7 +1,5 @@
 -- Domains of the code are domains of the definitions.
 use Rattle.std.proofs.Common.{◌≡◌, ◌⊎◌, ℕ, List, [], ◌∷◌, Option, Some, None, arith, inl, inr, max, option_map, ap, refl, subst, sym, ◌∙◌}
-use Rattle.std.specs.BTreeMap.{get}
-use Rattle.std.specs.Ordering.{nat_cmp}
 use Rattle.std.specs.Prelude.{Bool, ◌&&◌, not, IsTrue, Result, Ok, Err}
 use Rattle.base_trait.specs.Algebra.{Algebra}
 use Rattle.base_trait.proofs.Tests.{and_parts}
@@ -44,7 +42,7 @@ use Rattle.element_text.specs.Parts.{AffineText, CellsText, ElementText, PairTex
 use Rattle.text_lines.specs.Lines.{Lines}
 use Rattle.element_readers.specs.Reading.{AffineRead, CellsRead, ElementReading, PairRead, both, no_first, no_second}
 use Rattle.element_readers.specs.Words.{affine_word, cells_word, pair_word}
-use Rattle.table_readings.proofs.Views.{error_seen, open_table_seen, seen_listing, table_seen}
+use Rattle.table_readings.proofs.Views.{error_seen, open_table_seen, table_seen}
 use Rattle.open_tables.specs.Endings.{Endings}
 use Rattle.open_tables.specs.declared.ending.Ending.{Ending}
 use Rattle.table_text.specs.Open as opened
@@ -86,12 +84,13 @@ use Rattle.domain_tasks.specs.Own as given
 use Rattle.domain_tasks.specs.Own.{IsOwnRefused, Own, OwnComesTo, OwnJudges, OwnRewrites, OwnWork, as_defined}
 use Rattle.domain_tasks.specs.Claims as own_claims
 use Rattle.domain_tasks.specs.Claims.{OwnClaims}
-use Rattle.domain_tasks.specs.Comes.{OwnComes}
 use Rattle.domain_tasks.specs.Measures.{OwnMeasures}
-use Rattle.domain_tasks.specs.Open.{OwnComesOpen}
-use Rattle.domain_tasks.specs.OpenTables.{IsOwnOpenJudged, OwnClaimsOpen, OwnJudgesOpen, OwnSlicesOpen, judged_check, judged_claims, judged_slice, unread_check, unread_claims, unread_slice, unread_table}
 use Rattle.domain_tasks.specs.Slices as own_slices
 use Rattle.domain_tasks.specs.Slices.{OwnSlices}
+use Rattle.domain_tasks.proofs.Working.{listings_seen}
+use Rattle.open_tasks.specs.Open.{OwnComesOpen}
+use Rattle.open_tasks.specs.OpenTables.{IsOwnOpenJudged, OwnClaimsOpen, OwnJudgesOpen, OwnSlicesOpen, judged_check, judged_claims, judged_slice, unread_check, unread_claims, unread_slice, unread_table}
+use Rattle.base_tasks.specs.Comes.{OwnComes}
 use Rattle.base_tasks.proofs.Seen.{answers_seen, read_seen}
 use Rattle.base_tasks.proofs.Working.{open_work_on, work_on}
 
@@ -122,16 +121,6 @@ module _ {X E : Type 0} (view : X → E) (spec : Spec) (IsOwn : X → List ℕ �
   pub open_text_seen : {W : Type 0} (word_text : ℕ → W → List ℕ) (t : Table X) (ends : Endings W) (image : Image) (base bytes : List ℕ) → IsOpenTableText word_text IsOwn spec image base (listings (λ x. x) t) ends bytes
       → IsOpenTableText word_text Is spec image base (listings view t) ends bytes
   open_text_seen word_text t ends image base bytes is = record { blocks = is.blocks; are_blocks = open_blocks_seen word_text t ends (addresses image.segments) is.blocks is.are_blocks; lines = is.lines }
-
--- ---- tables that are read
-
-module _ {X E : Type 0} (view : X → E) where
-  block_seen : (found : Option (Block X)) → option_map (listing view) found ≡ option_map (seen_listing view) (option_map (listing (λ x. x)) found)
-  block_seen None = refl
-  block_seen (Some b) = refl
-
-  pub listings_seen : (t : Table X) (a : ℕ) → listings view t a ≡ option_map (seen_listing view) (listings (λ x. x) t a)
-  listings_seen t a = block_seen (get nat_cmp t.blocks a)
 
 -- ---- ties
 

@@ -13,11 +13,12 @@ ghost use Rattle.analysis_domains.specs.Work.{IsWork, WorkOf};
 ghost use Rattle.run_steps.specs.Outcomes.{Gives, answer_of};
 ghost use Rattle.domain_tasks.specs.Read.{IsAsked, task_of};
 
+use crate::over::in_domain;
 use affine_domain::AffineDomain;
 use bits_base::Bits;
 use command_words::BaseName;
 use defuse_base::DefUse;
-use domain_tasks::{Subject, in_domain};
+use domain_tasks::Subject;
 use element_text::NamedBase;
 use interval_base::Interval;
 use kset_base::KSet;

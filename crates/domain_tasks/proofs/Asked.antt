@@ -1,15 +1,13 @@
--- What is known of what is asked.
-use Rattle.std.proofs.Common.{◌≡◌, ◌<◌, ◌^◌, true, length, Option, Some, None, refl}
+-- A specification of which something is asked has states.
+use Rattle.std.proofs.Common.{◌≡◌, true, Option, Some, None, refl}
 use Rattle.std.specs.Prelude.{IsSome}
 use Rattle.spec_types.specs.declared.spec.Machine.{Machine}
 use Rattle.spec_types.specs.Specification.{Spec}
 use Rattle.meaning_laws.specs.Accepted.{IsAccepted}
-use Rattle.domain_laws.specs.States.{has_states, state_type}
+use Rattle.domain_laws.specs.States.{has_states}
 use Rattle.accepted_states.proofs.States.{accepted_have_states}
-use Rattle.state_text.specs.Reading.{Entry, entry_of}
-use Rattle.domain_tasks.specs.Read.{IsAsked, IsMachine, IsRead}
-use Rattle.domain_tasks.specs.declared.task.Task.{Task}
-use Rattle.domain_tasks.specs.declared.task.Task.TheVariants.{Analyse, AnalyseOpen, Check, CheckOpen, Claims, ClaimsOpen, Convert, Measure, Slice, SliceOpen}
+use Rattle.state_text.specs.Reading.{Entry}
+use Rattle.domain_tasks.specs.Read.{IsMachine, IsRead}
 
 -- a specification that has a machine has states
 with_machine : (spec : Spec) → IsAccepted spec → (m : Option Machine) → spec.machine ≡ m → IsSome m → has_states spec ≡ true
@@ -21,27 +19,3 @@ machine_states spec is = with_machine spec is.accepted spec.machine refl is.some
 
 pub read_states : (spec : Spec) (m : Machine) (entry : Entry) → IsRead spec m entry → has_states spec ≡ true
 read_states spec m entry is = accepted_have_states spec m is.accepted is.is_machine
-
-pub asked_states : (spec : Spec) (task : Task) → IsAsked spec task → has_states spec ≡ true
-asked_states spec (Analyse start) is = read_states spec start.machine (entry_of start.entry.now) is
-asked_states spec (AnalyseOpen start) is = read_states spec start.machine (entry_of start.entry.now) is
-asked_states spec (Measure start) is = read_states spec start.machine (entry_of start.entry.now) is
-asked_states spec (Check start table) is = read_states spec start.machine (entry_of start.entry.now) is.0
-asked_states spec (CheckOpen start table) is = read_states spec start.machine (entry_of start.entry.now) is.0
-asked_states spec (Convert table) is = machine_states spec is.0
-asked_states spec (Slice start table at cell) is = read_states spec start.machine (entry_of start.entry.now) is.0
-asked_states spec (SliceOpen start table at cell) is = read_states spec start.machine (entry_of start.entry.now) is.0
-asked_states spec (Claims start table claims) is = read_states spec start.machine (entry_of start.entry.now) is.0
-asked_states spec (ClaimsOpen start table claims) is = read_states spec start.machine (entry_of start.entry.now) is.0
-
-pub asked_few : (spec : Spec) (task : Task) → IsAsked spec task → length (state_type spec).fields < 2 ^ 32
-asked_few spec (Analyse start) is = is.few
-asked_few spec (AnalyseOpen start) is = is.few
-asked_few spec (Measure start) is = is.few
-asked_few spec (Check start table) is = is.0.few
-asked_few spec (CheckOpen start table) is = is.0.few
-asked_few spec (Convert table) is = is.0.few
-asked_few spec (Slice start table at cell) is = is.0.few
-asked_few spec (SliceOpen start table at cell) is = is.0.few
-asked_few spec (Claims start table claims) is = is.0.few
-asked_few spec (ClaimsOpen start table claims) is = is.0.few

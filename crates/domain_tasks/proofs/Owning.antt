@@ -79,18 +79,6 @@ module _ {X E W N C : Type 0} (own : Own X E W N C) (p : Problem) (image : Image
   own_stop (stop.TooManyTargets at shown trace) (Refused (Rejected rejection)) laws stops is = absurd is
   own_stop stop.NoMemory halt laws stops is = subst (λ h. Stops (OwnComesTo own p image base) h) (sym is) tt
 
--- what is given is given otherwise
-pub gives_too : {A B : Type 0} (step other : Result B Refusal → Type 0) (seen : A → B) (r : Result A Halt) → ((o : Result B Refusal) → step o → other o) → Gives step seen r → Gives other seen r
-gives_too step other seen (Ok found) by is = by _ is
-gives_too step other seen (Err NoMemory) by is = tt
-gives_too step other seen (Err (Refused refusal)) by is = by _ is
-
--- what one value gives, some value gives
-pub gives_some : {A B D : Type 0} (d : D) (Is : D → Type 0) (step : D → Result B Refusal → Type 0) (seen : A → B) (r : Result A Halt) → Is d → Gives (step d) seen r → Gives (λ o. (x : D) × Is x × step x o) seen r
-gives_some d Is step seen (Ok found) is given = (d, is, given)
-gives_some d Is step seen (Err NoMemory) is given = tt
-gives_some d Is step seen (Err (Refused refusal)) is given = (d, is, given)
-
 -- ---- checks and conversions
 
 -- a text that no table has is refused

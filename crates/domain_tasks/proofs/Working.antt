@@ -24,8 +24,8 @@ use Rattle.table_reader.specs.Blocks.{AreRead, BlockRead, block, listings_of, on
 use Rattle.table_reader.specs.Ends.{is_word_of}
 use Rattle.table_reader.specs.Starts.{address_from, at_said, read_at, read_at_of, with_lines}
 use Rattle.table_reader.specs.Tables.{IsOpenTableIn, IsTableIn}
-use Rattle.table_readings.proofs.Views.{open_table_seen, seen_listing, table_seen}
-use Rattle.analysis_domains.specs.Work.{IsOpenWorkOn, IsWorkOn}
+use Rattle.table_readings.proofs.Views.{seen_listing, table_seen}
+use Rattle.analysis_domains.specs.Work.{IsWorkOn}
 use Rattle.domain_tasks.specs.Own.{Own, as_defined}
 use Rattle.worklist.proofs.Tables.{few_places}
 
@@ -77,7 +77,7 @@ places_length [] = refl
 places_length (b ∷ blocks) = ap (λ (n : ℕ). suc n) (places_length blocks)
 
 -- There are at most as many blocks as were read.
-few_read : {X E W : Type 0} (view : X → E) (Reads : ElementReading E) (word : WordReading W) (spec : Spec) (image : Image) (base bytes : List ℕ) (table : Table X) (ends : Endings W)
+pub few_read : {X E W : Type 0} (view : X → E) (Reads : ElementReading E) (word : WordReading W) (spec : Spec) (image : Image) (base bytes : List ℕ) (table : Table X) (ends : Endings W)
     (is : IsOpenTableIn Reads word spec base image bytes (listings view table) ends) → IsOrdered nat_cmp table.blocks → btree_map_len table.blocks ≤ length is.blocks
 few_read view Reads word spec image base bytes table ends is ordered =
     let few = few_places (places is.blocks) table.blocks (places_ascend Reads word spec (is_word_of image) 0 is.later is.blocks is.ends is.are_read) ordered
@@ -85,22 +85,19 @@ few_read view Reads word spec image base bytes table ends is ordered =
     let same = places_length is.blocks in
     omega (arith, few, same)
 
-block_seen : {X E : Type 0} (view : X → E) (found : Option (Block X)) → option_map (listing view) found ≡ option_map (seen_listing view) (option_map (listing (λ x. x)) found)
-block_seen view (Some b) = refl
-block_seen view None = refl
+-- what a table lists, as its elements are seen
+module _ {X E : Type 0} (view : X → E) where
+  block_seen : (found : Option (Block X)) → option_map (listing view) found ≡ option_map (seen_listing view) (option_map (listing (λ x. x)) found)
+  block_seen None = refl
+  block_seen (Some b) = refl
+
+  pub listings_seen : (t : Table X) (a : ℕ) → listings view t a ≡ option_map (seen_listing view) (listings (λ x. x) t a)
+  listings_seen t a = block_seen (get nat_cmp t.blocks a)
 
 module _ {X E W N C : Type 0} (own : Own X E W N C) (spec : Spec) (image : Image) (base bytes : List ℕ) (table : Table X) where
   pub own_works : IsTableIn own.Reads own.word_in spec base image bytes (listings (λ x. x) table) → IsOrdered nat_cmp table.blocks
       → (old new : ℕ) → new ≤ old + btree_map_len table.blocks → IsWorkOn (as_defined own) image base spec bytes old new
   own_works is ordered old new most =
-      let seen = table_seen own.view own.Reads (as_defined own).Reads own.word_in spec base image (λ ls r left is. (r, refl, is)) bytes (listings (λ x. x) table) (listings own.view table) (λ a. block_seen own.view (get nat_cmp table.blocks a)) is in
+      let seen = table_seen own.view own.Reads (as_defined own).Reads own.word_in spec base image (λ ls r left is. (r, refl, is)) bytes (listings (λ x. x) table) (listings own.view table) (listings_seen own.view table) is in
       let few = few_read own.view (as_defined own).Reads own.word_in spec image base bytes table (λ a. None) seen ordered in
       inr (listings own.view table, seen, omega (arith, most, few))
-
-  -- where blocks may be left open
-  pub own_open_works : (ends : Endings W) → IsOpenTableIn own.Reads own.word_in spec base image bytes (listings (λ x. x) table) ends → IsOrdered nat_cmp table.blocks
-      → (old new : ℕ) → new ≤ old + (btree_map_len table.blocks + btree_map_len table.blocks) → IsOpenWorkOn (as_defined own) image base spec bytes old new
-  own_open_works ends is ordered old new most =
-      let seen = open_table_seen own.view own.Reads (as_defined own).Reads own.word_in spec base image (λ ls r left is. (r, refl, is)) bytes (listings (λ x. x) table) (listings own.view table) ends (λ a. block_seen own.view (get nat_cmp table.blocks a)) is in
-      let few = few_read own.view (as_defined own).Reads own.word_in spec image base bytes table ends seen ordered in
-      inr (listings own.view table, ends, seen, omega (arith, most, few))

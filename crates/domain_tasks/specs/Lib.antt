@@ -1,9 +1,6 @@
 pub mod Claims
 pub mod Closed
-pub mod Comes
 pub mod Measures
-pub mod Open
-pub mod OpenTables
 pub mod Own
 pub mod Prepared
 pub mod Read

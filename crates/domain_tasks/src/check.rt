@@ -21,14 +21,14 @@ use std::sync::ledger::Ledger;
 use step_counter::Steps;
 
 /// What is answered for a table that is closed.
-pub(crate) fn accepted(alloc: Global) -> Result<Answer, NoMemory>
+pub fn accepted(alloc: Global) -> Result<Answer, NoMemory>
     ensures { IfOk result (λ answer. IsTextOf (λ bytes. bytes ≡ accepted_line) (answer_of answer)) }
 {
     Ok(Answer::Text(Vec::from_slice(alloc, b"accepted\n")?))
 }
 
 /// What the check of a text comes to in a domain that was made for the specification.
-pub(crate) fn checked_in<'a, 'b, D: NamedDomain, L: Ledger>(
+pub fn checked_in<'a, 'b, D: NamedDomain, L: Ledger>(
     alloc: Global,
     domain: &D,
     it: &Subject<'a>,

@@ -32,7 +32,7 @@ use step_counter::Steps;
 use tsl_claims::Claim;
 
 /// The answers of a table to claims, as text.
-pub(crate) fn answer_bytes<D: NamedDomain>(
+pub fn answer_bytes<D: NamedDomain>(
     alloc: Global,
     domain: &D,
     spec: &Spec,
@@ -64,7 +64,7 @@ fn answered<D: NamedDomain>(
 }
 
 /// What the claims of a text come to in a domain that was made for the specification.
-pub(crate) fn claimed_in<'a, 'b, D: NamedDomain, L: Ledger>(
+pub fn claimed_in<'a, 'b, D: NamedDomain, L: Ledger>(
     alloc: Global,
     domain: &D,
     it: &Subject<'a>,

@@ -25,7 +25,7 @@ use std::collections::BTreeMap;
 use table_reader::{OpenTable, read_table};
 
 /// The first address whose block is left open.
-pub(crate) fn first_open<W>(endings: &BTreeMap<u32, Ending<W>>) -> Option<u32>
+pub fn first_open<W>(endings: &BTreeMap<u32, Ending<W>>) -> Option<u32>
     ensures none { IfNone result ((a : ℕ) → get nat_cmp endings.now a ≡ None) }
     ensures some { IfSome result (IsFirstOpen (λ a. get nat_cmp endings.now a)) }
 {

@@ -7,7 +7,7 @@ ghost use Rattle.run_steps.specs.Outcomes.{Gives, answer_of};
 ghost use Rattle.domain_tasks.specs.Own.{OwnRewrites};
 ghost use Rattle.domain_tasks.specs.Read.{IsMachine};
 
-use crate::left_open::open_tabled;
+use crate::table::open_tabled;
 use crate::task::Subject;
 use analysis_domains::NamedDomain;
 use command_words::BaseName;
@@ -16,7 +16,7 @@ use std::alloc::Global;
 use table_reader::{OpenTable, read_table};
 
 /// What a text is written as in a domain that was made for the specification.
-pub(crate) fn converted_in<'a, 'b, D: NamedDomain>(
+pub fn converted_in<'a, 'b, D: NamedDomain>(
     alloc: Global,
     domain: &D,
     it: &Subject<'a>,

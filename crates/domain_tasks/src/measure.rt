@@ -97,7 +97,7 @@ fn measure<'a, 'b, D: NamedDomain, L: Ledger>(
 }
 
 /// What is measured of an analysis in a domain that was made for the specification.
-pub(crate) fn measured_in<'a, 'b, D: NamedDomain, L: Ledger>(
+pub fn measured_in<'a, 'b, D: NamedDomain, L: Ledger>(
     alloc: Global,
     domain: &D,
     it: &Subject<'a>,

@@ -14,14 +14,14 @@ use std::alloc::{AllocError as NoMemory, Global};
 
 /// The fields of states behind the counter, the decoder, and the code of functions.
 #[derive(Drop)]
-pub(crate) struct Prepared {
-    pub(crate) fields: Vec<Field>,
-    pub(crate) decoder: Decoder,
-    pub(crate) cir: Cir,
+pub struct Prepared {
+    pub fields: Vec<Field>,
+    pub decoder: Decoder,
+    pub cir: Cir,
 }
 
 /// What is made of a specification once.
-pub(crate) fn prepare(alloc: Global, spec: &Spec) -> Result<Prepared, NoMemory>
+pub fn prepare(alloc: Global, spec: &Spec) -> Result<Prepared, NoMemory>
     requires { has_states (specification spec.now) ≡ true }
     ensures { IfOk result (λ r. IsPrepared (specification spec.now) r) }
 {

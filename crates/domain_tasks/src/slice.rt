@@ -27,7 +27,7 @@ use step_counter::Steps;
 use tsl_slice::slice;
 
 /// The text of the slice of a table, for the reads of a cell by the instruction at an address.
-pub(crate) fn slice_bytes<E>(
+pub fn slice_bytes<E>(
     alloc: Global,
     spec: &Spec,
     table: &Table<E>,
@@ -54,7 +54,7 @@ fn sliced<E>(
 }
 
 /// What the slice of a text comes to in a domain that was made for the specification.
-pub(crate) fn sliced_in<'a, 'b, D: NamedDomain, L: Ledger>(
+pub fn sliced_in<'a, 'b, D: NamedDomain, L: Ledger>(
     alloc: Global,
     domain: &D,
     it: &Subject<'a>,

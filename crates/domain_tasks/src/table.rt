@@ -1,12 +1,15 @@
 //! The table of an analysis, in a domain.
 
 ghost use Rattle.std.specs.Prelude.{◌≡◌, ◌≤◌, ◌+◌, IfOk, IsTrue};
+ghost use Rattle.std.specs.BTreeMap.{get};
+ghost use Rattle.std.specs.Ordering.{nat_cmp};
 ghost use Rattle.std.specs.String.{string_bytes};
 ghost use Rattle.command_words.specs.Bases.{base_text};
 ghost use Rattle.spec_types.specs.Views.{specification};
 ghost use Rattle.fixed_point.specs.Views.{listings};
 ghost use Rattle.state_text.specs.Reading.{entry_of};
 ghost use Rattle.transfer.specs.Analysis.{problem};
+ghost use Rattle.table_text.specs.Open.{IsOpenTableText};
 ghost use Rattle.table_text.specs.Tables.{IsTableText};
 ghost use Rattle.run_steps.specs.Outcomes.{Gives, answer_of};
 ghost use Rattle.analysis_domains.specs.Tasks as asked;
@@ -21,13 +24,15 @@ use command_words::BaseName;
 use fixed_point::{Analyser, Table};
 use image_tables::analyse;
 use insn_decode::Image;
+use open_tables::Ending;
 use posed_problems::laws::read_problems_are_well_posed;
 use run_steps::{Answer, Halt, Refusal};
 use spec_types::Spec;
 use std::alloc::{AllocError as NoMemory, Global};
+use std::collections::BTreeMap;
 use std::sync::ledger::Ledger;
 use step_counter::Steps;
-use table_text::table_text;
+use table_text::{open_table_text, table_text};
 use transfer::ImageAnalysis;
 use worklist::{AnalyseError, Report};
 
@@ -76,6 +81,20 @@ fn tabled<D: NamedDomain>(
     Ok(Answer::Text(table_text::<D>(alloc, spec, image, base.name(), table)?))
 }
 
+/// The text of a table that is left open, headed by the name of a base.
+pub fn open_tabled<D: NamedDomain>(
+    alloc: Global,
+    spec: &Spec,
+    image: &Image,
+    base: BaseName,
+    table: &Table<D::Elem>,
+    endings: &BTreeMap<u32, Ending<<D::B as Base>::Word>>,
+) -> Result<Answer, NoMemory>
+    ensures { IfOk result (λ answer. IsTextOf (IsOpenTableText D.word_text (D.IsText (specification spec.now)) (specification spec.now) image.now (base_text base) (listings (λ x. x) table.now) (λ a. get nat_cmp endings.now a)) (answer_of answer)) }
+{
+    Ok(Answer::Text(open_table_text::<D>(alloc, spec, image, base.name(), table, endings)?))
+}
+
 /// What an analysis that is ready comes to.
 fn come_to<'a, 'b, D: NamedDomain, L: Ledger>(
     alloc: Global,
@@ -99,7 +118,7 @@ fn come_to<'a, 'b, D: NamedDomain, L: Ledger>(
 }
 
 /// What an analysis comes to in a domain that was made for the specification.
-pub(crate) fn analysed_in<'a, 'b, D: NamedDomain, L: Ledger>(
+pub fn analysed_in<'a, 'b, D: NamedDomain, L: Ledger>(
     alloc: Global,
     domain: &D,
     it: &Subject<'a>,

@@ -29,7 +29,7 @@ use step_counter::Steps;
 use transfer::ImageAnalysis;
 
 /// Goes on where the verdict is that a table is closed, and else refuses it.
-pub(crate) fn closed<'b, D: NamedDomain>(
+pub fn closed<'b, D: NamedDomain>(
     alloc: Global,
     verdict: &Verdict<<D::B as Base>::Word>,
 ) -> Result<(), Halt<'b>>

@@ -6,3 +6,4 @@ pub mod FaultsFound
 pub mod LastUse
 pub mod LineCounts
 pub mod LineEnds
+pub mod Told

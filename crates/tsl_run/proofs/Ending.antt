@@ -32,6 +32,7 @@ use Rattle.tsl_run.specs.Tables.{AreClaimsFor, AreOpenClaimsFor, IsAcceptedFor, 
 use Rattle.tsl_run.specs.Words.{capped_in, input_names, names_in}
 use Rattle.tsl_run.proofs.Causes.{Caused, asked_known, is_named}
 use Rattle.tsl_run.proofs.Exists.{some_answer}
+use Rattle.tsl_run.proofs.Faults.{work_told}
 use Rattle.tsl_run.proofs.Others.{asked_either}
 use Rattle.tsl_run.proofs.Tables.{owed_acceptance, owed_claims, owed_open_acceptance, owed_open_claims, owed_open_slice, owed_open_table, owed_slice, owed_table}
 use Rattle.tsl_run.proofs.Unique.{one_answer}
@@ -53,8 +54,8 @@ module _ (words : List (List ℕ)) (old new : InputState) where
   possible_outcome what (Err calls_spent) cause = possible.calls_spent
   possible_outcome what (Err (undecodable_at at word)) cause = possible.undecodable_at cause
   possible_outcome what (Err (too_many_targets at shown)) cause = possible.too_many_targets cause
-  possible_outcome what (Err (table_refused fault)) cause = possible.table_refused cause
-  possible_outcome what (Err (claims_refused fault)) cause = possible.claims_refused cause
+  possible_outcome what (Err (table_refused fault)) cause = possible.table_refused cause (work_told what (table_refused fault) cause)
+  possible_outcome what (Err (claims_refused fault)) cause = possible.claims_refused cause (work_told what (claims_refused fault) cause)
   possible_outcome what (Err (rejected rejection)) cause = possible.rejected cause
 
   line_of_outcome : (outcome : Outcome) → ComesTo words old new outcome → IsLineOf words (status_of outcome) (line_of outcome)

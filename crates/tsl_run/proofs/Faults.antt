@@ -1,4 +1,4 @@
--- No refusal of a specification, of code or of an entry is for want of memory: each has a line.
+-- No refusal is for want of memory: each has a line.
 use Rattle.std.proofs.Common.{◌≡◌, ◌≢◌, ℕ, ◌+◌, Bool, List, [], ◌∷◌, Option, Some, None, refl, sym, ◌∙◌, ap, subst}
 use Rattle.std.specs.Prelude.{Result, Ok, Err}
 use Rattle.command_words.specs.declared.bases.BaseName.{BaseName}
@@ -21,6 +21,11 @@ use Rattle.state_text.specs.declared.entry_error.EntryError.TheVariants as enter
 use Rattle.state_text.specs.Reading.{Entry, read}
 use Rattle.stress_code.specs.Entry.{entry_text, start_text}
 use Rattle.tsl_values.specs.States.{State}
+use Rattle.table_faults.specs.declared.table_error.TableError.TheVariants as tabling
+use Rattle.table_reader.proofs.Told.{table_told}
+use Rattle.claim_faults.specs.declared.claim_error.ClaimError.TheVariants as claiming
+use Rattle.claim_text.specs.Reading.{has_word}
+use Rattle.claim_text.proofs.Told.{claims_told}
 use Rattle.fault_laws.proofs.Faults.{faults_have_lines}
 use Rattle.fault_laws.specs.Laws.{FaultsHaveLines}
 use Rattle.fixed_point.specs.declared.verdict.Verdict.{Verdict}
@@ -72,6 +77,8 @@ abbrev pub IsTold : Refusal → Type 0
 IsTold (spec_refused fault) = IsOfSource fault
 IsTold (code_refused fault) = fault ≢ imaging.NoMemory
 IsTold (entry_refused fault) = fault ≢ entering.NoMemory
+IsTold (table_refused fault) = fault ≢ tabling.NoMemory
+IsTold (claims_refused fault) = fault ≢ claiming.NoMemory
 IsTold _ = Unit {0}
 
 abbrev pub IsToldIn : {A : Type 0} → Result A Refusal → Type 0
@@ -119,7 +126,7 @@ module _ {E W N C : Type 0} (domain : DomainOf E W N C) where
   stops_told p _ is = absurd is
 
   refused_told : (spec : Spec) (image : Image) (base bytes : List ℕ) (x : Refusal) → IsRefused domain spec image base bytes x → IsTold x
-  refused_told spec image base bytes x (faulty is) = tt
+  refused_told spec image base bytes x (faulty {error = e} is) = table_told domain.Reads domain.word_in spec base image bytes e is
   refused_told spec image base bytes x (left_open table ends is first) = tt
 
   judged_told : (p : Problem) (image : Image) (base bytes : List ℕ) (found : Outcome) → Judges domain p image base bytes found → IsToldIn found
@@ -145,21 +152,21 @@ module _ {E W N C : Type 0} (domain : DomainOf E W N C) where
 
   claimed_told : (p : Problem) (image : Image) (base bytes said : List ℕ) (found : Outcome) → Claims domain p image base bytes said found → IsToldIn found
   claimed_told p image base bytes said found (of_claims.refused {refusal = x} is) = refused_told p.spec image base bytes x is
-  claimed_told p image base bytes said found (of_claims.unread table is e) = tt
+  claimed_told p image base bytes said found (of_claims.unread {error = x} table is e) = claims_told domain.telling (has_word image) p.spec said x e
   claimed_told p image base bytes said found (of_claims.judged table all is e by) = by_verdict_told _ (verdict_of (analysis domain p) table) found by
 
   -- where blocks may be left open
   open_judged_told : (p : Problem) (image : Image) (base bytes : List ℕ) (found : Outcome) → JudgesOpen domain p image base bytes found → IsToldIn found
-  open_judged_told p image base bytes found (of_open_checks.refused is) = tt
+  open_judged_told p image base bytes found (of_open_checks.refused {error = e} is) = table_told domain.Reads domain.word_in p.spec base image bytes e is
   open_judged_told p image base bytes found (of_open_checks.judged table ends x is) = verdict_told x
 
   open_sliced_told : (p : Problem) (image : Image) (base bytes : List ℕ) (at : ℕ) (asked : Asked) (found : Outcome) → SlicesOpen domain p image base bytes at asked found → IsToldIn found
-  open_sliced_told p image base bytes at asked found (of_open_slices.refused is) = tt
+  open_sliced_told p image base bytes at asked found (of_open_slices.refused {error = e} is) = table_told domain.Reads domain.word_in p.spec base image bytes e is
   open_sliced_told p image base bytes at asked found (of_open_slices.judged table ends x is by) = by_verdict_told _ x found by
 
   open_claimed_told : (p : Problem) (image : Image) (base bytes said : List ℕ) (found : Outcome) → ClaimsOpen domain p image base bytes said found → IsToldIn found
-  open_claimed_told p image base bytes said found (of_open_claims.refused is) = tt
-  open_claimed_told p image base bytes said found (of_open_claims.unread table ends is e) = tt
+  open_claimed_told p image base bytes said found (of_open_claims.refused {error = e} is) = table_told domain.Reads domain.word_in p.spec base image bytes e is
+  open_claimed_told p image base bytes said found (of_open_claims.unread {error = x} table ends is e) = claims_told domain.telling (has_word image) p.spec said x e
   open_claimed_told p image base bytes said found (of_open_claims.judged table ends x all is e by) = by_verdict_told _ x found by
 
   done_told : (image : Image) (base : List ℕ) (task : Task) (refusal : Refusal) → Comes domain image base task (Err refusal) → IsTold refusal
@@ -168,7 +175,7 @@ module _ {E W N C : Type 0} (domain : DomainOf E W N C) where
   done_told image base (tasks.measure p) refusal is = stops_told p refusal is
   done_told image base (tasks.check p bytes) refusal is = judged_told p image base bytes (Err refusal) is
   done_told image base (tasks.check_open p bytes) refusal is = open_judged_told p image base bytes (Err refusal) is
-  done_told image base (tasks.convert spec bytes) refusal (conversions.refused is) = tt
+  done_told image base (tasks.convert spec bytes) refusal (conversions.refused {error = e} is) = table_told domain.Reads domain.word_in spec base image bytes e is
   done_told image base (tasks.slice p bytes at asked) refusal is = sliced_told p image base bytes at asked (Err refusal) is
   done_told image base (tasks.slice_open p bytes at asked) refusal is = open_sliced_told p image base bytes at asked (Err refusal) is
   done_told image base (tasks.claims_open p bytes said) refusal is = open_claimed_told p image base bytes said (Err refusal) is

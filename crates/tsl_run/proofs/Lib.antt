@@ -5,6 +5,7 @@ pub mod Exact
 pub mod Exists
 pub mod Faults
 pub mod Giving
+pub mod Lines
 pub mod Others
 pub mod Parts
 pub mod Tables

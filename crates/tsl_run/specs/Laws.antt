@@ -1,10 +1,11 @@
 -- What holds of what is owed, and of how a run ends.
-use Rattle.std.specs.Prelude.{◌≡◌, ◌⊎◌, ℕ, List, Ok, Option, Some, IsTrue}
+use Rattle.std.specs.Prelude.{◌≡◌, ◌≢◌, ◌⊎◌, ℕ, List, [], Ok, Err, Option, Some, IsTrue}
 use Rattle.tsl_io.specs.Faults.{RoseByOne}
 use Rattle.tsl_io.specs.InputState.{InputState}
 use Rattle.tsl_io.specs.SinkState.{SinkState}
 use Rattle.run_steps.specs.declared.status.Status.{Status}
 use Rattle.run_steps.specs.declared.status.Status.TheVariants as s
+use Rattle.run_steps.specs.Outcome.{Refusal, line_of}
 use Rattle.command_words.specs.Requests.{Request, analyse, convert}
 use Rattle.command_words.specs.Words.{asked}
 use Rattle.analysis_domains.specs.Laws.{AreTextsOfOne}
@@ -14,6 +15,7 @@ use Rattle.tsl_run.specs.Output.{Ends}
 use Rattle.run_steps.specs.Reading.{Held, Holds}
 use Rattle.table_inputs.specs.Inputs.{Coded, CodedOf, Posed, PosedOf}
 use Rattle.tsl_run.specs.Owed.{Owes}
+use Rattle.tsl_run.specs.Possible.{IsPossible}
 use Rattle.tsl_run.specs.Words.{has_one_text}
 
 -- The two texts are one; where a table is asked for, both may be texts of one table of the specification and the code that are held.
@@ -44,3 +46,7 @@ EndsFollow = (words : List (List ℕ)) (old new : InputState) (sink_old sink_new
 abbrev pub ExactAnswers : Type 0
 ExactAnswers = (words : List (List ℕ)) (old new : InputState) (sink_old sink_new : SinkState) (result : Status)
     → Follows words old new sink_old sink_new result → IsExact words old new sink_old sink_new result
+
+-- The line of a refusal that is possible is not the empty one.
+abbrev pub RefusalsHaveLines : Type 0
+RefusalsHaveLines = (what : Option Request) (refusal : Refusal) → IsPossible what (Err refusal) → line_of (Err refusal) ≢ []

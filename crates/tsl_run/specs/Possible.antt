@@ -3,6 +3,7 @@ use Rattle.std.specs.Prelude.{◌≡◌, ◌≢◌, ℕ, List, Option, Some, Non
 use Rattle.command_words.specs.Requests.{AnalyseRequest, CallRequest, CheckRequest, ClaimsRequest, ConvertRequest, EmulateRequest, Request, SliceRequest, StressRequest, call, emulate, analyse, check, convert, list, slice, claims, stress}
 use Rattle.command_words.specs.Words.{asked}
 use Rattle.claim_faults.specs.declared.claim_error.ClaimError.{ClaimError}
+use Rattle.claim_faults.specs.declared.claim_error.ClaimError.TheVariants as claiming
 use Rattle.function_calls.specs.Calls as calls
 use Rattle.function_calls.specs.Calls.{call_end, value_line}
 use Rattle.function_calls.specs.Laws.{IsWritten}
@@ -19,6 +20,7 @@ use Rattle.tsl_parser.specs.declared.ParseError.TheVariants as parser
 use Rattle.tsl_values.specs.States.{State}
 use Rattle.tsl_values.specs.Values.{Val}
 use Rattle.table_faults.specs.declared.table_error.TableError.{TableError}
+use Rattle.table_faults.specs.declared.table_error.TableError.TheVariants as tabling
 use Rattle.run_steps.specs.declared.rejection.Rejection.{Rejection}
 use Rattle.run_steps.specs.declared.spec_fault.SpecFault.{SpecFault}
 use Rattle.run_steps.specs.declared.spec_fault.SpecFault.TheVariants.{Checking, Lexing, Parsing}
@@ -126,7 +128,7 @@ IsOfSource (Lexing error) = error ≢ lexer.NoMemory
 IsOfSource (Parsing error) = error ≢ parser.NoMemory
 IsOfSource (Checking error) = error ≢ checker.NoMemory
 
--- An outcome of what is asked for. Want of memory is none: a fault of a specification, of code or of an entry is one that has a line.
+-- An outcome of what is asked for. Want of memory is none: each fault that is refused has a line.
 pub data IsPossible (what : Option Request) : Outcome → Type 0 where
   answered : {answer : Answer} → Answers what answer → IsPossible what (Ok answer)
   bad_words : MayBeBad what → IsPossible what (Err o.bad_words)
@@ -138,8 +140,8 @@ pub data IsPossible (what : Option Request) : Outcome → Type 0 where
   calls_spent : IsPossible what (Err o.calls_spent)
   undecodable_at : {at word : ℕ} → MayComeTo what (Err (o.undecodable_at at word)) → IsPossible what (Err (o.undecodable_at at word))
   too_many_targets : {at : ℕ} {shown : List ℕ} → MayComeTo what (Err (o.too_many_targets at shown)) → IsPossible what (Err (o.too_many_targets at shown))
-  table_refused : {fault : TableError} → MayComeTo what (Err (o.table_refused fault)) → IsPossible what (Err (o.table_refused fault))
-  claims_refused : {fault : ClaimError} → MayComeTo what (Err (o.claims_refused fault)) → IsPossible what (Err (o.claims_refused fault))
+  table_refused : {fault : TableError} → MayComeTo what (Err (o.table_refused fault)) → fault ≢ tabling.NoMemory → IsPossible what (Err (o.table_refused fault))
+  claims_refused : {fault : ClaimError} → MayComeTo what (Err (o.claims_refused fault)) → fault ≢ claiming.NoMemory → IsPossible what (Err (o.claims_refused fault))
   rejected : {rejection : Rejection} → MayComeTo what (Err (o.rejected rejection)) → IsPossible what (Err (o.rejected rejection))
 
 -- A text is a line of this status for these words.

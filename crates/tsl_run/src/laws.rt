@@ -1,6 +1,6 @@
 //! What holds of what a run owes, and of how it ends. These functions do nothing: their contracts are laws.
 
-ghost use Rattle.tsl_run.specs.Laws.{EndsFollow, ExactAnswers, OneAnswer, SomeAnswer};
+ghost use Rattle.tsl_run.specs.Laws.{EndsFollow, ExactAnswers, OneAnswer, RefusalsHaveLines, SomeAnswer};
 
 /// A run owes one status at most, and one text with it, unless that is a table over relations: of such a table it owes each text.
 pub fn one_answer()
@@ -23,4 +23,9 @@ pub fn ends_follow()
 /// Where one text is owed, it is what is written.
 pub fn exact_answers()
     ensures { ExactAnswers }
+{}
+
+/// A refusal that a run may come to has a line to write: want of memory, whose line is empty, is none.
+pub fn refusals_have_lines()
+    ensures { RefusalsHaveLines }
 {}

@@ -1,0 +1,30 @@
+use Rattle.std.proofs.Common.{inr}
+use Rattle.std.specs.Prelude.{IsTrue}
+use Rattle.command_words.specs.Bases.{base_text}
+use Rattle.spec_types.specs.Views.{specification}
+use Rattle.run_steps.specs.Outcomes.{answer_of}
+use Rattle.base_tasks.specs.Comes.{OwnComes}
+use Rattle.domain_tasks.specs.Read.{task_of}
+use Rattle.base_tasks.proofs.Asked.{asked_few, asked_states}
+use Rattle.base_tasks.proofs.Bases.{gives_some}
+use Rattle.base_tasks.proofs.over.in_domain.Goals as goal
+
+pub made-requires-clause-states : goal.made-requires-clause-states
+made-requires-clause-states g c = let s = c.args.it.now in asked_states (specification s.spec.now) s.task c.requires.asked
+
+pub made-requires-clause-few : goal.made-requires-clause-few
+made-requires-clause-few g c = let s = c.args.it.now in asked_few (specification s.spec.now) s.task c.requires.asked
+
+pub done_in-requires-clause-joins : goal.done_in-requires-clause-joins
+done_in-requires-clause-joins g c = g.met.D.NamedDomain.joins c.requires.may
+
+pub returns-clause-gives : goal.returns-clause-gives
+returns-clause-gives g c =
+    let s = c.args.it.now in
+    let spec = specification s.spec.now in
+    gives_some c.in_ok-domain.domain (λ d. IsTrue (g.D.Domain.is_for d spec))
+    (λ d. OwnComes (record { base = g.D.B.Base.algebra; cap = g.D.B.Base.CAP; elements = g.D.Domain.elements d; meaning = g.D.Domain.meaning d; view = g.D.Domain.view; IsText = g.D.ElemText.IsText; Reads = g.D.ReadElement.Reads d; word_in = g.D.ReadElement.word_in d; word_text = g.D.ElemText.word_text }) (g.D.ClaimElem.telling d) s.image.now (base_text c.args.base) (task_of spec s.image.now s.task))
+    answer_of c.done_in.result c.in_ok-domain.ensures c.done_in.ensures.gives
+
+pub returns-clause-work : goal.returns-clause-work
+returns-clause-work g c = inr (c.in_ok-domain.domain, c.in_ok-domain.ensures, c.done_in.ensures.work)

@@ -1,0 +1,3 @@
+pub mod OwningEndings
+pub mod OwningOpen
+pub mod Working
