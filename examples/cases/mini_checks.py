@@ -5,7 +5,7 @@ of at most one number with the places that may have written them, and `bits`, of
 """
 import re
 
-from mini_model import BASES, MODULUS, Model, Sets, cell
+from mini_model import BASES, MODULUS, Model, Sets, Strides, cell
 
 
 class Definitions:
@@ -143,6 +143,9 @@ class Checked(Model):
             word = part.any
         elif text.startswith("{"):
             word = frozenset(int(number, 16) for number in text[1:-1].split(",") if number)
+        elif isinstance(part, Strides):
+            low, high, step = re.fullmatch(r"(\w+)\.\.(\w+)(?:\+(\w+))?", text).groups()
+            word = (int(low, 16), int(step or "1", 16), int(high, 16))
         elif ".." in text:
             word = tuple(int(end, 16) for end in text.split(".."))
         else:
@@ -224,6 +227,9 @@ class Checked(Model):
             part, word = part.words, word[0]
         if isinstance(part, Sets):
             return word is not None and all(low <= number <= high for number in word)
+        if isinstance(part, Strides):
+            numbers = part.members(word)
+            return low <= numbers[0] and numbers[-1] <= high
         if isinstance(part, Bits):
             return low <= word[0] and word[0] | word[1] <= high
         return low <= word[0] and word[1] <= high

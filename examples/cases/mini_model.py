@@ -1,9 +1,11 @@
-"""A model of analyses of the machine `MINI` of the cases, over sets, intervals and pairs of them, left open or not.
+"""A model of analyses of the machine `MINI` of the cases, over sets, intervals, strided intervals and pairs of them, left open or not.
 
 It was written from docs/FORMATS.md alone, and shares nothing with the program. The machine has words of 32 bits, a counter and four registers:
 Set(d, v) puts a number, Add(d, a, b) a sum, and Jz(a, t) goes to t where a register is 0. An element is a table of cells, with the cell `*` for the
 registers without one of their own; a cell has one word for each part of the base.
 """
+from math import gcd
+
 MODULUS = 2**32
 
 
@@ -86,7 +88,83 @@ class Intervals:
         return "any" if x == self.any else f"{x[0]:08x}..{x[1]:08x}"
 
 
-BASES = {"const": Sets(1), "kset": Sets(16), "interval": Intervals()}
+class Strides:
+    """Sets of at most 16 numbers, and strided intervals of more, as a least number, a step and a greatest number."""
+
+    any = (0, 1, MODULUS - 1)
+    most = 16
+
+    def of(self, numbers):
+        numbers = frozenset(numbers)
+        return numbers if len(numbers) <= self.most else self.stretch(*self.span(numbers))
+
+    def between(self, low, high):
+        return self.stretch(low, 1, high)
+
+    def stretch(self, low, step, high):
+        """The word of the numbers low, low + step, .. that are at most high."""
+        high = low + (high - low) // step * step if step else low
+        return (low, step, high) if step and (high - low) // step >= self.most else frozenset(range(low, high + 1, step or 1))
+
+    def span(self, x):
+        """The least number, the step and the greatest number of the least strided interval around a word."""
+        return (min(x), gcd(*(n - min(x) for n in x)), max(x)) if isinstance(x, frozenset) else x
+
+    def hull(self, x, y):
+        (a, s, b), (c, t, d) = self.span(x), self.span(y)
+        return min(a, c), gcd(s, t, abs(a - c)), max(b, d)
+
+    def are_sets(self, x, y):
+        return isinstance(x, frozenset) and isinstance(y, frozenset)
+
+    def sum(self, x, y):
+        if self.are_sets(x, y):
+            return self.of({(a + b) % MODULUS for a in x for b in y})
+        (a, s, b), (c, t, d) = self.span(x), self.span(y)
+        low, step, high = a + c, gcd(s, t), b + d
+        if low // MODULUS == high // MODULUS:
+            return self.stretch(low % MODULUS, step, high % MODULUS)
+        step = gcd(step, MODULUS)
+        return self.stretch(low % step, step, MODULUS - 1)
+
+    def join(self, x, y):
+        return self.of(x | y) if self.are_sets(x, y) else self.stretch(*self.hull(x, y))
+
+    def absorbs(self, x, y):
+        if self.are_sets(x, y):
+            return y <= x
+        if isinstance(x, frozenset):
+            return False
+        (a, s, b), (c, t, d) = x, self.span(y)
+        return a <= c and d <= b and t % s == 0 and (c - a) % s == 0
+
+    def widen(self, x, y):
+        if self.absorbs(x, y):
+            return x
+        if self.are_sets(x, y) and len(x | y) <= self.most:
+            return x | y
+        (a, _, b), (c, _, d), (_, step, _) = self.span(x), self.span(y), self.hull(x, y)
+        low, high = a if a <= c else c % step, b if d <= b else MODULUS - 1
+        return low, step, low + (high - low) // step * step
+
+    def may_be_zero(self, x):
+        if isinstance(x, frozenset):
+            return {a == 0 for a in x}
+        return {True, False} if x[0] == 0 else {False}
+
+    def members(self, x):
+        return sorted(x) if isinstance(x, frozenset) else range(x[0], x[2] + 1, x[1])
+
+    def has(self, x, number):
+        return number in self.members(x)
+
+    def text(self, x):
+        if isinstance(x, frozenset):
+            return "{" + ",".join(f"{number:08x}" for number in sorted(x)) + "}"
+        return "any" if x == self.any else f"{x[0]:08x}..{x[2]:08x}" + (f"+{x[1]:08x}" if x[1] != 1 else "")
+
+
+BASES = {"const": Sets(1), "kset": Sets(16), "interval": Intervals(), "strides": Strides()}
 
 
 class Model:

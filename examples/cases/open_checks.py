@@ -260,4 +260,5 @@ def main():
     relations()
 
 
-main()
+if __name__ == "__main__":
+    main()

@@ -19,12 +19,22 @@ use std::rc::Rc;
 
 /// Listed cells, ascending by their keys, and a rest for every other key. It describes each concrete map whose cell at
 /// each key the listed cell describes, or else the rest.
-#[derive(Drop)]
 #[derive_where(Debug)]
 pub struct AMap<B: Base> {
     pub(crate) width: u32,
     pub(crate) rest: CellOf<B>,
     pub(crate) cells: Rc<Vec<(u64, CellOf<B>)>>,
+}
+
+/// Written out, so that there is one for each base, and not one in each crate that lets a map go.
+impl<B: Base> Drop for AMap<B> {
+    fn drop(self) {
+        let AMap {
+            width: _width,
+            rest: _rest,
+            cells: _cells,
+        } = self;
+    }
 }
 
 impl<B: Base> Model for AMap<B> {

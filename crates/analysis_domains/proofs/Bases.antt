@@ -1,5 +1,5 @@
--- The sixteen bases.
-use Rattle.std.proofs.Common.{◌≡◌, ◌⊎◌, ℕ, List, true, IsTrue, inl, inr, refl}
+-- The bases.
+use Rattle.std.proofs.Common.{◌≡◌, ◌⊎◌, ℕ, List, [], true, IsTrue, inl, inr, refl}
 use Rattle.std.specs.Prelude.{codes, if◌then◌else◌, ◌==◌}
 use Rattle.kset_base.specs.Meaning.{kset}
 use Rattle.kset_base.specs.Instance.{kset_laws}
@@ -7,6 +7,8 @@ use Rattle.interval_base.specs.Meaning.{interval}
 use Rattle.interval_base.specs.Instance.{interval_laws}
 use Rattle.bits_base.specs.Meaning.{bits}
 use Rattle.bits_base.specs.Instance.{bits_laws}
+use Rattle.strides_base.specs.Meaning.{strides}
+use Rattle.strides_base.specs.Instance.{strides_laws}
 use Rattle.defuse_base.specs.Meaning.{defuse}
 use Rattle.defuse_base.specs.Instance.{defuse_laws}
 use Rattle.command_words.specs.declared.bases.BaseName.{BaseName}
@@ -18,16 +20,16 @@ use Rattle.domain_laws.specs.States.{StateType, has_states, state_type}
 use Rattle.transfer_laws.specs.Problem.{IsWellPosed, Problem}
 use Rattle.pair_calls.specs.Domain.{may_pair}
 use Rattle.accepted_states.proofs.States.{accepted_have_states}
-use Rattle.base_text.specs.Readings.{bits_readings, defuse_readings, interval_readings, set_readings}
-use Rattle.base_text.specs.Texts.{bits_texts, defuse_texts, interval_texts, set_texts}
+use Rattle.base_text.specs.Readings.{bits_readings, defuse_readings, interval_readings, set_readings, strides_readings}
+use Rattle.base_text.specs.Texts.{bits_texts, defuse_texts, interval_texts, set_texts, strides_texts}
 use Rattle.run_steps.specs.Outcome.{Outcome}
-use Rattle.analysis_domains.specs.Domains.{DomainOf, definitions, intervals, known_bits, pair_of, relations, sets}
+use Rattle.analysis_domains.specs.Domains.{DomainOf, definitions, intervals, known_bits, pair_of, relations, sets, strided_sets}
 use Rattle.analysis_domains.specs.Analyses.{IsTable}
 use Rattle.analysis_domains.specs.Laws.{AnalysesAreOne, AnalysesHaveSome, AreOne, AreTextsOfOne, OpenAnalysesAreOne, OpenAnalysesHaveSome, of_open_table, of_table}
 use Rattle.analysis_domains.specs.Named.{Analysed, AnalysedOpen, AnyDomain, domain_of, has_relations}
 use Rattle.analysis_domains.specs.OpenAnalyses.{IsOpenTable}
 use Rattle.analysis_domains.proofs.Lawful.{IsLawful, IsPlain, cells_are_plain, pairs_are_lawful, pairs_are_plain, relations_are_lawful}
-use Rattle.analysis_domains.proofs.Read.{bits_are_read, definitions_are_read, intervals_are_read, sets_are_read}
+use Rattle.analysis_domains.proofs.Read.{bits_are_read, definitions_are_read, intervals_are_read, sets_are_read, strided_are_read}
 use Rattle.analysis_domains.proofs.OpenOutcomes.{has_open_outcome, open_ends_are_alike, open_outcomes_are_alike, open_outcomes_are_one, open_tables_are_alike}
 use Rattle.analysis_domains.proofs.Outcomes.{has_outcome, outcomes_are_alike, outcomes_are_one, tables_are_alike}
 
@@ -53,6 +55,9 @@ module _ (spec : Spec) (has : has_states spec ≡ true) where
 
   of_bits : IsPlain (known_bits t) spec
   of_bits = cells_are_plain spec has bits tt (codes "bits") bits_texts bits_readings bits_laws refl refl (bits_are_read spec has (codes "bits"))
+
+  of_strided : IsPlain (strided_sets t) spec
+  of_strided = cells_are_plain spec has strides [] (codes "strides") strides_texts strides_readings strides_laws refl refl (strided_are_read spec has (codes "strides"))
 
   of_definitions : IsPlain (definitions t) spec
   of_definitions = cells_are_plain spec has defuse tt (codes "defuse") defuse_texts defuse_readings defuse_laws refl refl (definitions_are_read spec has (codes "defuse"))
@@ -87,6 +92,9 @@ module _ (spec : Spec) (has : has_states spec ≡ true) where
   all_known b.KSetBits = plain_pair b.KSetBits (sets t 16) (known_bits t) (of_sets 16) of_bits refl
   all_known b.IntervalBits = plain_pair b.IntervalBits (intervals t) (known_bits t) of_intervals of_bits refl
   all_known b.BitsDefUse = plain_pair b.BitsDefUse (known_bits t) (definitions t) of_bits of_definitions refl
+  all_known b.Strides = inl of_strided
+  all_known b.StridesAffine = related_pair b.StridesAffine (strided_sets t) (relations t) refl of_strided.lawful of_relations refl
+  all_known b.StridesDefUse = plain_pair b.StridesDefUse (strided_sets t) (definitions t) of_strided of_definitions refl
 
 -- ---- analyses
 

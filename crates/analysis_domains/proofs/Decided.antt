@@ -5,6 +5,8 @@ use Rattle.base_trait.specs.Identity.{IsIdentity, IsReflexive, same_list, same_l
 use Rattle.base_trait.proofs.Lists.{number_itself, number_told}
 use Rattle.interval_base.specs.declared.range.Range.{Range}
 use Rattle.bits_base.specs.declared.known.Known.{Known}
+use Rattle.strides_base.specs.Views as strided
+use Rattle.strides_base.specs.Words as strided_words
 use Rattle.affine_base.specs.Same.{same_word_is, same_word_itself}
 use Rattle.affine_base.specs.Words.{same_word}
 use Rattle.affine_base.specs.declared.word.Word.{Word}
@@ -67,6 +69,9 @@ bits x y = from (numbers x.v y.v) (numbers x.m y.m)
     from (inl e) (inr apart) = inr (λ one. apart (ap (λ (z : Known). z.m) one))
     from (inr apart) other = inr (λ one. apart (ap (λ (z : Known). z.v) one))
 
+strides : AreDecided strided_words.Word
+strides = by_test strided.same_word strided.same_word_itself strided.same_word_is
+
 forms : AreDecided Word
 forms = by_test same_word same_word_itself same_word_is
 
@@ -95,6 +100,9 @@ words_are_decided t b.Bits = bits
 words_are_decided t b.KSetBits = pairs sets bits
 words_are_decided t b.IntervalBits = pairs ranges bits
 words_are_decided t b.BitsDefUse = pairs bits sets
+words_are_decided t b.Strides = strides
+words_are_decided t b.StridesAffine = pairs strides forms
+words_are_decided t b.StridesDefUse = pairs strides sets
 
 -- ---- endings
 

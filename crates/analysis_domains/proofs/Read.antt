@@ -1,8 +1,9 @@
 -- What is read of lines in each domain.
-use Rattle.std.proofs.Common.{◌≡◌, ℕ, true, List}
+use Rattle.std.proofs.Common.{◌≡◌, ℕ, true, List, []}
 use Rattle.kset_base.specs.Meaning.{kset}
 use Rattle.interval_base.specs.Meaning.{interval}
 use Rattle.bits_base.specs.Meaning.{bits}
+use Rattle.strides_base.specs.Meaning.{strides}
 use Rattle.defuse_base.specs.Meaning.{defuse}
 use Rattle.spec_types.specs.Specification.{Spec}
 use Rattle.tsl_values.specs.States.{State}
@@ -11,9 +12,9 @@ use Rattle.fixed_point.specs.Pairs.{paired}
 use Rattle.domain_laws.specs.States.{has_states, state_type}
 use Rattle.cell_laws.specs.Cells.{cells}
 use Rattle.affine_calls.specs.Calls.{affine_elements, cell_count}
-use Rattle.base_text.specs.Tell.{bits_tell, defuse_tell, intervals_tell, sets_tell}
-use Rattle.base_text.specs.Texts.{bits_texts, defuse_texts, interval_texts, set_texts}
-use Rattle.base_text.specs.Readings.{bits_readings, defuse_readings, interval_readings, set_readings}
+use Rattle.base_text.specs.Tell.{bits_tell, defuse_tell, intervals_tell, sets_tell, strides_tell}
+use Rattle.base_text.specs.Texts.{bits_texts, defuse_texts, interval_texts, set_texts, strides_texts}
+use Rattle.base_text.specs.Readings.{bits_readings, defuse_readings, interval_readings, set_readings, strides_readings}
 use Rattle.element_readers.specs.Reading.{AffineRead, CellsRead, ElementReading, PairRead}
 use Rattle.element_readers.specs.Laws.{ReadingLaws}
 use Rattle.element_readers.proofs.Told as told
@@ -27,6 +28,9 @@ module _ (spec : Spec) (has : has_states spec ≡ true) where
 
   pub bits_are_read : (name : List ℕ) → ReadingLaws (CellsRead bits_readings 256 name) (cells bits tt 256 (state_type spec).fields) spec
   bits_are_read name = told.cells_are_read bits bits_texts bits_readings bits_tell 256 tt name spec has
+
+  pub strided_are_read : (name : List ℕ) → ReadingLaws (CellsRead strides_readings 256 name) (cells strides [] 256 (state_type spec).fields) spec
+  strided_are_read name = told.cells_are_read strides strides_texts strides_readings strides_tell 256 [] name spec has
 
   pub definitions_are_read : (name : List ℕ) → ReadingLaws (CellsRead defuse_readings 256 name) (cells defuse tt 256 (state_type spec).fields) spec
   definitions_are_read name = told.cells_are_read defuse defuse_texts defuse_readings defuse_tell 256 tt name spec has

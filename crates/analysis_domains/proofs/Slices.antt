@@ -137,6 +137,9 @@ stamped_is t b.Bits h = cc
 stamped_is t b.KSetBits h = cc
 stamped_is t b.IntervalBits h = cc
 stamped_is t b.BitsDefUse h = refl
+stamped_is t b.Strides h = cc
+stamped_is t b.StridesAffine h = cc
+stamped_is t b.StridesDefUse h = refl
 
 pub slices_are_one : SlicesAreOne
 slices_are_one image p base bytes at asked found other posed h k =

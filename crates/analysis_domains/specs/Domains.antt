@@ -1,5 +1,5 @@
 -- Domains as definitions see them, for states of a type.
-use Rattle.std.specs.Prelude.{ℕ, ◌==◌, List, max, Option, codes, if◌then◌else◌}
+use Rattle.std.specs.Prelude.{ℕ, ◌==◌, List, [], max, Option, codes, if◌then◌else◌}
 use Rattle.base_trait.specs.Algebra.{Algebra}
 use Rattle.base_trait.specs.declared.uses.Stamped.{Stamped}
 use Rattle.kset_base.specs.Meaning.{kset}
@@ -7,6 +7,8 @@ use Rattle.interval_base.specs.Meaning.{interval}
 use Rattle.interval_base.specs.declared.range.Range.{Range}
 use Rattle.bits_base.specs.Meaning.{bits}
 use Rattle.bits_base.specs.declared.known.Known.{Known}
+use Rattle.strides_base.specs.Meaning.{strides}
+use Rattle.strides_base.specs.Words as strided
 use Rattle.defuse_base.specs.Meaning.{defuse}
 use Rattle.affine_base.specs.Meaning.{affine}
 use Rattle.affine_base.specs.declared.word.Word.{Word}
@@ -23,8 +25,8 @@ use Rattle.cell_laws.specs.Calls.{cell_calls}
 use Rattle.cell_laws.specs.Cells.{cells}
 use Rattle.affine_calls.specs.Calls.{affine_calls, affine_elements, cell_count}
 use Rattle.pair_calls.specs.Domain.{pair_meaning}
-use Rattle.base_text.specs.Readings.{Readings, bits_readings, defuse_readings, interval_readings, set_readings}
-use Rattle.base_text.specs.Texts.{Texts, bits_texts, defuse_texts, interval_texts, set_texts}
+use Rattle.base_text.specs.Readings.{Readings, bits_readings, defuse_readings, interval_readings, set_readings, strides_readings}
+use Rattle.base_text.specs.Texts.{Texts, bits_texts, defuse_texts, interval_texts, set_texts, strides_texts}
 use Rattle.base_text.specs.Words.{affine_text, pair_text}
 use Rattle.element_text.specs.Parts.{AffineText, CellsText, ElementText, PairText}
 use Rattle.element_readers.specs.Reading.{AffineRead, CellsRead, ElementReading, PairRead}
@@ -88,6 +90,10 @@ module _ (t : StateType) where
 
   abbrev pub known_bits : DomainOf (Parts Known (Unit {0})) Known (Unit {0}) (Unit {0})
   known_bits = cells_of bits tt 256 (codes "bits") bits_texts bits_readings
+
+  -- small sets and strided intervals, which are widened with no stops
+  abbrev pub strided_sets : DomainOf (Parts strided.Word (Unit {0})) strided.Word (Unit {0}) (List ℕ)
+  strided_sets = cells_of strides [] 256 (codes "strides") strides_texts strides_readings
 
   -- definitions and uses
   abbrev pub definitions : DomainOf (Parts (Option (List ℕ)) (List Stamped)) (Option (List ℕ)) (List Stamped) (Unit {0})

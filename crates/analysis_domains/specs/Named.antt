@@ -17,7 +17,7 @@ use Rattle.analysis_domains.specs.OpenClaims.{HoldsOpenClaims}
 use Rattle.analysis_domains.specs.OpenSlices.{HoldsOpenChains}
 use Rattle.analysis_domains.specs.Slices.{HoldsChains}
 use Rattle.analysis_domains.specs.Tasks.{Comes, Task, analyse, analyse_open, check, check_open, claims, claims_open, convert, measure, slice, slice_open, spec_of}
-use Rattle.analysis_domains.specs.Domains.{DomainOf, definitions, intervals, known_bits, pair_of, relations, sets}
+use Rattle.analysis_domains.specs.Domains.{DomainOf, definitions, intervals, known_bits, pair_of, relations, sets, strided_sets}
 
 -- A domain, with the types of its elements, words, notes and contexts.
 pub record AnyDomain : Type 1 where
@@ -48,6 +48,9 @@ domain_of t b.Bits = any (known_bits t)
 domain_of t b.KSetBits = any (pair_of (sets t 16) (known_bits t))
 domain_of t b.IntervalBits = any (pair_of (intervals t) (known_bits t))
 domain_of t b.BitsDefUse = any (pair_of (known_bits t) (definitions t))
+domain_of t b.Strides = any (strided_sets t)
+domain_of t b.StridesAffine = any (pair_of (strided_sets t) (relations t))
+domain_of t b.StridesDefUse = any (pair_of (strided_sets t) (definitions t))
 
 -- The outcome of what is asked over a base, with the states of its specification.
 abbrev pub Done : Image → Task → BaseName → Outcome → Type 0
@@ -123,6 +126,7 @@ has_relations b.Affine = true
 has_relations b.KSetAffine = true
 has_relations b.IntervalAffine = true
 has_relations b.AffineDefUse = true
+has_relations b.StridesAffine = true
 has_relations _ = false
 
 -- the affine relations that an element is, or has as a part
@@ -131,4 +135,5 @@ relations_in t b.Affine x = Some x
 relations_in t b.KSetAffine x = Some x.1
 relations_in t b.IntervalAffine x = Some x.1
 relations_in t b.AffineDefUse x = Some x.0
+relations_in t b.StridesAffine x = Some x.1
 relations_in t _ x = None

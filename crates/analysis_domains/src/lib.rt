@@ -1,6 +1,6 @@
 //! The domains that the program names, and what an analysis in each comes to.
 //!
-//! Each of the sixteen bases stands for a domain (specs/Named): cells of sets, intervals, known bits or definitions; affine relations;
+//! Each base stands for a domain (specs/Named): cells of sets, intervals, known bits, strided intervals or definitions; affine relations;
 //! or two of these side by side. specs/Domains has each as definitions see it: its words, its elements and the calls on them, for the states
 //! of any specification, the texts of both, and what elements tell of claims. A `NamedDomain` of the code can be made for each machine; that each is one of these, `base_tasks` shows.
 //!

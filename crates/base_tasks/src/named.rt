@@ -28,48 +28,10 @@ use state_domain::StateDomain;
 use std::alloc::Global;
 use std::sync::ledger::Ledger;
 use step_counter::Steps;
-
-/// A base whose words share nothing.
-trait Unshared: NamedBase {
-    ghost shared: { Self.Ctx };
-
-    ghost one: { (c : Self.Ctx) → c ≡ shared };
-}
-
-impl<const K: usize> Unshared for KSet<K> {
-    ghost use Rattle.std.specs.Prelude.{refl};
-
-    ghost shared = { tt };
-
-    ghost one = { λ c. refl };
-}
-
-impl Unshared for Interval {
-    ghost use Rattle.std.specs.Prelude.{refl};
-
-    ghost shared = { tt };
-
-    ghost one = { λ c. refl };
-}
-
-impl Unshared for Bits {
-    ghost use Rattle.std.specs.Prelude.{refl};
-
-    ghost shared = { tt };
-
-    ghost one = { λ c. refl };
-}
-
-impl Unshared for DefUse {
-    ghost use Rattle.std.specs.Prelude.{refl};
-
-    ghost shared = { tt };
-
-    ghost one = { λ c. refl };
-}
+use strides_base::Strides;
 
 /// Over cells.
-fn over_cells<'a, 'b, A: Unshared, L: Ledger>(
+fn over_cells<'a, 'b, A: NamedBase, L: Ledger>(
     alloc: Global,
     it: &Subject<'a>,
     base: BaseName,
@@ -84,7 +46,7 @@ fn over_cells<'a, 'b, A: Unshared, L: Ledger>(
 }
 
 /// Over two kinds of cells.
-fn over_both<'a, 'b, A: Unshared, B: Unshared, L: Ledger>(
+fn over_both<'a, 'b, A: NamedBase, B: NamedBase, L: Ledger>(
     alloc: Global,
     it: &Subject<'a>,
     base: BaseName,
@@ -115,7 +77,7 @@ fn over_relations<'a, 'b, L: Ledger>(
 }
 
 /// Over cells, and affine relations.
-fn over_cells_and_relations<'a, 'b, A: Unshared, L: Ledger>(
+fn over_cells_and_relations<'a, 'b, A: NamedBase, L: Ledger>(
     alloc: Global,
     it: &Subject<'a>,
     base: BaseName,
@@ -131,7 +93,7 @@ fn over_cells_and_relations<'a, 'b, A: Unshared, L: Ledger>(
 }
 
 /// Over affine relations, and cells.
-fn over_relations_and_cells<'a, 'b, B: Unshared, L: Ledger>(
+fn over_relations_and_cells<'a, 'b, B: NamedBase, L: Ledger>(
     alloc: Global,
     it: &Subject<'a>,
     base: BaseName,
@@ -174,5 +136,8 @@ pub fn over_base<'a, 'b, L: Ledger>(
         BaseName::KSetBits => over_both::<KSet<16>, Bits, L>(alloc, it, base, steps),
         BaseName::IntervalBits => over_both::<Interval, Bits, L>(alloc, it, base, steps),
         BaseName::BitsDefUse => over_both::<Bits, DefUse, L>(alloc, it, base, steps),
+        BaseName::Strides => over_cells::<Strides, L>(alloc, it, base, steps),
+        BaseName::StridesAffine => over_cells_and_relations::<Strides, L>(alloc, it, base, steps),
+        BaseName::StridesDefUse => over_both::<Strides, DefUse, L>(alloc, it, base, steps),
     }
 }

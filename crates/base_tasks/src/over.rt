@@ -68,9 +68,9 @@ pub(crate) fn in_domain<'a, 'b, D: NamedDomain, L: Ledger>(
 ) -> Result<Answer, Halt<'b>>
     requires may { IsTrue D.may }
     requires asked { IsAsked (specification it.now.spec.now) it.now.task }
-    ensures gives { Gives (λ outcome. (d : D) × IsTrue (D.is_for d (specification it.now.spec.now)) × OwnComes (record { base = D.B.algebra; cap = D.B.CAP; elements = D.elements d; meaning = D.meaning d; view = D.view; IsText = D.IsText; Reads = D.Reads d; word_in = D.word_in d; word_text = D.word_text }) (D.telling d) it.now.image.now (base_text base) (task_of (specification it.now.spec.now) it.now.image.now it.now.task) outcome) answer_of result }
+    ensures gives { Gives (λ outcome. (d : D) × (IsTrue (D.is_for d (specification it.now.spec.now)) × D.HasContext d) × OwnComes (record { base = D.B.algebra; cap = D.B.CAP; elements = D.elements d; meaning = D.meaning d; view = D.view; IsText = D.IsText; Reads = D.Reads d; word_in = D.word_in d; word_text = D.word_text }) (D.telling d) it.now.image.now (base_text base) (task_of (specification it.now.spec.now) it.now.image.now it.now.task) outcome) answer_of result }
     // Either nothing was done, or at most what the domain that was made takes.
-    ensures work { (steps.new ≡ steps.old) ⊎ ((d : D) × IsTrue (D.is_for d (specification it.now.spec.now)) × (OwnWork (record { base = D.B.algebra; cap = D.B.CAP; elements = D.elements d; meaning = D.meaning d; view = D.view; IsText = D.IsText; Reads = D.Reads d; word_in = D.word_in d; word_text = D.word_text }) it.now.image.now (base_text base) (task_of (specification it.now.spec.now) it.now.image.now it.now.task) steps.old steps.new)) }
+    ensures work { (steps.new ≡ steps.old) ⊎ ((d : D) × (IsTrue (D.is_for d (specification it.now.spec.now)) × D.HasContext d) × (OwnWork (record { base = D.B.algebra; cap = D.B.CAP; elements = D.elements d; meaning = D.meaning d; view = D.view; IsText = D.IsText; Reads = D.Reads d; word_in = D.word_in d; word_text = D.word_text }) it.now.image.now (base_text base) (task_of (specification it.now.spec.now) it.now.image.now it.now.task) steps.old steps.new)) }
 {
     let domain = D::made(alloc, it.spec)?;
     done_in::<D, L>(alloc, &domain, it, base, steps)

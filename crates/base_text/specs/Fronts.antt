@@ -1,10 +1,10 @@
 -- Texts with a known front or end, and two numbers with a text between.
-use Rattle.std.proofs.Common.{◌≡◌, ◌<◌, ◌^◌, ◌-◌, ℕ, arith, true, List, ◌++◌, length, take, drop, Some, refl, sym, ap, ◌∙◌}
+use Rattle.std.proofs.Common.{◌≡◌, ◌<◌, ◌^◌, ◌-◌, ℕ, arith, true, List, ◌++◌, length, take, drop, Option, Some, refl, sym, ap, ◌∙◌}
 use Rattle.std.specs.Prelude.{bytes_eq}
 use Rattle.std.proofs.lemmas.List.{length-append, take_at, drop_at, take-append-drop}
 use Rattle.std.proofs.lemmas.Option.{cond_some}
 use Rattle.std.proofs.lemmas.Slice.Eq.{bytes_eq-Decides}
-use Rattle.std.specs.Option.{option_and_then}
+use Rattle.std.specs.Option.{option_and_then, option_zip}
 use Rattle.word_ops.specs.Width.{IsWidth}
 use Rattle.cell_text.specs.Digits.{digits_of}
 use Rattle.base_text.specs.Reading.{before, behind, number_in, two_in}
@@ -39,6 +39,12 @@ before_tells end text front e =
     let parts = cond_some (bytes_eq (drop at text) end) (take at text) front e in
     let ends : drop at text ≡ end = (bytes_eq-Decides (drop at text) end).0 parts.0 in
     ap (λ f. f ++ end) (sym parts.1) ∙ ap (λ r. take at text ++ r) (sym ends) ∙ take-append-drop at text
+
+-- ---- two parts, the first of so many bytes
+
+pub parts_back : {A B : Type 0} (read : List ℕ → Option A) (next : List ℕ → Option B) (n : ℕ) (front rest : List ℕ) (x : A) (y : B) → length front ≡ n → read front ≡ Some x → next rest ≡ Some y
+    → option_zip (read (take n (front ++ rest))) (next (drop n (front ++ rest))) ≡ Some (x, y)
+parts_back read next n front rest x y count e f = rw (take_at front rest n count, drop_at front rest n count, e, f) refl
 
 -- ---- two numbers
 

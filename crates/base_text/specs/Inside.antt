@@ -10,10 +10,13 @@ use Rattle.base_trait.specs.declared.uses.Stamped.TheVariants.{Entry, At}
 use Rattle.base_trait.proofs.Tests.{at_choice}
 use Rattle.interval_base.specs.declared.range.Range.{Range}
 use Rattle.bits_base.specs.declared.known.Known.{Known}
+use Rattle.strides_base.specs.Rows.{range}
+use Rattle.strides_base.specs.Words.{Listed, Strided}
+use Rattle.strides_base.specs.Words as strided
 use Rattle.base_text.specs.Lists.{behind_commas, with_commas}
 use Rattle.base_text.specs.Notes.{stamp_text, stamps_text}
 use Rattle.base_text.specs.Readings.{IsNoteText, is_inside, is_solid}
-use Rattle.base_text.specs.Words.{known_text, number, range_text, set_text}
+use Rattle.base_text.specs.Words.{known_text, number, range_text, set_text, strided_text}
 use Rattle.base_text.specs.Digits.{number_all}
 use Rattle.base_text.specs.PiecesTold.{IsInner, is_inner}
 
@@ -52,6 +55,13 @@ pub known_solid : (w : ℕ) (x : Known) → IsTrue (list_all is_solid (known_tex
 known_solid w x =
     at_choice (λ t. IsTrue (list_all is_solid t)) (x.m == 2 ^ w - 1) (codes "any") (number w x.v ++ (codes "/" ++ number w x.m)) (λ e. refl)
     (λ e. both_all is_solid (number w x.v) (codes "/" ++ number w x.m) (number_solid w x.v) (number_solid w x.m))
+
+pub strided_solid : (w : ℕ) (x : strided.Word) → IsTrue (list_all is_solid (strided_text w x))
+strided_solid w (Listed numbers) = set_solid w (Some numbers)
+strided_solid w (Strided x) =
+    let ends = number w x.lo ++ (codes ".." ++ number w x.hi) in
+    at_choice (λ t. IsTrue (list_all is_solid t)) (x.step == 1) (range_text w (range x)) (ends ++ (codes "+" ++ number w x.step)) (λ e. range_solid w (range x))
+    (λ e. both_all is_solid ends (codes "+" ++ number w x.step) (both_all is_solid (number w x.lo) (codes ".." ++ number w x.hi) (number_solid w x.lo) (number_solid w x.hi)) (number_solid w x.step))
 
 -- ---- notes
 

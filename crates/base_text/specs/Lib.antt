@@ -9,6 +9,7 @@ pub mod Pieces
 pub mod PiecesTold
 pub mod Reading
 pub mod Readings
+pub mod StridesTold
 pub mod Tell
 pub mod Texts
 pub mod Told

@@ -8,6 +8,10 @@ pub cond_then : {A : Type 0} (b : Bool) (o : Option A) (x : A) → cond b o None
 cond_then true o x e = (refl, e)
 cond_then false o x e = absurd (none-some x e)
 
+pub unless : {A : Type 0} (b : Bool) (y x : A) → cond b None (Some y) ≡ Some x → (b ≡ false) × (y ≡ x)
+unless true y x e = absurd (none-some x e)
+unless false y x e = (refl, same_Some y x e)
+
 -- of a map
 pub record Mapped {A B : Type 0} (f : A → B) (o : Option A) (y : B) : Type 0 where
   pub from : A
@@ -27,6 +31,11 @@ pub record Followed {A B : Type 0} (f : A → Option B) (o : Option A) (y : B) :
 pub followed : {A B : Type 0} (f : A → Option B) (o : Option A) (y : B) → option_and_then f o ≡ Some y → Followed f o y
 followed f None y e = absurd (none-some y e)
 followed f (Some x) y e = record { from = x; is = refl; gives = e }
+
+-- two of which the second is nothing are nothing
+pub zip_none : {A B : Type 0} (o : Option A) → option_zip {U = B} o None ≡ None
+zip_none None = refl
+zip_none (Some x) = refl
 
 -- of two
 pub zipped : {A B : Type 0} (o : Option A) (p : Option B) (z : A × B) → option_zip o p ≡ Some z → (o ≡ Some z.0) × (p ≡ Some z.1)

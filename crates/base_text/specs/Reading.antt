@@ -1,5 +1,5 @@
 -- What words and notes are, by their texts. Each has one text, so digits are in lower case.
-use Rattle.std.specs.Prelude.{ℕ, ◌-◌, ◌^◌, ◌==◌, ◌&&◌, ◌||◌, Bool, not, nat_le, nat_lt, List, [], ◌∷◌, length, take, drop, Option, Some, None, option_map, bit_and, bytes_eq, codes, if◌then◌else◌}
+use Rattle.std.specs.Prelude.{ℕ, ◌+◌, ◌*◌, ◌-◌, ◌^◌, ◌==◌, ◌&&◌, ◌||◌, Bool, not, nat_le, nat_lt, List, [], ◌∷◌, length, take, drop, Option, Some, None, option_map, bit_and, bytes_eq, codes, if◌then◌else◌}
 use Rattle.std.specs.List.{list_all}
 use Rattle.std.specs.Option.{option_and_then, option_zip}
 use Rattle.base_trait.specs.declared.uses.Stamped.{Stamped}
@@ -10,6 +10,12 @@ use Rattle.cell_text.specs.Keys.{below}
 use Rattle.kset_base.specs.Sets.{bounded}
 use Rattle.interval_base.specs.declared.range.Range.{Range}
 use Rattle.bits_base.specs.declared.known.Known.{Known}
+use Rattle.strides_base.specs.Meaning.{is_long}
+use Rattle.strides_base.specs.Stretch.{one}
+use Rattle.strides_base.specs.Views.{word_of}
+use Rattle.strides_base.specs.Words.{Strided}
+use Rattle.strides_base.specs.Words as strided
+use Rattle.strides_base.specs.declared.stretch.Stretch.{Stretch}
 use Rattle.base_text.specs.Pieces.{items_in, pieces}
 
 -- ---- texts
@@ -67,6 +73,54 @@ known w x = if bit_and x.0 x.1 == 0 && not (x.1 == 2 ^ w - 1) then Some (record 
 
 abbrev pub known_in : ℕ → List ℕ → Option Known
 known_in w text = if is_any w text then Some (record { v = 0; m = 2 ^ w - 1 }) else option_and_then (known w) (two_in (codes "/") w text)
+
+-- ---- strided words
+
+-- a width of 1 to 64 bits
+abbrev pub is_width : ℕ → Bool
+is_width w = nat_le 1 w && nat_le w 64
+
+-- the ends and the step of a strided interval, with `..` and `+` between
+abbrev pub stepped_in : ℕ → List ℕ → Option ((ℕ × ℕ) × ℕ)
+stepped_in w text =
+    option_zip (two_in (codes "..") w (take (2 * digits_of w + 2) text)) (option_and_then (number_in w) (behind (codes "+") (drop (2 * digits_of w + 2) text)))
+
+-- the numbers of an interval, one after another
+abbrev pub by_ones : Range → Stretch
+by_ones x = record { lo = x.lo; step = 1; hi = x.hi }
+
+-- the numbers between these ends that the step leads to; a step of 1 is not written
+abbrev pub by_steps : (ℕ × ℕ) × ℕ → Option Stretch
+by_steps x = if x.1 == 1 then None else Some (record { lo = x.0.0; step = x.1; hi = x.0.1 })
+
+-- an interval, or what has a step
+abbrev pub either_form : Option Range → Option ((ℕ × ℕ) × ℕ) → Option Stretch
+either_form (Some x) stepped = Some (by_ones x)
+either_form None stepped = option_and_then by_steps stepped
+
+abbrev pub stretch_in : ℕ → List ℕ → Option Stretch
+stretch_in w text = either_form (range_in w text) (stepped_in w text)
+
+-- the word of a strided interval, where it has more numbers than a set, and its high end is one of them
+abbrev pub long : ℕ → Stretch → Option strided.Word
+long w x = if is_long w x then Some (Strided x) else None
+
+-- the word of a set
+abbrev pub set_word : Option (List ℕ) → strided.Word
+set_word set = word_of set (one 0)
+
+-- the word of at most 16 numbers, ascending
+abbrev pub listed_word : ℕ → List ℕ → Option strided.Word
+listed_word w text = option_map set_word (option_map Some (option_and_then (bounded 16) (numbers_in w text)))
+
+-- what stands in braces is a set, and another text a strided interval
+abbrev pub strided_form : ℕ → List ℕ → Option (List ℕ) → Option strided.Word
+strided_form w text (Some numbers) = listed_word w numbers
+strided_form w text None = option_and_then (long w) (stretch_in w text)
+
+-- a set of 1 to 16 numbers, or a strided interval of more
+abbrev pub strided_in : ℕ → List ℕ → Option strided.Word
+strided_in w text = if is_width w then strided_form w text (braced text) else None
 
 -- ---- notes
 

@@ -9,7 +9,8 @@ use Rattle.base_trait.specs.declared.uses.Stamped.{Stamped}
 use Rattle.base_trait.specs.declared.uses.Stamped.TheVariants.{Entry, At}
 use Rattle.interval_base.specs.declared.range.Range.{Range}
 use Rattle.bits_base.specs.declared.known.Known.{Known}
-use Rattle.base_text.specs.Reading.{addresses_in, known_in, nothing_in, range_in, set_in, stamps_in}
+use Rattle.strides_base.specs.Words as strided
+use Rattle.base_text.specs.Reading.{addresses_in, known_in, nothing_in, range_in, set_in, stamps_in, strided_in}
 use Rattle.base_text.specs.Lists.{behind_spaces}
 use Rattle.base_text.specs.Texts.{Texts}
 use Rattle.base_text.specs.Words.{number}
@@ -29,6 +30,9 @@ interval_readings = record { word = range_in; note = λ code text. nothing_in te
 
 abbrev pub bits_readings : Readings Known (Unit {0})
 bits_readings = record { word = known_in; note = λ code text. nothing_in text }
+
+abbrev pub strides_readings : Readings strided.Word (Unit {0})
+strides_readings = record { word = strided_in; note = λ code text. nothing_in text }
 
 abbrev pub defuse_readings : Readings (Option (List ℕ)) (List Stamped)
 defuse_readings = record { word = set_in 1; note = stamps_in }

@@ -4,11 +4,13 @@ use Rattle.std.proofs.lemmas.Option.{none-some}
 use Rattle.kset_base.specs.Meaning.{kset}
 use Rattle.interval_base.specs.Meaning.{interval}
 use Rattle.bits_base.specs.Meaning.{bits}
+use Rattle.strides_base.specs.Meaning.{strides}
 use Rattle.defuse_base.specs.Meaning.{defuse}
 use Rattle.base_text.specs.Reading.{nothing_in}
-use Rattle.base_text.specs.Readings.{NothingFits, StampsFit, TextsTell, bits_readings, defuse_readings, interval_readings, set_readings}
-use Rattle.base_text.specs.Texts.{bits_texts, defuse_texts, interval_texts, no_text, set_texts}
-use Rattle.base_text.specs.Inside.{known_solid, range_solid, set_solid, stamps_inside}
+use Rattle.base_text.specs.Readings.{NothingFits, StampsFit, TextsTell, bits_readings, defuse_readings, interval_readings, set_readings, strides_readings}
+use Rattle.base_text.specs.Texts.{bits_texts, defuse_texts, interval_texts, no_text, set_texts, strides_texts}
+use Rattle.base_text.specs.Inside.{known_solid, range_solid, set_solid, stamps_inside, strided_solid}
+use Rattle.base_text.specs.StridesTold.{strided_back, strided_tells}
 use Rattle.base_text.specs.Told.{known_back, known_tells, range_back, range_tells, set_back, set_tells, stamps_back, stamps_tell}
 
 nothing_tells : (text : List ℕ) (note : Unit {0}) → nothing_in text ≡ Some note → (no_text note ≡ text) × Unit {0}
@@ -42,6 +44,16 @@ bits_tell = record {
   note_back = λ code note fits. refl;
   note_tells = λ code text note e. nothing_tells text note e;
   word_solid = λ w x. known_solid w x;
+  note_inside = λ note. tt;
+}
+
+pub strides_tell : TextsTell strides NothingFits strides_texts strides_readings
+strides_tell = record {
+  word_back = λ c w x width fits. strided_back w x width fits;
+  word_tells = λ c w text x width e. strided_tells w text x e;
+  note_back = λ code note fits. refl;
+  note_tells = λ code text note e. nothing_tells text note e;
+  word_solid = λ w x. strided_solid w x;
   note_inside = λ note. tt;
 }
 

@@ -3,9 +3,10 @@ use Rattle.std.specs.Prelude.{ℕ, List, [], ◌∷◌, ◌++◌, Option}
 use Rattle.base_trait.specs.declared.uses.Stamped.{Stamped}
 use Rattle.interval_base.specs.declared.range.Range.{Range}
 use Rattle.bits_base.specs.declared.known.Known.{Known}
+use Rattle.strides_base.specs.Words as strided
 use Rattle.affine_base.specs.declared.word.Word.{Word}
 use Rattle.base_text.specs.Notes.{stamps_text}
-use Rattle.base_text.specs.Words.{affine_text, known_text, number, pair_text, range_text, set_text}
+use Rattle.base_text.specs.Words.{affine_text, known_text, number, pair_text, range_text, set_text, strided_text}
 
 -- The texts of words W and notes N.
 pub record Texts (W N : Type 0) : Type 0 where
@@ -33,6 +34,9 @@ interval_texts = record { word = range_text; note = no_text }
 
 abbrev pub bits_texts : Texts Known (Unit {0})
 bits_texts = record { word = known_text; note = no_text }
+
+abbrev pub strides_texts : Texts strided.Word (Unit {0})
+strides_texts = record { word = strided_text; note = no_text }
 
 abbrev pub defuse_texts : Texts (Option (List ℕ)) (List Stamped)
 defuse_texts = record { word = set_text; note = stamps_text }

@@ -56,7 +56,7 @@ any_tells w text e =
     sym ((bytes_eq-Decides text (codes "any")).0 second.1)
 
 -- what is another text
-not_any : (w : ℕ) (text : List ℕ) → bytes_eq text (codes "any") ≡ false → is_any w text ≡ false
+pub not_any : (w : ℕ) (text : List ℕ) → bytes_eq text (codes "any") ≡ false → is_any w text ≡ false
 not_any w text e = rw e (elim (cases_Bool (nat_le 1 w)) [
   | inl a ↦ elim (cases_Bool (nat_le w 64)) [ inl b ↦ rw (a, b) refl | inr b ↦ rw (a, b) refl ]
   | inr a ↦ rw a refl
@@ -68,7 +68,7 @@ pub each_read : (w : ℕ) (xs : List ℕ) → IsWidth w → Each (λ n. n < 2 ^ 
 each_read w [] width below = tt
 each_read w (x ∷ xs) width below = (number_back w x width below.0, each_read w xs width below.1)
 
-numbers_back : (w x : ℕ) (xs : List ℕ) → IsWidth w → IsAscending (x ∷ xs) → Each (λ n. n < 2 ^ w) (x ∷ xs) → numbers_in w (with_commas (map (number w) (x ∷ xs))) ≡ Some (x ∷ xs)
+pub numbers_back : (w x : ℕ) (xs : List ℕ) → IsWidth w → IsAscending (x ∷ xs) → Each (λ n. n < 2 ^ w) (x ∷ xs) → numbers_in w (with_commas (map (number w) (x ∷ xs))) ≡ Some (x ∷ xs)
 numbers_back w x xs width ascending below =
     rw (commas_joined (map (number w) (x ∷ xs)))
     (list_back nat_lt (number_in w) (number w) 44 (number_inner 44 (omega arith) w) x xs (numbers_chained (x ∷ xs) ascending) (each_read w (x ∷ xs) width below))
@@ -86,10 +86,10 @@ pub set_back : (K w : ℕ) (x : Option (List ℕ)) → IsWidth w → sets.Fits K
 set_back K w None width fits = rw (any_back w width) refl
 set_back K w (Some xs) width fits = set_back_from K w xs width fits
 
-abbrev SetTold : ℕ → ℕ → List ℕ → Option (List ℕ) → Type 0
+abbrev pub SetTold : ℕ → ℕ → List ℕ → Option (List ℕ) → Type 0
 SetTold K w text x = (set_text w x ≡ text) × sets.Fits K w x
 
-set_told_from : (K w : ℕ) (text : List ℕ) (x : Option (List ℕ)) → option_map Some (option_and_then (bounded K) (option_and_then (numbers_in w) (braced text))) ≡ Some x → SetTold K w text x
+pub set_told_from : (K w : ℕ) (text : List ℕ) (x : Option (List ℕ)) → option_map Some (option_and_then (bounded K) (option_and_then (numbers_in w) (braced text))) ≡ Some x → SetTold K w text x
 set_told_from K w text x e =
     let outer = mapped Some (option_and_then (bounded K) (option_and_then (numbers_in w) (braced text))) x e in
     let few = followed (bounded K) (option_and_then (numbers_in w) (braced text)) outer.from outer.is in
@@ -114,14 +114,14 @@ set_tells K w text x e = elim (cases_Bool (is_any w text)) [
 -- ---- two numbers
 
 -- not the byte of `n`
-abbrev is_no_n : ℕ → Bool
+abbrev pub is_no_n : ℕ → Bool
 is_no_n b = not (b == 110)
 
-glyph_no_n : (d : ℕ) → d < 16 → is_no_n (digit_glyph false d) ≡ true
+pub glyph_no_n : (d : ℕ) → d < 16 → is_no_n (digit_glyph false d) ≡ true
 glyph_no_n d h = grind (arith, nat_tests, h)
 
 -- a text without `n` is not one that has it
-no_n : (text word : List ℕ) → IsTrue (list_all is_no_n text) → list_all is_no_n word ≡ false → bytes_eq text word ≡ false
+pub no_n : (text word : List ℕ) → IsTrue (list_all is_no_n text) → list_all is_no_n word ≡ false → bytes_eq text word ≡ false
 no_n text word h k = elim (cases_Bool (bytes_eq text word)) [
   | inl e ↦ absurd (let same : text ≡ word = (bytes_eq-Decides text word).0 e in both_ways (list_all is_no_n word) k (subst (λ t. list_all is_no_n t ≡ true) same h))
   | inr e ↦ e

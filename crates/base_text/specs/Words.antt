@@ -3,6 +3,10 @@ use Rattle.std.specs.Prelude.{ℕ, ◌-◌, ◌^◌, ◌==◌, ◌&&◌, List, �
 use Rattle.cell_text.specs.Digits.{digits_of, hex_digits}
 use Rattle.interval_base.specs.declared.range.Range.{Range}
 use Rattle.bits_base.specs.declared.known.Known.{Known}
+use Rattle.strides_base.specs.Rows.{range}
+use Rattle.strides_base.specs.Words.{Listed, Strided}
+use Rattle.strides_base.specs.Words as strided
+use Rattle.strides_base.specs.declared.stretch.Stretch.{Stretch}
 use Rattle.affine_base.specs.declared.word.Word.{Word}
 use Rattle.affine_base.specs.declared.word.Word.TheVariants.{Any, Const, Form}
 use Rattle.base_text.specs.Lists.{with_commas}
@@ -23,6 +27,15 @@ range_text w x = if x.lo == 0 && x.hi == 2 ^ w - 1 then codes "any" else number 
 -- known bits: those that are 1, and the unknown ones; `any`, where all are unknown
 abbrev pub known_text : ℕ → Known → List ℕ
 known_text w x = if x.m == 2 ^ w - 1 then codes "any" else number w x.v ++ (codes "/" ++ number w x.m)
+
+-- a strided interval: an interval where its step is 1, else its ends and its step
+abbrev pub stretch_text : ℕ → Stretch → List ℕ
+stretch_text w x = if x.step == 1 then range_text w (range x) else (number w x.lo ++ (codes ".." ++ number w x.hi)) ++ (codes "+" ++ number w x.step)
+
+-- a small set, or a strided interval
+abbrev pub strided_text : ℕ → strided.Word → List ℕ
+strided_text w (Listed numbers) = set_text w (Some numbers)
+strided_text w (Strided x) = stretch_text w x
 
 -- an affine word: `any`, its number, or the numbers of its form, the constant first
 abbrev pub affine_text : ℕ → Word → List ℕ

@@ -5,7 +5,7 @@ ghost use Rattle.std.specs.String.{string_bytes};
 ghost use Rattle.base_text.specs.Texts.{Texts, noted};
 
 use crate::notes::push_stamps;
-use crate::words::{push_affine, push_known, push_number, push_range, push_set};
+use crate::words::{push_affine, push_known, push_number, push_range, push_set, push_strided};
 use affine_base::{Affine, Word};
 use base_trait::{Base, Stamped};
 use bits_base::{Bits, Known};
@@ -15,6 +15,7 @@ use interval_base::{Interval, Range};
 use kset_base::{KSet, Set};
 use paired_base::Paired;
 use std::alloc::AllocError as NoMemory;
+use strides_base::{StridedSet, Strides};
 
 /// A base whose words and notes have texts. After an error nothing is said of what was appended.
 pub trait BaseText: Base {
@@ -91,6 +92,20 @@ impl BaseText for Bits {
 
     fn push_word(out: &mut String, w: u32, x: &Known) -> Result<(), NoMemory> {
         push_known(out, w, *x)
+    }
+
+    fn push_note(_out: &mut String, _note: &()) -> Result<(), NoMemory> {
+        Ok(())
+    }
+}
+
+impl BaseText for Strides {
+    ghost use Rattle.base_text.specs.Texts.{strides_texts};
+
+    ghost texts = { strides_texts };
+
+    fn push_word(out: &mut String, w: u32, x: &StridedSet) -> Result<(), NoMemory> {
+        push_strided(out, w, x)
     }
 
     fn push_note(_out: &mut String, _note: &()) -> Result<(), NoMemory> {

@@ -8,12 +8,14 @@ use crate::base::BaseText;
 use crate::reading::{known_in, range_in};
 use crate::sets::set_in;
 use crate::stamps::{nothing_in, stamps_in};
+use crate::strided::strided_in;
 use bits_base::{Bits, Known};
 use defuse_base::{DefUse, Stamps};
 use insn_decode::Image;
 use interval_base::{Interval, Range};
 use kset_base::{KSet, Set};
 use std::alloc::{AllocError as NoMemory, Global};
+use strides_base::{StridedSet, Strides};
 
 /// A base of cells: its words and notes are read from their texts.
 ///
@@ -92,6 +94,25 @@ impl CellBase for Bits {
     }
 
     ghost tell = { bits_tell };
+}
+
+impl CellBase for Strides {
+    ghost use Rattle.base_text.specs.Readings.{NothingFits, strides_readings};
+    ghost use Rattle.base_text.specs.Tell.{strides_tell};
+
+    ghost readings = { strides_readings };
+
+    ghost NoteFits = { NothingFits };
+
+    fn word_in(alloc: Global, w: u32, text: &[u8]) -> Result<Option<StridedSet>, NoMemory> {
+        strided_in(alloc, w, text)
+    }
+
+    fn note_in(_alloc: Global, _image: &Image, text: &[u8]) -> Result<Option<()>, NoMemory> {
+        Ok(nothing_in(text))
+    }
+
+    ghost tell = { strides_tell };
 }
 
 impl CellBase for DefUse {

@@ -8,6 +8,7 @@
 //! | a set | `{01,02}`, ascending; so is the set of all numbers |
 //! | an interval | its ends, `01..02` |
 //! | known bits | those that are 1, and the unknown ones: `04/03` is one of 4, 5, 6 and 7 |
+//! | a strided interval | its ends and its step, `00..40+04`: 0, 4, 8, .., 64; as an interval where the step is 1 |
 //! | an affine constant | `00000005` |
 //! | an affine form | its numbers, the constant first: `00000001,00000000,00000002` is 1 more than twice the second tracked cell |
 //! | a word of a pair | both parts, `{05} 00..07` |
@@ -32,6 +33,7 @@ mod pieces;
 mod reading;
 mod sets;
 mod stamps;
+mod strided;
 mod words;
 
 pub use addresses::addresses_in;

@@ -46,7 +46,11 @@ fn with_greatest<const K: usize>(
 }
 
 /// The set of numbers that ascend, with commas between.
-fn listed_in<const K: usize>(alloc: Global, w: u32, text: &[u8]) -> Result<Option<Set<K>>, NoMemory>
+pub(crate) fn listed_in<const K: usize>(
+    alloc: Global,
+    w: u32,
+    text: &[u8],
+) -> Result<Option<Set<K>>, NoMemory>
     ensures { IfOk result (λ r. r ≡ option_map Some (option_and_then (bounded K) (reading.numbers_in w text.now))) }
 {
     let (piece, mut left) = first_piece(b',', text);
@@ -72,7 +76,7 @@ fn listed_in<const K: usize>(alloc: Global, w: u32, text: &[u8]) -> Result<Optio
 }
 
 /// The text in braces.
-fn braced(text: &[u8]) -> Option<&[u8]>
+pub(crate) fn braced(text: &[u8]) -> Option<&[u8]>
     ensures { option_copied result ≡ reading.braced text.now }
 {
     before(b"}", behind(b"{", text)?)

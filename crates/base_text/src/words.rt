@@ -3,7 +3,7 @@
 ghost use Rattle.std.specs.Prelude.{◌≡◌, ◌++◌, ◌==◌, ◌-◌, ◌^◌, OnOk, map};
 ghost use Rattle.std.specs.String.{string_bytes};
 ghost use Rattle.base_text.specs.Lists.{behind_commas, behind_spaces, with_commas};
-ghost use Rattle.base_text.specs.Words.{affine_text, known_text, number, range_text, set_text};
+ghost use Rattle.base_text.specs.Words.{affine_text, known_text, number, range_text, set_text, stretch_text, strided_text};
 
 use affine_base::Word;
 use bits_base::Known;
@@ -11,6 +11,7 @@ use cell_text::push_hex;
 use interval_base::Range;
 use kset_base::Set;
 use std::alloc::AllocError as NoMemory;
+use strides_base::{Stretch, StridedSet};
 
 /// Appends a number of a width in bits: a hex digit for each 4 of them, rounded up.
 #[tactic(auto, unfolding(crate::specs::Words::number))]
@@ -103,6 +104,31 @@ pub(crate) fn push_known(out: &mut String, w: u32, x: Known) -> Result<(), NoMem
     push_number(out, w, x.v)?;
     out.push_str("/")?;
     push_number(out, w, x.m)
+}
+
+/// Appends a strided interval.
+fn push_stretch(out: &mut String, w: u32, x: Stretch) -> Result<(), NoMemory>
+    ensures { OnOk result (string_bytes out.new ≡ string_bytes out.old ++ stretch_text w x) }
+{
+    if x.step == 1 {
+        return push_range(out, w, Range { lo: x.lo, hi: x.hi });
+    }
+    push_number(out, w, x.lo)?;
+    out.push_str("..")?;
+    push_number(out, w, x.hi)?;
+    out.push_str("+")?;
+    push_number(out, w, x.step)
+}
+
+/// Appends a small set or a strided interval.
+pub(crate) fn push_strided(out: &mut String, w: u32, x: &StridedSet) -> Result<(), NoMemory>
+    ensures { OnOk result (string_bytes out.new ≡ string_bytes out.old ++ strided_text w x.now) }
+{
+    if x.set().is_any() {
+        push_stretch(out, w, x.stretch())
+    } else {
+        push_set(out, w, x.set())
+    }
 }
 
 /// Appends the multipliers of cells in an affine form, each behind a comma.

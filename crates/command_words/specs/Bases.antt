@@ -20,10 +20,14 @@ base_text b.Bits = codes "bits"
 base_text b.KSetBits = codes "kset+bits"
 base_text b.IntervalBits = codes "interval+bits"
 base_text b.BitsDefUse = codes "bits+defuse"
+base_text b.Strides = codes "strides"
+base_text b.StridesAffine = codes "strides+affine"
+base_text b.StridesDefUse = codes "strides+defuse"
 
 abbrev pub all_bases : List BaseName
 all_bases = b.Const ∷ b.KSet ∷ b.Interval ∷ b.Affine ∷ b.DefUse ∷ b.ConstInterval ∷ b.KSetInterval ∷ b.KSetAffine ∷ b.KSetDefUse
-    ∷ b.IntervalAffine ∷ b.IntervalDefUse ∷ b.AffineDefUse ∷ b.Bits ∷ b.KSetBits ∷ b.IntervalBits ∷ b.BitsDefUse ∷ []
+    ∷ b.IntervalAffine ∷ b.IntervalDefUse ∷ b.AffineDefUse ∷ b.Bits ∷ b.KSetBits ∷ b.IntervalBits ∷ b.BitsDefUse ∷ b.Strides ∷ b.StridesAffine
+    ∷ b.StridesDefUse ∷ []
 
 -- the base of a name
 abbrev pub base_named : List ℕ → Option BaseName
@@ -36,4 +40,5 @@ is_stamped b.KSetDefUse = true
 is_stamped b.IntervalDefUse = true
 is_stamped b.AffineDefUse = true
 is_stamped b.BitsDefUse = true
+is_stamped b.StridesDefUse = true
 is_stamped _ = false

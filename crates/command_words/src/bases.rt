@@ -22,11 +22,14 @@ pub enum BaseName {
     KSetBits,
     IntervalBits,
     BitsDefUse,
+    Strides,
+    StridesAffine,
+    StridesDefUse,
 }
 
 impl BaseName {
     /// The bases in the order in which the documents list them.
-    pub const ALL: [BaseName; 16] = [
+    pub const ALL: [BaseName; 19] = [
         BaseName::Const,
         BaseName::KSet,
         BaseName::Interval,
@@ -43,6 +46,9 @@ impl BaseName {
         BaseName::KSetBits,
         BaseName::IntervalBits,
         BaseName::BitsDefUse,
+        BaseName::Strides,
+        BaseName::StridesAffine,
+        BaseName::StridesDefUse,
     ];
 
     /// The base of a name.
@@ -76,6 +82,9 @@ impl BaseName {
             BaseName::KSetBits => "kset+bits",
             BaseName::IntervalBits => "interval+bits",
             BaseName::BitsDefUse => "bits+defuse",
+            BaseName::Strides => "strides",
+            BaseName::StridesAffine => "strides+affine",
+            BaseName::StridesDefUse => "strides+defuse",
         }
     }
 
@@ -90,6 +99,7 @@ impl BaseName {
                 | BaseName::IntervalDefUse
                 | BaseName::AffineDefUse
                 | BaseName::BitsDefUse
+                | BaseName::StridesDefUse
         )
     }
 }

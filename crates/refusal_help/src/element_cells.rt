@@ -81,7 +81,7 @@ fn span_of(word: &str) -> Option<Span<'_>> {
     {
         Some(numbers) => Some(span_of_set(numbers)),
         None => match word.split_once("..") {
-            Some((least, greatest)) => Some(Span { least, greatest }),
+            Some((least, rest)) => Some(span_from(least, rest)),
             None => span_of_bits(word),
         },
     }
@@ -91,6 +91,12 @@ fn span_of(word: &str) -> Option<Span<'_>> {
 fn span_of_set(numbers: &str) -> Span<'_> {
     let (least, _) = numbers.split_once(',').unwrap_or((numbers, ""));
     let (_, greatest) = numbers.rsplit_once(',').unwrap_or(("", numbers));
+    Span { least, greatest }
+}
+
+/// The span from a number to the one that is written behind it, of an interval or, with its step, of a strided one.
+fn span_from<'a>(least: &'a str, rest: &'a str) -> Span<'a> {
+    let (greatest, _step) = rest.split_once('+').unwrap_or((rest, ""));
     Span { least, greatest }
 }
 

@@ -1,11 +1,12 @@
 -- The domain of each base is told by its texts.
-use Rattle.std.proofs.Common.{◌≡◌, ℕ, Bool, true, List, refl}
+use Rattle.std.proofs.Common.{◌≡◌, ℕ, Bool, true, List, [], refl}
 use Rattle.std.specs.List.{list_all}
 use Rattle.std.specs.Prelude.{codes, if◌then◌else◌, ◌==◌}
 use Rattle.base_trait.specs.declared.uses.Stamped.{Stamped}
 use Rattle.kset_base.specs.Meaning.{kset}
 use Rattle.interval_base.specs.Meaning.{interval}
 use Rattle.bits_base.specs.Meaning.{bits}
+use Rattle.strides_base.specs.Meaning.{strides}
 use Rattle.defuse_base.specs.Meaning.{defuse}
 use Rattle.command_words.specs.declared.bases.BaseName.{BaseName}
 use Rattle.command_words.specs.declared.bases.BaseName.TheVariants as b
@@ -13,9 +14,9 @@ use Rattle.command_words.specs.Bases.{base_text}
 use Rattle.spec_types.specs.Specification.{Spec}
 use Rattle.domain_laws.specs.States.{StateType, has_states, state_type}
 use Rattle.state_text.specs.Laws.{HasFields}
-use Rattle.base_text.specs.Readings.{NothingFits, StampsFit, bits_readings, defuse_readings, interval_readings, set_readings}
-use Rattle.base_text.specs.Tell.{bits_tell, defuse_tell, intervals_tell, sets_tell}
-use Rattle.base_text.specs.Texts.{bits_texts, defuse_texts, interval_texts, set_texts}
+use Rattle.base_text.specs.Readings.{NothingFits, StampsFit, bits_readings, defuse_readings, interval_readings, set_readings, strides_readings}
+use Rattle.base_text.specs.Tell.{bits_tell, defuse_tell, intervals_tell, sets_tell, strides_tell}
+use Rattle.base_text.specs.Texts.{bits_texts, defuse_texts, interval_texts, set_texts, strides_texts}
 use Rattle.base_text.specs.Words.{affine_text}
 use Rattle.text_lines.specs.Lines.{is_inside}
 use Rattle.printable_tables.specs.Domains.{HasNone}
@@ -24,7 +25,7 @@ use Rattle.printable_tables.specs.Values.{PartsHaveNotes}
 use Rattle.printable_tables.proofs.Notes.{nothing_keeps, stamps_keep}
 use Rattle.element_round_trip.specs.Words.{AreSolid}
 use Rattle.element_round_trip.proofs.Words.{relations_words_tell}
-use Rattle.analysis_domains.specs.Domains.{DomainOf, definitions, intervals, known_bits, relations, sets}
+use Rattle.analysis_domains.specs.Domains.{DomainOf, definitions, intervals, known_bits, relations, sets, strided_sets}
 use Rattle.analysis_domains.specs.Named.{domain_of}
 use Rattle.table_agreement.specs.Printable.{Asks, IsPrintableIn}
 use Rattle.table_agreement.proofs.Told.{IsTold, cells_are_told, pairs_are_told, relations_are_told}
@@ -47,6 +48,9 @@ names_inside b.Bits = refl
 names_inside b.KSetBits = refl
 names_inside b.IntervalBits = refl
 names_inside b.BitsDefUse = refl
+names_inside b.Strides = refl
+names_inside b.StridesAffine = refl
+names_inside b.StridesDefUse = refl
 
 -- no text of a word has a space
 solid_sets : AreSolid set_texts.word
@@ -57,6 +61,9 @@ solid_intervals = λ x. intervals_tell.word_solid 32 x
 
 solid_bits : AreSolid bits_texts.word
 solid_bits = λ x. bits_tell.word_solid 32 x
+
+solid_strided : AreSolid strides_texts.word
+solid_strided = λ x. strides_tell.word_solid 32 x
 
 module _ (spec : Spec) (has : has_states spec ≡ true) (fields : HasFields spec) where
   abbrev t : StateType
@@ -73,6 +80,9 @@ module _ (spec : Spec) (has : has_states spec ≡ true) (fields : HasFields spec
 
   of_bits : IsTold (known_bits t) NothingFits (λ code. PartsHaveNotes (NothingFits code)) spec
   of_bits = cells_are_told spec has fields bits tt (codes "bits") bits_texts bits_readings NothingFits bits_tell nothing_keeps refl
+
+  of_strided : IsTold (strided_sets t) NothingFits (λ code. PartsHaveNotes (NothingFits code)) spec
+  of_strided = cells_are_told spec has fields strides [] (codes "strides") strides_texts strides_readings NothingFits strides_tell nothing_keeps refl
 
   of_definitions : IsTold (definitions t) StampsFit (λ code. PartsHaveNotes (StampsFit code)) spec
   of_definitions = cells_are_told spec has fields defuse tt (codes "defuse") defuse_texts defuse_readings StampsFit defuse_tell stamps_keep refl
@@ -104,3 +114,6 @@ module _ (spec : Spec) (has : has_states spec ≡ true) (fields : HasFields spec
   all_told b.KSetBits = (λ code. BothNotes (NothingFits code) (NothingFits code), pairs_are_told (sets t 16) (known_bits t) spec NothingFits NothingFits _ _ solid_sets of_sets of_bits)
   all_told b.IntervalBits = (λ code. BothNotes (NothingFits code) (NothingFits code), pairs_are_told (intervals t) (known_bits t) spec NothingFits NothingFits _ _ solid_intervals of_intervals of_bits)
   all_told b.BitsDefUse = (λ code. BothNotes (NothingFits code) (StampsFit code), pairs_are_told (known_bits t) (definitions t) spec NothingFits StampsFit _ _ solid_bits of_bits of_definitions)
+  all_told b.Strides = (NothingFits, of_strided)
+  all_told b.StridesAffine = (λ code. BothNotes (NothingFits code) (TellsNothing code), pairs_are_told (strided_sets t) (relations t) spec NothingFits TellsNothing _ _ solid_strided of_strided of_relations)
+  all_told b.StridesDefUse = (λ code. BothNotes (NothingFits code) (StampsFit code), pairs_are_told (strided_sets t) (definitions t) spec NothingFits StampsFit _ _ solid_strided of_strided of_definitions)

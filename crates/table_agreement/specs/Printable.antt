@@ -47,3 +47,6 @@ IsPrintableIn t b.Bits = plain_cells
 IsPrintableIn t b.KSetBits = both_parts plain_cells plain_cells
 IsPrintableIn t b.IntervalBits = both_parts plain_cells plain_cells
 IsPrintableIn t b.BitsDefUse = both_parts plain_cells stamped_cells
+IsPrintableIn t b.Strides = plain_cells
+IsPrintableIn t b.StridesAffine = both_parts plain_cells no_cells
+IsPrintableIn t b.StridesDefUse = both_parts plain_cells stamped_cells

@@ -57,6 +57,9 @@ base_inside b.Bits = refl
 base_inside b.KSetBits = refl
 base_inside b.IntervalBits = refl
 base_inside b.BitsDefUse = refl
+base_inside b.Strides = refl
+base_inside b.StridesAffine = refl
+base_inside b.StridesDefUse = refl
 
 -- ---- lines that are determined
 

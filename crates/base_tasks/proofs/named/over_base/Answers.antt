@@ -99,3 +99,21 @@ returns-in-BitsDefUse-clause-gives g c = let s = c.args.it.now in over_it (speci
 
 pub returns-in-BitsDefUse-clause-work : goal.returns-in-BitsDefUse-clause-work
 returns-in-BitsDefUse-clause-work g c = let s = c.args.it.now in work_over (specification s.spec.now) s.image.now s.task c.args.base b.BitsDefUse c.args.steps.now c.over_both-in-BitsDefUse.new.steps c.in-BitsDefUse.is c.over_both-in-BitsDefUse.ensures.work
+
+pub returns-in-Strides-clause-gives : goal.returns-in-Strides-clause-gives
+returns-in-Strides-clause-gives g c = let s = c.args.it.now in over_it (specification s.spec.now) s.image.now s.task c.args.base b.Strides answer_of c.over_cells-in-Strides.result c.in-Strides.is c.over_cells-in-Strides.ensures.gives
+
+pub returns-in-Strides-clause-work : goal.returns-in-Strides-clause-work
+returns-in-Strides-clause-work g c = let s = c.args.it.now in work_over (specification s.spec.now) s.image.now s.task c.args.base b.Strides c.args.steps.now c.over_cells-in-Strides.new.steps c.in-Strides.is c.over_cells-in-Strides.ensures.work
+
+pub returns-in-StridesAffine-clause-gives : goal.returns-in-StridesAffine-clause-gives
+returns-in-StridesAffine-clause-gives g c = let s = c.args.it.now in over_it (specification s.spec.now) s.image.now s.task c.args.base b.StridesAffine answer_of c.over_cells_and_relations-in-StridesAffine.result c.in-StridesAffine.is c.over_cells_and_relations-in-StridesAffine.ensures.gives
+
+pub returns-in-StridesAffine-clause-work : goal.returns-in-StridesAffine-clause-work
+returns-in-StridesAffine-clause-work g c = let s = c.args.it.now in work_over (specification s.spec.now) s.image.now s.task c.args.base b.StridesAffine c.args.steps.now c.over_cells_and_relations-in-StridesAffine.new.steps c.in-StridesAffine.is c.over_cells_and_relations-in-StridesAffine.ensures.work
+
+pub returns-in-StridesDefUse-clause-gives : goal.returns-in-StridesDefUse-clause-gives
+returns-in-StridesDefUse-clause-gives g c = let s = c.args.it.now in over_it (specification s.spec.now) s.image.now s.task c.args.base b.StridesDefUse answer_of c.over_both-in-StridesDefUse.result c.in-StridesDefUse.is c.over_both-in-StridesDefUse.ensures.gives
+
+pub returns-in-StridesDefUse-clause-work : goal.returns-in-StridesDefUse-clause-work
+returns-in-StridesDefUse-clause-work g c = let s = c.args.it.now in work_over (specification s.spec.now) s.image.now s.task c.args.base b.StridesDefUse c.args.steps.now c.over_both-in-StridesDefUse.new.steps c.in-StridesDefUse.is c.over_both-in-StridesDefUse.ensures.work

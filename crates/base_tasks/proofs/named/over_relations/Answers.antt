@@ -12,18 +12,18 @@ pub returns-clause-gives : goal.returns-clause-gives
 returns-clause-gives g c =
     let s = c.args.it.now in
     let spec = specification s.spec.now in
-    gives_comes (λ d. IsTrue (relation.is_for d spec))
+    gives_comes (λ d. IsTrue (relation.is_for d spec) × Unit {0})
     (λ d. own_relations d)
     (λ d. affine_tell d) _
-    (λ d made. relations_tie d spec made)
+    (λ d made. relations_tie d spec made.0)
     s.image.now (base_text c.args.base) (task_of spec s.image.now s.task) answer_of c.in_domain.result c.in_domain.ensures.gives
 
 pub returns-clause-work : goal.returns-clause-work
 returns-clause-work g c =
     let s = c.args.it.now in
     let spec = specification s.spec.now in
-    work_comes (λ d. IsTrue (relation.is_for d spec))
+    work_comes (λ d. IsTrue (relation.is_for d spec) × Unit {0})
     (λ d. own_relations d)
     (λ d. affine_tell d) _
-    (λ d made. relations_tie d spec made)
+    (λ d made. relations_tie d spec made.0)
     s.image.now (base_text c.args.base) (task_of spec s.image.now s.task) answer_of c.in_domain.result c.in_domain.ensures.gives c.args.steps.now c.in_domain.new.steps c.in_domain.ensures.work

@@ -22,9 +22,9 @@ pub returns-clause-gives : goal.returns-clause-gives
 returns-clause-gives g c =
     let s = c.args.it.now in
     let spec = specification s.spec.now in
-    gives_some c.in_ok-domain.domain (λ d. IsTrue (g.D.Domain.is_for d spec))
+    gives_some c.in_ok-domain.domain (λ d. IsTrue (g.D.Domain.is_for d spec) × g.D.NamedDomain.HasContext d)
     (λ d. OwnComes (record { base = g.D.B.Base.algebra; cap = g.D.B.Base.CAP; elements = g.D.Domain.elements d; meaning = g.D.Domain.meaning d; view = g.D.Domain.view; IsText = g.D.ElemText.IsText; Reads = g.D.ReadElement.Reads d; word_in = g.D.ReadElement.word_in d; word_text = g.D.ElemText.word_text }) (g.D.ClaimElem.telling d) s.image.now (base_text c.args.base) (task_of spec s.image.now s.task))
-    answer_of c.done_in.result c.in_ok-domain.ensures c.done_in.ensures.gives
+    answer_of c.done_in.result (c.in_ok-domain.ensures.made, c.in_ok-domain.ensures.context) c.done_in.ensures.gives
 
 pub returns-clause-work : goal.returns-clause-work
-returns-clause-work g c = inr (c.in_ok-domain.domain, c.in_ok-domain.ensures, c.done_in.ensures.work)
+returns-clause-work g c = inr (c.in_ok-domain.domain, (c.in_ok-domain.ensures.made, c.in_ok-domain.ensures.context), c.done_in.ensures.work)

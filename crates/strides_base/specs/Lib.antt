@@ -1,0 +1,17 @@
+pub mod Best
+pub mod Changes
+pub mod Ends
+pub mod Gcd
+pub mod Growth
+pub mod Halvings
+pub mod Held
+pub mod Instance
+pub mod Joins
+pub mod Meaning
+pub mod Rows
+pub mod Sound
+pub mod Steps
+pub mod Stops
+pub mod Stretch
+pub mod Views
+pub mod Words
