@@ -4,8 +4,8 @@ usage: python3 make_cases.py [--check]
 
 Writes, from `ppc_cases.py` and `rv_cases.py` with the expected states of `ppc_model.py` and `rv_model.py`:
 
-- ppc.txt, rv.txt here and in data/ of the crate step_tests: all cases and all words that are refused, a paragraph each;
-- src/cases/ of the crates ppc_spec and rv_spec: up to four cases of each mnemonic as arrays, and the refused words.
+- ppc.txt, rv.txt here and in data/ of the crate test_instructions: all cases and all words that are refused, a paragraph each;
+- src/cases/ of the crates program_spec_powerpc and program_spec_riscv: up to four cases of each mnemonic as arrays, and the refused words.
 
 With --check nothing is written, and the exit status is 1 where a file is not what would be written.
 
@@ -149,7 +149,7 @@ def files():
     """All files that are written, by path."""
     made = {}
     for isa, model, cases, groups in (('ppc', ppc_model, ppc_cases, PPC_GROUPS), ('rv', rv_model, rv_cases, RV_GROUPS)):
-        for folder in (HERE, os.path.join(CRATES, 'step_tests', 'data')):
+        for folder in (HERE, os.path.join(CRATES, 'test_instructions', 'data')):
             made[os.path.join(folder, isa + '.txt')] = text_of(isa, model, cases)
         folder = os.path.join(CRATES, isa + '_spec', 'src', 'cases')
         named = [n for _, _, mnemonics in groups for n in mnemonics.split()]

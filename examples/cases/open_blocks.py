@@ -1,15 +1,15 @@
 #!/usr/bin/env python3
-"""Writes crates/case_runner/data/open_blocks.cases: tables with open blocks between others, and changes of an element up to the widened one.
+"""Writes crates/test_program/data/open_blocks.cases: tables with open blocks between others, and changes of an element up to the widened one.
 
 What is wanted comes from the model in mini_model.py.
 
-usage: open_blocks.py > crates/case_runner/data/open_blocks.cases
+usage: open_blocks.py > crates/test_program/data/open_blocks.cases
 """
 import os
 
 from mini_model import Model
 
-DATA = os.path.join(os.path.dirname(os.path.abspath(__file__)), "../../crates/case_runner/data/open_tables.cases")
+DATA = os.path.join(os.path.dirname(os.path.abspath(__file__)), "../../crates/test_program/data/open_tables.cases")
 UNDECODABLE = 0xFFFFFFFF
 START = 0x1000
 

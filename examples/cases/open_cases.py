@@ -1,5 +1,5 @@
 #!/usr/bin/env python3
-"""Writes crates/case_runner/data/open_tables.cases: tables that are left open, and the words that ask for them.
+"""Writes crates/test_program/data/open_tables.cases: tables that are left open, and the words that ask for them.
 
 What is wanted is made from the stored cases of closed analyses, and not by the program. Where the last instruction of a way leads out of the
 code alone, its word is replaced by one without decoding. Nothing before it changes, since an element is the state before its instruction. So
@@ -7,12 +7,12 @@ the table is the stored one but for this block, which loses its uses and its exi
 one instruction of its code. So its table is one block with the element of the entry, and ends in the word that the stored refusal names. Over
 affine relations the one instruction is a branch that is not decided, and its table is written here by hand.
 
-usage: open_cases.py > crates/case_runner/data/open_tables.cases
+usage: open_cases.py > crates/test_program/data/open_tables.cases
 """
 import os
 import re
 
-DATA = os.path.join(os.path.dirname(os.path.abspath(__file__)), "../../crates/case_runner/data/analyses.cases")
+DATA = os.path.join(os.path.dirname(os.path.abspath(__file__)), "../../crates/test_program/data/analyses.cases")
 UNDECODABLE = "ffffffff"
 
 

@@ -1,16 +1,16 @@
 #!/usr/bin/env python3
-"""Writes crates/case_runner/data/open_checks.cases: tables that are left open, read back by `check`, `slice`, `claims` and `convert`.
+"""Writes crates/test_program/data/open_checks.cases: tables that are left open, read back by `check`, `slice`, `claims` and `convert`.
 
 What is wanted comes from the model in mini_checks.py; of texts that are no tables, and over affine relations, it is written here by hand.
 
-usage: open_checks.py > crates/case_runner/data/open_checks.cases
+usage: open_checks.py > crates/test_program/data/open_checks.cases
 """
 import os
 
 from mini_checks import Checked, until_open
 from open_blocks import START, UNDECODABLE, add, arrivals, jump, put
 
-DATA = os.path.join(os.path.dirname(os.path.abspath(__file__)), "../../crates/case_runner/data/open_tables.cases")
+DATA = os.path.join(os.path.dirname(os.path.abspath(__file__)), "../../crates/test_program/data/open_tables.cases")
 
 # a register is put, a branch, and two ways that read it, of which one comes to a word without decoding
 FLOW = [put(1, 5), jump(0, 0x1010), add(2, 1, 1), UNDECODABLE, add(3, 1, 0), add(3, 3, 3)]

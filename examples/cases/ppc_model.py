@@ -1,6 +1,6 @@
 """PowerPC's 32-bit integer instructions, worked on Python's whole numbers.
 
-This is what the cases of `ppc_spec` are compared with. It was written from the instruction descriptions of Book I and not
+This is what the cases of `program_spec_powerpc` are compared with. It was written from the instruction descriptions of Book I and not
 from the specification text: words are put together from the instruction formats, sums and products are exact whole
 numbers, masks and leading zeros are counted bit by bit, and the condition register is one number of 32 bits.
 

@@ -1,6 +1,6 @@
 """RV32I, worked on Python's whole numbers.
 
-This is what the cases of `rv_spec` are compared with. It was written from the unprivileged manual and not from the
+This is what the cases of `program_spec_riscv` are compared with. It was written from the unprivileged manual and not from the
 specification text: words are put together from the instruction formats, and immediates are plain signed numbers.
 
 `assemble(mnemonic, operands)` gives the code word. `execute(mnemonic, operands, state)` changes the state and notes

@@ -1,4 +1,4 @@
-"""Writes the cases of `stress` for the crate case_runner: stress_cases.py > ../../crates/case_runner/data/stress.cases
+"""Writes the cases of `stress` for the crate test_program: stress_cases.py > ../../crates/test_program/data/stress.cases
 
 What a case is to give is worked out here, from the words that `instruction_mix.py` makes, and not from the program. The code is a line: it goes on at the
 word behind each, and a branch may go past one word more. Nothing writes the condition register or the link register. So:

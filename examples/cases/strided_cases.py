@@ -1,10 +1,10 @@
 #!/usr/bin/env python3
-"""Writes crates/case_runner/data/strided.cases: what the commands give over `strides`, alone, with `affine` and with `defuse`.
+"""Writes crates/test_program/data/strided.cases: what the commands give over `strides`, alone, with `affine` and with `defuse`.
 
 What is wanted comes from the models in mini_model.py and mini_checks.py; over affine relations the rows are written here by hand, and so are tables of
 words of other widths.
 
-usage: strided_cases.py > crates/case_runner/data/strided.cases
+usage: strided_cases.py > crates/test_program/data/strided.cases
 """
 from open_blocks import START, add, jump, put
 from open_checks import ANY, DATA, Subject, changed, closed, told, widened

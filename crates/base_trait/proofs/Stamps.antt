@@ -4,8 +4,8 @@ use Rattle.std.proofs.lemmas.Bool.Decides.{nat_tests}
 use Rattle.base_trait.specs.Identity.{IsIdentity, IsReflexive}
 use Rattle.base_trait.specs.Lists.{IsAmong}
 use Rattle.base_trait.specs.Stamps.{same_stamp, is_before, is_listed}
-use Rattle.base_trait.specs.declared.uses.Stamped.{Stamped}
-use Rattle.base_trait.specs.declared.uses.Stamped.TheVariants.{Entry, At}
+use Rattle.base_trait.specs.declared.uses.Stamp.{Stamp}
+use Rattle.base_trait.specs.declared.uses.Stamp.TheVariants.{Entry, At}
 use Rattle.base_trait.proofs.Lists.{number_itself, number_told}
 use Rattle.base_trait.proofs.Tests.{or_sorted, or_left, or_right}
 
@@ -19,12 +19,12 @@ stamp_told (At x) (At y) h = ap At (number_told x y h)
 stamp_told Entry (At y) h = cc
 stamp_told (At x) Entry h = cc
 
-pub listed_from : (s : Stamped) (xs : List Stamped) → IsAmong s xs → IsTrue (is_listed xs s)
+pub listed_from : (s : Stamp) (xs : List Stamp) → IsAmong s xs → IsTrue (is_listed xs s)
 listed_from s [] h = absurd h
 listed_from s (x ∷ xs) (inl e) = or_left (same_stamp x s) _ (subst (λ z. IsTrue (same_stamp x z)) (sym e) (stamp_itself x))
 listed_from s (x ∷ xs) (inr h) = or_right (same_stamp x s) _ (listed_from s xs h)
 
-pub among_listed : (s : Stamped) (xs : List Stamped) → IsTrue (is_listed xs s) → IsAmong s xs
+pub among_listed : (s : Stamp) (xs : List Stamp) → IsTrue (is_listed xs s) → IsAmong s xs
 among_listed s [] h = cc
 among_listed s (x ∷ xs) h = sorted (or_sorted (same_stamp x s) _ h) (among_listed s xs)
   where
@@ -33,7 +33,7 @@ among_listed s (x ∷ xs) h = sorted (or_sorted (same_stamp x s) _ h) (among_lis
     sorted (inr k) f = inr (f k)
 
 -- of two stamps one comes before the other, or they are one
-pub before_on : (r s t : Stamped) → IsTrue (is_before r s) → IsTrue (is_before s t) → IsTrue (is_before r t)
+pub before_on : (r s t : Stamp) → IsTrue (is_before r s) → IsTrue (is_before s t) → IsTrue (is_before r t)
 before_on Entry Entry t h k = cc
 before_on Entry (At y) Entry h k = cc
 before_on Entry (At y) (At z) h k = refl
@@ -41,7 +41,7 @@ before_on (At x) Entry t h k = cc
 before_on (At x) (At y) Entry h k = cc
 before_on (At x) (At y) (At z) h k = grind (arith, nat_tests)
 
-pub before_or_after : (s t : Stamped) → is_before s t ≡ false → same_stamp t s ≡ false → IsTrue (is_before t s)
+pub before_or_after : (s t : Stamp) → is_before s t ≡ false → same_stamp t s ≡ false → IsTrue (is_before t s)
 before_or_after Entry Entry h k = cc
 before_or_after Entry (At y) h k = cc
 before_or_after (At x) Entry h k = refl

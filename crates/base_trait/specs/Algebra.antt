@@ -1,10 +1,10 @@
 -- What a base of abstract words is: its operations as functions, and which numbers a word describes.
 use Rattle.std.specs.Prelude.{ℕ, Bool, true, false, List, Option}
-use Rattle.word_ops.specs.declared.kinds.Op1.{Op1}
-use Rattle.word_ops.specs.declared.kinds.Op2.{Op2}
-use Rattle.word_ops.specs.declared.kinds.Cmp.{Cmp}
+use Rattle.word_operations.specs.declared.kinds.UnaryOperation.{UnaryOperation}
+use Rattle.word_operations.specs.declared.kinds.BinaryOperation.{BinaryOperation}
+use Rattle.word_operations.specs.declared.kinds.WordComparison.{WordComparison}
 use Rattle.base_trait.specs.declared.tri.Tri.{Tri}
-use Rattle.base_trait.specs.declared.uses.Stamped.{Stamped}
+use Rattle.base_trait.specs.declared.uses.Stamp.{Stamp}
 use Rattle.base_trait.specs.Uses.{Seen}
 
 -- the flag may be this truth value
@@ -12,23 +12,23 @@ abbrev pub can_be : Tri → Bool → Bool
 can_be t true = t.may_true
 can_be t false = t.may_false
 
--- Words W over contexts C. Widths are counted in bits. A world is the list of the numbers that the
+-- Words W over contexts C. Widths are counted in bits. A valuation is the list of the numbers that the
 -- tracked cells have before the instruction.
 pub record Words (W C : Type 0) : Type 1 where
-  -- in the world, at the width, the number is one that the word stands for
+  -- in the valuation, at the width, the number is one that the word stands for
   pub describes : List ℕ → ℕ → ℕ → W → Type 0
   -- the word is one of the width
   pub fits : C → ℕ → W → Type 0
   -- whether it is, as a test
   pub fits_test : C → ℕ → W → Bool
-  -- whether the numbers that a word stands for depend on the world
+  -- whether the numbers that a word stands for depend on the valuation
   pub looks : Bool
   pub constant : C → ℕ → ℕ → W
   pub any : C → ℕ → W
   pub range : C → ℕ → ℕ → ℕ → W
-  pub op1 : C → Op1 → ℕ → W → W
-  pub op2 : C → Op2 → ℕ → W → W → W
-  pub cmp : C → Cmp → ℕ → W → W → Tri
+  pub op1 : C → UnaryOperation → ℕ → W → W
+  pub op2 : C → BinaryOperation → ℕ → W → W → W
+  pub cmp : C → WordComparison → ℕ → W → W → Tri
   pub zext : C → ℕ → ℕ → W → W
   pub sext : C → ℕ → ℕ → W → W
   pub trunc : C → ℕ → ℕ → W → W
@@ -51,11 +51,11 @@ pub record Words (W C : Type 0) : Type 1 where
 -- Notes N of cells: which definitions a cell may come from.
 pub record Notes (N : Type 0) : Type 1 where
   -- the note stands for the stamp
-  pub describes : Stamped → N → Type 0
+  pub describes : Stamp → N → Type 0
   -- whether notes tell stamps
   pub stamped : Bool
   -- the stamps that the note lists
-  pub listed : N → List Stamped
+  pub listed : N → List Stamp
   pub entry : N
   pub at : ℕ → N
   pub join : N → N → N
@@ -63,7 +63,7 @@ pub record Notes (N : Type 0) : Type 1 where
   pub widen : N → N → N
   pub absorbs : N → N → Bool
   -- what falls where a note is widened, by a list of stamps, and the most that it can be at a length of that list
-  pub rank : List Stamped → N → ℕ
+  pub rank : List Stamp → N → ℕ
   pub height : ℕ → ℕ
   -- what a read of a map at a key, or at any key, adds to the log
   pub reads : ℕ → Option ℕ → N → List Seen

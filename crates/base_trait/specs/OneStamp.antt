@@ -2,10 +2,10 @@
 use Rattle.std.specs.Prelude.{◌≡◌, true, [], ◌∷◌}
 use Rattle.base_trait.specs.Algebra.{Notes}
 use Rattle.base_trait.specs.Stamps.{same_stamp}
-use Rattle.base_trait.specs.declared.uses.Stamped.{Stamped}
-use Rattle.base_trait.specs.declared.uses.Stamped.TheVariants.{Entry, At}
+use Rattle.base_trait.specs.declared.uses.Stamp.{Stamp}
+use Rattle.base_trait.specs.declared.uses.Stamp.TheVariants.{Entry, At}
 
-abbrev pub one_stamp : Notes Stamped
+abbrev pub one_stamp : Notes Stamp
 one_stamp = record {
   describes = λ s x. s ≡ x;
   stamped = true;

@@ -1,7 +1,7 @@
 -- Uses of cells, and which reads they cover.
 use Rattle.std.specs.Prelude.{◌≡◌, ℕ, List, [], ◌∷◌, Option, Some, None, ◌⊎◌, ⊤, map}
 use Rattle.base_trait.specs.Lists.{IsAmong, IsGrown}
-use Rattle.base_trait.specs.declared.uses.Stamped.{Stamped}
+use Rattle.base_trait.specs.declared.uses.Stamp.{Stamp}
 use Rattle.base_trait.specs.declared.uses.Use.{Use}
 use Rattle.base_trait.specs.declared.uses.Log.{Log}
 
@@ -9,7 +9,7 @@ use Rattle.base_trait.specs.declared.uses.Log.{Log}
 pub record Seen : Type 0 where
   pub of_map : ℕ
   pub key : Option ℕ
-  pub stamps : List Stamped
+  pub stamps : List Stamp
 
 -- what a `Use` says
 abbrev pub seen : Use → Seen
@@ -23,7 +23,7 @@ uses_of log = map seen log.uses.items
 pub record Read : Type 0 where
   pub of_map : ℕ
   pub key : ℕ
-  pub stamp : Stamped
+  pub stamp : Stamp
 
 -- the key is the one that is named, if one is
 abbrev pub IsKey : Option ℕ → ℕ → Type 0

@@ -1,7 +1,7 @@
 //! The trait of bases.
 
 ghost use Rattle.std.specs.Prelude.{◌≡◌, ◌++◌, ◌^◌, ◌<◌, ◌≤◌, ◌-◌, ℕ, min, IfOk, OnOk, if◌then◌else◌};
-ghost use Rattle.word_ops.specs.Width.{IsWidth};
+ghost use Rattle.word_operations.specs.Width.{IsWidth};
 ghost use Rattle.base_trait.specs.Algebra.{Algebra};
 ghost use Rattle.base_trait.specs.Notes.{HaveSameCalls};
 ghost use Rattle.base_trait.specs.Identity.{IsIdentity};
@@ -16,7 +16,7 @@ use super::uses::Log;
 use std::alloc::{AllocError as NoMemory, Global};
 use std::fmt::Debug;
 use std::hash::Hash;
-use word_ops::{Cmp, Op1, Op2};
+use word_operations::{BinaryOperation, UnaryOperation, WordComparison};
 
 /// Abstract words of 1 to 64 bits, and notes of where a cell's value came from.
 ///
@@ -72,7 +72,7 @@ pub trait Base {
     fn op1(
         alloc: Global,
         ctx: &Self::Ctx,
-        op: Op1,
+        op: UnaryOperation,
         w: u32,
         x: &Self::Word,
     ) -> Result<Self::Word, NoMemory>
@@ -86,7 +86,7 @@ pub trait Base {
     fn op2(
         alloc: Global,
         ctx: &Self::Ctx,
-        op: Op2,
+        op: BinaryOperation,
         w: u32,
         x: &Self::Word,
         y: &Self::Word,
@@ -99,7 +99,7 @@ pub trait Base {
 
     /// A comparison of two words: each truth value that it has of two described numbers, and maybe the other. Of
     /// `{1, 9} < {5}` it is both.
-    fn cmp(ctx: &Self::Ctx, c: Cmp, w: u32, x: &Self::Word, y: &Self::Word) -> Tri
+    fn cmp(ctx: &Self::Ctx, c: WordComparison, w: u32, x: &Self::Word, y: &Self::Word) -> Tri
         requires width { IsWidth w }
         requires left { algebra.words.fits ctx.now w x.now }
         requires right { algebra.words.fits ctx.now w y.now }

@@ -8,7 +8,7 @@
 //!
 //! *What a base is.* Its operations are functions, kept in one record (specs/Algebra): `words` for
 //! words over the contexts of the analysis, `notes` for notes. `describes` says which numbers a word stands
-//! for in a world, the list of the numbers that the tracked cells had before the instruction; only words
+//! for in a valuation, the list of the numbers that the tracked cells had before the instruction; only words
 //! that are forms look at it. `fits` says that a word is one of a width.
 //!
 //! *What every user may rest on* (specs/Laws). Operations describe the results on each numbers that their
@@ -38,4 +38,4 @@ pub use base::Base;
 pub use context::Context;
 pub use note::CellNote;
 pub use tri::Tri;
-pub use uses::{Log, Stamped, Use};
+pub use uses::{Log, Stamp, Use};

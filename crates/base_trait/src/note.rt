@@ -5,7 +5,7 @@ ghost use Rattle.base_trait.specs.Algebra.{Notes};
 ghost use Rattle.base_trait.specs.Lists.{IsGrown};
 ghost use Rattle.base_trait.specs.Uses.{uses_of};
 
-use super::uses::{Log, Stamped};
+use super::uses::{Log, Stamp};
 use std::alloc::{AllocError as NoMemory, Global};
 
 /// What a cell of a map tells beside its word: where its value may come from. The note `()` tells nothing.
@@ -95,38 +95,38 @@ impl CellNote for () {
 
 /// The one stamp of a cell: it stands for that stamp and for no other. Words are single numbers beside it, and the
 /// sides of a join or a widening are equal.
-impl CellNote for Stamped {
+impl CellNote for Stamp {
     ghost use Rattle.base_trait.specs.OneStamp.{one_stamp};
 
     ghost notes = { one_stamp };
 
     /// The entry, as of each cell at the start of a run.
-    fn entry(_alloc: Global) -> Result<Stamped, NoMemory> {
-        Ok(Stamped::Entry)
+    fn entry(_alloc: Global) -> Result<Stamp, NoMemory> {
+        Ok(Stamp::Entry)
     }
 
     /// The address: 1000 where the instruction at 1000 has written the cell.
-    fn stamp(_alloc: Global, at: u32) -> Result<Stamped, NoMemory> {
-        Ok(Stamped::At(at))
+    fn stamp(_alloc: Global, at: u32) -> Result<Stamp, NoMemory> {
+        Ok(Stamp::At(at))
     }
 
     /// The first side, which is both where they are equal: 1000 and 1000 give 1000.
-    fn join(_alloc: Global, x: &Stamped, _y: &Stamped) -> Result<Stamped, NoMemory> {
+    fn join(_alloc: Global, x: &Stamp, _y: &Stamp) -> Result<Stamp, NoMemory> {
         Ok(*x)
     }
 
     /// The old side, which is both where they are equal: 1000 with 1000 gives 1000.
-    fn widen(_alloc: Global, old: &Stamped, _new: &Stamped) -> Result<Stamped, NoMemory> {
+    fn widen(_alloc: Global, old: &Stamp, _new: &Stamp) -> Result<Stamp, NoMemory> {
         Ok(*old)
     }
 
     /// Whether both are one stamp: 1000 absorbs 1000, and neither 1004 nor the entry.
-    fn absorbs(old: &Stamped, new: &Stamped) -> bool {
+    fn absorbs(old: &Stamp, new: &Stamp) -> bool {
         old.is_same(*new)
     }
 
     /// The same stamp once more: of 1000 it is 1000.
-    fn copy(_alloc: Global, x: &Stamped) -> Result<Stamped, NoMemory> {
+    fn copy(_alloc: Global, x: &Stamp) -> Result<Stamp, NoMemory> {
         Ok(*x)
     }
 
@@ -136,7 +136,7 @@ impl CellNote for Stamped {
         log: &mut Log,
         map: u32,
         key: Option<u64>,
-        note: &Stamped,
+        note: &Stamp,
     ) -> Result<(), NoMemory> {
         log.record(map, key, vec![in alloc; *note]?)
     }

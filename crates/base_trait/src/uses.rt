@@ -9,30 +9,30 @@ use std::alloc::{AllocError as NoMemory, Global};
 
 /// Where the value of a cell came from: the state at the entry, or the instruction at an address.
 #[derive(Clone, Copy, Debug, PartialEq, Eq, PartialOrd, Ord, Hash)]
-pub enum Stamped {
+pub enum Stamp {
     Entry,
     At(u32),
 }
 
-impl Stamped {
+impl Stamp {
     /// Whether both are one stamp.
-    pub fn is_same(self, other: Stamped) -> bool
+    pub fn is_same(self, other: Stamp) -> bool
         ensures { result ≡ same_stamp self other }
     {
         match (self, other) {
-            (Stamped::Entry, Stamped::Entry) => true,
-            (Stamped::At(x), Stamped::At(y)) => x == y,
+            (Stamp::Entry, Stamp::Entry) => true,
+            (Stamp::At(x), Stamp::At(y)) => x == y,
             _ => false,
         }
     }
 
     /// Whether this stamp is listed before the other: the entry first, then addresses ascending.
-    pub fn is_before(self, other: Stamped) -> bool
+    pub fn is_before(self, other: Stamp) -> bool
         ensures { result ≡ is_before self other }
     {
         match (self, other) {
-            (Stamped::Entry, Stamped::At(_y)) => true,
-            (Stamped::At(x), Stamped::At(y)) => x < y,
+            (Stamp::Entry, Stamp::At(_y)) => true,
+            (Stamp::At(x), Stamp::At(y)) => x < y,
             _ => false,
         }
     }
@@ -44,7 +44,7 @@ impl Stamped {
 pub struct Use {
     pub map: u32,
     pub key: Option<u64>,
-    pub from: Vec<Stamped>,
+    pub from: Vec<Stamp>,
 }
 
 /// The reads so far, in their order.
@@ -64,7 +64,7 @@ impl Log {
     }
 
     /// Adds a use at the end. Where memory runs out the log stays as it was.
-    pub fn record(&mut self, map: u32, key: Option<u64>, from: Vec<Stamped>) -> Result<(), NoMemory>
+    pub fn record(&mut self, map: u32, key: Option<u64>, from: Vec<Stamp>) -> Result<(), NoMemory>
         ensures value { OnOk result (uses_of self.new ≡ uses_of self.old ++ (record { of_map = map; key = key; stamps = from.items }) ∷ []) }
         ensures error { OnErr result (uses_of self.new ≡ uses_of self.old) }
     {

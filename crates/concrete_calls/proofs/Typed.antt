@@ -4,31 +4,31 @@ use Rattle.std.specs.Prelude.{◌&&◌, nat_le, nat_lt}
 use Rattle.std.specs.List.{list_all}
 use Rattle.std.proofs.lemmas.Bool.{le-leb as at_most_is}
 use Rattle.base_trait.proofs.Tests.{and_both, and_parts}
-use Rattle.base_trait.specs.declared.uses.Stamped.{Stamped}
-use Rattle.concrete_base.specs.Instance.{concrete_laws}
-use Rattle.concrete_base.specs.Meaning.{concrete}
-use Rattle.spec_types.specs.declared.ty.Ty.{Ty}
-use Rattle.spec_types.specs.Environment.{Environment, Signature, key_of}
-use Rattle.spec_types.specs.Specification.{Fun, Spec}
-use Rattle.spec_types.specs.WellFormed.{is_signature, is_type}
-use Rattle.spec_types.proofs.Lists.{all_at as one_of_all, all_from}
-use Rattle.tsl_values.specs.Types.{environment_of, has_type as has_concrete_type, have_types as have_concrete_types, key_count}
-use Rattle.tsl_values.specs.Values.{Val, vals}
-use Rattle.tsl_values.specs.Views.{val}
-use Rattle.tsl_values.specs.declared.value.Value.{Value}
-use Rattle.meaning_laws.specs.Accepted.{IsAccepted}
-use Rattle.value_laws.specs.Abs.{Abs, parts}
-use Rattle.value_laws.specs.Fits.{Fits, PartsFit}
-use Rattle.value_types.specs.Laws.{are_keyed}
-use Rattle.value_types.specs.OfValues.{ValueFits, ValuesFit, of_value}
-use Rattle.value_types.specs.Types.{has_type, have_types}
-use Rattle.value_types.proofs.Concrete.{value_is_fit, value_is_typed}
-use Rattle.value_types.proofs.Depths.{within}
-use Rattle.value_types.proofs.Typed.{typed_fits}
-use Rattle.reinterpretation.specs.Terms.{params_in}
-use Rattle.reinterpretation.proofs.Called.{keys_fine}
-use Rattle.reinterpretation.proofs.Plain.{signed}
-use Rattle.map_laws.specs.Laws.{HasRoom}
+use Rattle.base_trait.specs.declared.uses.Stamp.{Stamp}
+use Rattle.base_concrete.specs.Instance.{concrete_laws}
+use Rattle.base_concrete.specs.Meaning.{concrete}
+use Rattle.spec_ir.specs.declared.ty.Ty.{Ty}
+use Rattle.spec_ir.specs.Environment.{Environment, Signature, key_of}
+use Rattle.spec_ir.specs.Specification.{Fun, Spec}
+use Rattle.spec_ir.specs.WellFormed.{is_signature, is_type}
+use Rattle.spec_ir.proofs.Lists.{all_at as one_of_all, all_from}
+use Rattle.semantics_values.specs.Types.{environment_of, has_type as has_concrete_type, have_types as have_concrete_types, key_count}
+use Rattle.semantics_values.specs.Values.{Val, vals}
+use Rattle.semantics_values.specs.Views.{val}
+use Rattle.semantics_values.specs.declared.value.Value.{Value}
+use Rattle.semantics_laws.specs.Accepted.{IsAccepted}
+use Rattle.abstract_value_laws.specs.Abs.{Abs, parts}
+use Rattle.abstract_value_laws.specs.Fits.{Fits, PartsFit}
+use Rattle.abstract_value_types.specs.Laws.{are_keyed}
+use Rattle.abstract_value_types.specs.OfValues.{ValueFits, ValuesFit, of_value}
+use Rattle.abstract_value_types.specs.Types.{has_type, have_types}
+use Rattle.abstract_value_types.proofs.Concrete.{value_is_fit, value_is_typed}
+use Rattle.abstract_value_types.proofs.Depths.{within}
+use Rattle.abstract_value_types.proofs.Typed.{typed_fits}
+use Rattle.abstract_semantics.specs.Terms.{params_in}
+use Rattle.abstract_semantics.proofs.Called.{keys_fine}
+use Rattle.abstract_semantics.proofs.Plain.{signed}
+use Rattle.abstract_map_laws.specs.Laws.{HasRoom}
 use Rattle.concrete_values.specs.Laws.{AllStandFor, AreArgumentsFor, StandsFor, room}
 use Rattle.concrete_values.proofs.Single.{value_stands}
 

@@ -1,39 +1,39 @@
 //! Calls of functions.
 
 ghost use Rattle.std.specs.Prelude.{ℕ, List, IfOk, map, []};
-ghost use Rattle.spec_types.specs.Specification.{Fun};
-ghost use Rattle.spec_types.specs.Views.{specification};
-ghost use Rattle.tsl_values.specs.Values.{Val};
-ghost use Rattle.meaning.specs.Runs.{meaning};
-ghost use Rattle.meaning_laws.specs.Accepted.{IsAccepted};
-ghost use Rattle.cir_lower.specs.Code.{IsCodeOf};
-ghost use Rattle.cir_lower.specs.Views.{code};
-ghost use Rattle.abs_value.specs.View.{abs};
+ghost use Rattle.spec_ir.specs.Specification.{Fun};
+ghost use Rattle.spec_ir.specs.Views.{specification};
+ghost use Rattle.semantics_values.specs.Values.{Val};
+ghost use Rattle.semantics.specs.Runs.{meaning};
+ghost use Rattle.semantics_laws.specs.Accepted.{IsAccepted};
+ghost use Rattle.eval_code.specs.Code.{IsCodeOf};
+ghost use Rattle.eval_code.specs.Views.{code};
+ghost use Rattle.abstract_value.specs.View.{abs};
 ghost use Rattle.concrete_values.specs.Laws.{AreArgumentsFor};
 ghost use Rattle.concrete_calls.specs.Calls.{IsCall, IsMeantBy};
 
-use crate::outcome::Called;
-use abs_value::AV;
+use crate::outcome::CallResult;
+use abstract_value::AbstractValue;
+use base_concrete::Concrete;
 use base_trait::Log;
-use cir_lower::Cir;
-use concrete_base::Concrete;
+use eval_code::EvaluatorCode;
 use eval_memo::{EvalError, Setting};
-use generic_eval::eval_anew;
-use recursion_fix::Policy;
-use spec_types::Spec;
+use evaluator::eval_anew;
+use spec_ir::Spec;
 use std::alloc::{AllocError, Global};
+use support_tail_fixpoint::Policy;
 
 /// Calls function number `fun` on values, as a part of the instruction at an address, where each activation of a group of functions
 /// has so many turns: its first body is the first turn, and each call within the group takes another.
-pub fn called(
+pub fn evaluate_call(
     alloc: Global,
     spec: &Spec,
-    cir: &Cir,
+    cir: &EvaluatorCode,
     fun: u32,
-    args: Vec<AV<Concrete>>,
+    args: Vec<AbstractValue<Concrete>>,
     at: u32,
     turns: u32,
-) -> Result<Called, AllocError>
+) -> Result<CallResult, AllocError>
     requires accepted { IsAccepted (specification spec.now) }
     requires code { IsCodeOf (code cir.now) (specification spec.now) }
     requires call { IsCall (specification spec.now) fun (map abs args.items) }
@@ -41,7 +41,7 @@ pub fn called(
         → IfOk result (λ r. IsMeantBy (specification spec.now) function r (meaning (specification spec.now) at turns fun vs [])) }
 {
     if turns == 0 {
-        return Ok(Called::Deep);
+        return Ok(CallResult::OutOfFuel);
     }
     let setting = Setting {
         spec,
@@ -52,9 +52,9 @@ pub fn called(
     };
     let mut log = Log::new(alloc);
     match eval_anew(alloc, &setting, fun, args, &mut log) {
-        Ok(Some(value)) => Ok(Called::Done(value)),
+        Ok(Some(value)) => Ok(CallResult::Done(value)),
         Ok(None) => unreachable!(),
-        Err(EvalError::Deep { .. }) => Ok(Called::Deep),
+        Err(EvalError::OutOfFuel { .. }) => Ok(CallResult::OutOfFuel),
         Err(EvalError::NoMemory) => Err(AllocError),
     }
 }

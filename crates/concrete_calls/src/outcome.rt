@@ -1,11 +1,11 @@
 //! What calls come to.
 
-use abs_value::AV;
-use concrete_base::Concrete;
+use abstract_value::AbstractValue;
+use base_concrete::Concrete;
 
 /// What a call comes to: a value, or an activation had no turn left.
 #[derive(Drop)]
-pub enum Called {
-    Done(AV<Concrete>),
-    Deep,
+pub enum CallResult {
+    Done(AbstractValue<Concrete>),
+    OutOfFuel,
 }

@@ -1,43 +1,43 @@
 -- Calls on what stands for concrete arguments are the direct meaning.
 use Rattle.std.proofs.Common.{◌≡◌, ℕ, suc, ◌≤◌, ◌^◌, true, List, [], ◌∷◌, Option, Some, None, length, refl, subst, arith, inr, IsTrue}
 use Rattle.base_trait.specs.Uses.{Seen}
-use Rattle.base_trait.specs.declared.uses.Stamped.{Stamped}
-use Rattle.concrete_base.specs.Instance.{concrete_laws}
-use Rattle.concrete_base.specs.Meaning.{concrete}
-use Rattle.map_laws.specs.Laws.{HasRoom}
-use Rattle.recursion_fix.specs.declared.policy.Policy.TheVariants.{Stop}
-use Rattle.recursion_fix.specs.Answer.{IfGives, fails, gives}
-use Rattle.spec_types.specs.Specification.{Fun, Spec}
-use Rattle.tsl_values.specs.Types.{environment_of}
-use Rattle.tsl_values.specs.Values.{Val}
-use Rattle.meaning.specs.Outcomes as o
-use Rattle.meaning.specs.Outcomes.{Outcome}
-use Rattle.meaning.specs.Runs.{meaning}
-use Rattle.meaning_laws.specs.Typed.{IsOutcomeOf}
-use Rattle.meaning_laws.proofs.Turns.{meanings_have_types}
-use Rattle.core_meaning.proofs.SameRuns.{cores_mean_the_same}
-use Rattle.value_laws.specs.Abs.{Abs}
-use Rattle.reinterpretation.specs.Answers.{Answer}
-use Rattle.reinterpretation.specs.Laws.{IsResult}
-use Rattle.reinterpretation.proofs.Meeting.{IsMet}
-use Rattle.reinterpretation.proofs.Plain.{Nothing, are_arguments, calls_keep_types, each_nothing}
-use Rattle.reinterpretation.proofs.Standing.{AllStand, Stands}
-use Rattle.call_answers.specs.Answers.{answers}
-use Rattle.call_answers.proofs.Right.{answers_are_right}
+use Rattle.base_trait.specs.declared.uses.Stamp.{Stamp}
+use Rattle.base_concrete.specs.Instance.{concrete_laws}
+use Rattle.base_concrete.specs.Meaning.{concrete}
+use Rattle.abstract_map_laws.specs.Laws.{HasRoom}
+use Rattle.support_tail_fixpoint.specs.declared.policy.Policy.TheVariants.{Stop}
+use Rattle.support_tail_fixpoint.specs.Answer.{IfGives, fails, gives}
+use Rattle.spec_ir.specs.Specification.{Fun, Spec}
+use Rattle.semantics_values.specs.Types.{environment_of}
+use Rattle.semantics_values.specs.Values.{Val}
+use Rattle.semantics.specs.Outcomes as o
+use Rattle.semantics.specs.Outcomes.{Outcome}
+use Rattle.semantics.specs.Runs.{meaning}
+use Rattle.semantics_laws.specs.Typed.{IsOutcomeOf}
+use Rattle.semantics_laws.proofs.Turns.{meanings_have_types}
+use Rattle.semantics_core.proofs.SameRuns.{cores_mean_the_same}
+use Rattle.abstract_value_laws.specs.Abs.{Abs}
+use Rattle.abstract_semantics.specs.Answers.{Answer}
+use Rattle.abstract_semantics.specs.Laws.{IsResult}
+use Rattle.abstract_semantics.proofs.Meeting.{IsMet}
+use Rattle.abstract_semantics.proofs.Plain.{Nothing, are_arguments, calls_keep_types, each_nothing}
+use Rattle.abstract_semantics.proofs.Standing.{AllStand, Stands}
+use Rattle.abstract_calls.specs.Answers.{answers}
+use Rattle.abstract_calls.proofs.Right.{answers_are_right}
 use Rattle.concrete_values.specs.Laws.{AllStandFor, CallsAreMeant, IsMeant, StandsFor, room}
 use Rattle.concrete_values.proofs.Exact.{calls_met}
 
 has_room : HasRoom concrete room
 has_room = inr (omega arith)
 
-all_stand : (xs : List (Abs ℕ Stamped)) (vs : List Val) → AllStandFor xs vs → AllStand concrete [] true xs vs
+all_stand : (xs : List (Abs ℕ Stamp)) (vs : List Val) → AllStandFor xs vs → AllStand concrete [] true xs vs
 all_stand [] [] h = tt
 all_stand [] (v ∷ vs) h = absurd h
 all_stand (x ∷ xs) [] h = absurd h
 all_stand (x ∷ xs) (v ∷ vs) h = (record { describes = h.0.describes; single = λ t. h.0.single }, all_stand xs vs h.1)
 
 module _ (spec : Spec) (fun : Fun) where
-  meant : (r : Answer (Abs ℕ Stamped)) (out : Outcome Val) → IsMet true (IsTrue concrete.notes.stamped) (Stands concrete [] true) [] [] r out → IsOutcomeOf (environment_of spec) fun.result_type out
+  meant : (r : Answer (Abs ℕ Stamp)) (out : Outcome Val) → IsMet true (IsTrue concrete.notes.stamped) (Stands concrete [] true) [] [] r out → IsOutcomeOf (environment_of spec) fun.result_type out
       → IfGives r (IsResult concrete tt room spec fun) → IsMeant spec fun r out
   meant r o.wrong m t k = absurd t
   meant (fails i) (o.deep j) m t k = cc

@@ -4,17 +4,17 @@ use Rattle.std.specs.Prelude.{◌==◌, not}
 use Rattle.std.proofs.lemmas.Bool.Decides.{nat_tests}
 use Rattle.base_trait.specs.Algebra.{can_be}
 use Rattle.base_trait.specs.declared.tri.Tri.{Tri}
-use Rattle.base_trait.specs.declared.uses.Stamped.{Stamped}
-use Rattle.concrete_base.specs.Meaning.{concrete}
-use Rattle.map_laws.specs.declared.cell.Cell.{Cell}
-use Rattle.map_laws.specs.Cells.{CellDescribes}
-use Rattle.map_laws.specs.Maps.{Map, cell, cell_in as listed_in, Describes as MapDescribes}
-use Rattle.tsl_values.specs.declared.value.Cell.{Cell as ConcreteCell}
-use Rattle.tsl_values.specs.Values as v
-use Rattle.tsl_values.specs.Values.{Val, Vals, cell_at}
-use Rattle.value_laws.specs.Abs.{Abs, Cases, Parts, flag, word, made, map, no_case, absent, present, no_part, part}
-use Rattle.value_laws.specs.Describes.{CaseDescribes, Describes, PartsDescribe, held_at}
-use Rattle.reinterpretation.specs.Sound.{AreAbsent, AreSingle, IsSingle, IsSingleCase}
+use Rattle.base_trait.specs.declared.uses.Stamp.{Stamp}
+use Rattle.base_concrete.specs.Meaning.{concrete}
+use Rattle.abstract_map_laws.specs.declared.cell.AbstractCell.{AbstractCell}
+use Rattle.abstract_map_laws.specs.Cells.{CellDescribes}
+use Rattle.abstract_map_laws.specs.Maps.{Map, cell, cell_in as listed_in, Describes as MapDescribes}
+use Rattle.semantics_values.specs.declared.value.Cell.{Cell as ConcreteCell}
+use Rattle.semantics_values.specs.Values as v
+use Rattle.semantics_values.specs.Values.{Val, Vals, cell_at}
+use Rattle.abstract_value_laws.specs.Abs.{Abs, Cases, Parts, flag, word, made, map, no_case, absent, present, no_part, part}
+use Rattle.abstract_value_laws.specs.Describes.{CaseDescribes, Describes, PartsDescribe, held_at}
+use Rattle.abstract_semantics.specs.Sound.{AreAbsent, AreSingle, IsSingle, IsSingleCase}
 use Rattle.concrete_values.specs.Same.{AllSame, AreSame}
 use Rattle.concrete_values.specs.Values.{case_in, cell_in, cells_in, value_in, values_in}
 
@@ -23,7 +23,7 @@ flag_same t true h s = h
 flag_same t false h s = s ∙ ap not h
 
 -- ---- maps
-cell_there : (rest : Cell ℕ Stamped) (cells : List (ℕ × Cell ℕ Stamped)) (k : ℕ) → cell_at (cell_in rest) (cells_in cells) k ≡ cell_in (listed_in rest cells k)
+cell_there : (rest : AbstractCell ℕ Stamp) (cells : List (ℕ × AbstractCell ℕ Stamp)) (k : ℕ) → cell_at (cell_in rest) (cells_in cells) k ≡ cell_in (listed_in rest cells k)
 cell_there rest [] k = refl
 cell_there rest (e ∷ cells) k = at (e.0 == k) (cell_there rest cells k)
   where
@@ -44,10 +44,10 @@ unfolding past
 at_past rest [] k h = refl
 at_past rest (e ∷ cells) k h = ap (λ b. cond b e.1 (cell_at rest cells k)) (other_key e.0 k (omega (arith, h))) ∙ at_past rest cells k (omega (arith, h))
 
-cell_same : (w : ℕ) (x : Cell ℕ Stamped) (y : ConcreteCell) → CellDescribes concrete [] w (record { number = y.v; stamp = y.stamp }) x → cell_in x ≡ y
+cell_same : (w : ℕ) (x : AbstractCell ℕ Stamp) (y : ConcreteCell) → CellDescribes concrete [] w (record { number = y.v; stamp = y.stamp }) x → cell_in x ≡ y
 cell_same w x y h = ap (λ n. record { v = n; stamp = x.note }) (sym h.0.0) ∙ ap (λ s. record { v = y.v; stamp = s }) (sym h.1)
 
-module _ (m : Map ℕ Stamped) (rest : ConcreteCell) (cells : List (ℕ × ConcreteCell)) (h : MapDescribes concrete [] (held_at rest cells) m) where
+module _ (m : Map ℕ Stamp) (rest : ConcreteCell) (cells : List (ℕ × ConcreteCell)) (h : MapDescribes concrete [] (held_at rest cells) m) where
   cells_same : (k : ℕ) → cell_at (cell_in m.rest) (cells_in m.cells) k ≡ cell_at rest cells k
   cells_same k = cell_there m.rest m.cells k ∙ cell_same m.width (cell m k) (cell_at rest cells k) (h k)
 
@@ -56,14 +56,14 @@ module _ (m : Map ℕ Stamped) (rest : ConcreteCell) (cells : List (ℕ × Concr
       let far = past (cells_in m.cells) + past cells in
       sym (at_past (cell_in m.rest) (cells_in m.cells) far (omega arith)) ∙ cells_same far ∙ at_past rest cells far (omega arith)
 
-none : (cs : Cases ℕ Stamped) (k : ℕ) (ps : Vals) → CaseDescribes concrete [] cs k ps → AreAbsent cs → ⊥
+none : (cs : Cases ℕ Stamp) (k : ℕ) (ps : Vals) → CaseDescribes concrete [] cs k ps → AreAbsent cs → ⊥
 none no_case k ps d s = d
 none (absent cs) zero ps d s = d
 none (absent cs) (suc k) ps d s = none cs k ps d s
 none (present xs cs) k ps d s = s
 
 mutual
-  pub same : (x : Abs ℕ Stamped) (p : Val) → Describes concrete [] x p → IsSingle x → AreSame (value_in x) p
+  pub same : (x : Abs ℕ Stamp) (p : Val) → Describes concrete [] x p → IsSingle x → AreSame (value_in x) p
   same (flag t) (v.flag b) d s = flag_same t b d s
   same (word w x) (v.word u n) d s = (sym d.0, sym d.1.0)
   same (made t cs) (v.made u k ps) d s =
@@ -83,7 +83,7 @@ mutual
   same (map m x) (v.word u n) d s = absurd d
   same (map m x) (v.made u k ps) d s = absurd d
 
-  case_same : (t n : ℕ) (cs : Cases ℕ Stamped) (k : ℕ) (ps : Vals) → CaseDescribes concrete [] cs k ps → IsSingleCase cs → AreSame (case_in t n cs) (v.made t (n + k) ps)
+  case_same : (t n : ℕ) (cs : Cases ℕ Stamp) (k : ℕ) (ps : Vals) → CaseDescribes concrete [] cs k ps → IsSingleCase cs → AreSame (case_in t n cs) (v.made t (n + k) ps)
   case_same t n no_case k ps d s = absurd d
   case_same t n (absent cs) zero ps d s = absurd d
   case_same t n (absent cs) (suc k) ps d s =
@@ -92,7 +92,7 @@ mutual
   case_same t n (present xs cs) zero ps d s = let here : n ≡ n + 0 = omega arith in (refl, here, all_same xs ps d s.0)
   case_same t n (present xs cs) (suc k) ps d s = absurd (none cs k ps d s.1)
 
-  all_same : (xs : Parts ℕ Stamped) (ps : Vals) → PartsDescribe concrete [] xs ps → AreSingle xs → AllSame (values_in xs) ps
+  all_same : (xs : Parts ℕ Stamp) (ps : Vals) → PartsDescribe concrete [] xs ps → AreSingle xs → AllSame (values_in xs) ps
   all_same no_part v.no_val d s = tt
   all_same (part x xs) (v.val_then p ps) d s = (same x p d.0 s.0, all_same xs ps d.1 s.1)
   all_same no_part (v.val_then p ps) d s = absurd d

@@ -1,27 +1,27 @@
 -- The value of a concrete one is single.
 use Rattle.std.proofs.Common.{◌≡◌, ℕ, zero, suc, ◌<◌, Bool, true, false, [], refl, inr, arith}
 use Rattle.std.specs.Prelude.{not}
-use Rattle.concrete_base.specs.Instance.{concrete_laws}
-use Rattle.concrete_base.specs.Meaning.{concrete}
-use Rattle.base_trait.specs.declared.uses.Stamped.{Stamped}
-use Rattle.spec_types.specs.Environment.{Environment}
-use Rattle.tsl_values.specs.Values as v
-use Rattle.tsl_values.specs.Values.{Val, Vals}
-use Rattle.value_laws.specs.Abs.{Parts, no_case}
-use Rattle.value_types.specs.OfValues.{ValueFits, ValuesFit, absent_onto, case_count, of_value, of_values, one_case}
-use Rattle.value_types.proofs.Concrete.{value_describes}
-use Rattle.reinterpretation.specs.Sound.{AreAbsent, AreSingle, IsSingle, IsSingleCase}
+use Rattle.base_concrete.specs.Instance.{concrete_laws}
+use Rattle.base_concrete.specs.Meaning.{concrete}
+use Rattle.base_trait.specs.declared.uses.Stamp.{Stamp}
+use Rattle.spec_ir.specs.Environment.{Environment}
+use Rattle.semantics_values.specs.Values as v
+use Rattle.semantics_values.specs.Values.{Val, Vals}
+use Rattle.abstract_value_laws.specs.Abs.{Parts, no_case}
+use Rattle.abstract_value_types.specs.OfValues.{ValueFits, ValuesFit, absent_onto, case_count, of_value, of_values, one_case}
+use Rattle.abstract_value_types.proofs.Concrete.{value_describes}
+use Rattle.abstract_semantics.specs.Sound.{AreAbsent, AreSingle, IsSingle, IsSingleCase}
 use Rattle.concrete_values.specs.Laws.{ValueStands, room}
 
 other : (b : Bool) → b ≡ not (not b)
 other true = refl
 other false = refl
 
-absent_alone : (n : ℕ) → AreAbsent {W = ℕ} {N = Stamped} (absent_onto n no_case)
+absent_alone : (n : ℕ) → AreAbsent {W = ℕ} {N = Stamp} (absent_onto n no_case)
 absent_alone zero = tt
 absent_alone (suc n) = absent_alone n
 
-one_single : (n k : ℕ) (xs : Parts ℕ Stamped) → k < n → AreSingle xs → IsSingleCase (one_case n k xs)
+one_single : (n k : ℕ) (xs : Parts ℕ Stamp) → k < n → AreSingle xs → IsSingleCase (one_case n k xs)
 one_single zero k xs h s = absurd (omega (arith, h))
 one_single (suc n) zero xs h s = (s, absent_alone n)
 one_single (suc n) (suc k) xs h s = one_single n k xs (omega (arith, h)) s

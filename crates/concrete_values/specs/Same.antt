@@ -1,6 +1,6 @@
 -- Values that are the same, however their maps list their cells.
 use Rattle.std.specs.Prelude.{◌≡◌, ℕ, ⊤}
-use Rattle.tsl_values.specs.Values.{Val, Vals, flag, word, made, map, no_val, val_then, cell_at}
+use Rattle.semantics_values.specs.Values.{Val, Vals, flag, word, made, map, no_val, val_then, cell_at}
 
 abbrev mutual
   -- maps have the same cell at each key, and the same rest

@@ -3,17 +3,17 @@
 use Rattle.std.specs.Prelude.{◌≡◌, ℕ, ◌<◌, ◌≤◌, ◌^◌, List, [], ◌∷◌}
 use Rattle.base_trait.specs.Algebra.{Algebra}
 use Rattle.base_trait.specs.Lists.{AreAmong}
-use Rattle.base_trait.specs.declared.uses.Stamped.{Stamped}
-use Rattle.base_trait.specs.declared.uses.Stamped.TheVariants.{Entry}
-use Rattle.spec_types.specs.Specification.{Spec}
-use Rattle.tsl_values.specs.declared.entry.Line.{Line}
-use Rattle.tsl_values.specs.States.{State, value_of}
-use Rattle.tsl_values.specs.Types.{environment_of}
-use Rattle.meaning.specs.Entries.{IsEntryState}
-use Rattle.value_laws.specs.Abs.{Abs}
-use Rattle.value_laws.specs.Describes.{Describes}
-use Rattle.value_laws.specs.Shapes.{ListsStamps}
-use Rattle.fixed_point.specs.Elements.{ElementLaws, Elements}
+use Rattle.base_trait.specs.declared.uses.Stamp.{Stamp}
+use Rattle.base_trait.specs.declared.uses.Stamp.TheVariants.{Entry}
+use Rattle.spec_ir.specs.Specification.{Spec}
+use Rattle.semantics_values.specs.declared.entry.Line.{Line}
+use Rattle.semantics_values.specs.States.{State, value_of}
+use Rattle.semantics_values.specs.Types.{environment_of}
+use Rattle.semantics.specs.Entries.{IsEntryState}
+use Rattle.abstract_value_laws.specs.Abs.{Abs}
+use Rattle.abstract_value_laws.specs.Describes.{Describes}
+use Rattle.abstract_value_laws.specs.Shapes.{ListsStamps}
+use Rattle.fixpoint_theory.specs.Elements.{ElementLaws, Elements}
 use Rattle.domain_laws.specs.Entries.{LinesFit}
 use Rattle.domain_laws.specs.States.{IsState, state_type, state_types}
 use Rattle.domain_laws.specs.Values.{IsStateValue}
@@ -23,7 +23,7 @@ pub record Meaning (E W N C : Type 0) : Type 0 where
   -- what its words share
   pub context : C
   -- the numbers of the cells that are tracked in a state; none where none is
-  pub world : State → List ℕ
+  pub valuation : State → List ℕ
   -- the element of the lines of an entry
   pub entry : List Line → E
   -- the state value at an address, on which an instruction is evaluated
@@ -41,19 +41,19 @@ pub record DomainLaws {E W N C : Type 0} (B : Algebra W N C) (cap : ℕ) (spec :
   pub entry_lists : (lines : List Line) → AreAmong (D.listed (M.entry lines)) (Entry ∷ [])
   pub entry_holds : (lines : List Line) (pc : ℕ) (s : State) → LinesFit (state_type spec).fields lines
       → IsEntryState (environment_of spec) (state_types spec) pc lines s → D.holds (M.entry lines) s
-  -- ---- an element opens to a value that describes each state of which it holds, in the world of that state
+  -- ---- an element opens to a value that describes each state of which it holds, in the valuation of that state
   pub open_fits : (pc : ℕ) (x : E) → pc < 2 ^ 32 → D.fits x → IsStateValue B M.context cap (state_type spec) (M.opened pc x)
-  pub open_lists : (stamps : List Stamped) (pc : ℕ) (x : E) → pc < 2 ^ 32 → D.fits x → AreAmong (D.listed x) stamps → ListsStamps B stamps (M.opened pc x)
+  pub open_lists : (stamps : List Stamp) (pc : ℕ) (x : E) → pc < 2 ^ 32 → D.fits x → AreAmong (D.listed x) stamps → ListsStamps B stamps (M.opened pc x)
   pub open_describes : (x : E) (s : State) → s.pc < 2 ^ 32 → IsState spec s → D.fits x → D.holds x s
-      → Describes B (M.world s) (M.opened s.pc x) (value_of (state_type spec).number s)
-  -- ---- a value that describes the next state in the world before closes to an element that holds of that state
+      → Describes B (M.valuation s) (M.opened s.pc x) (value_of (state_type spec).number s)
+  -- ---- a value that describes the next state in the valuation before closes to an element that holds of that state
   pub close_fits : (before : E) (value : Abs W N) → D.fits before → IsStateValue B M.context cap (state_type spec) value → D.fits (M.closed before value)
-  pub close_lists : (stamps : List Stamped) (before : E) (value : Abs W N) → D.fits before → IsStateValue B M.context cap (state_type spec) value
+  pub close_lists : (stamps : List Stamp) (before : E) (value : Abs W N) → D.fits before → IsStateValue B M.context cap (state_type spec) value
       → AreAmong (D.listed before) stamps → ListsStamps B stamps value → AreAmong (D.listed (M.closed before value)) stamps
   pub close_holds : (before : E) (value : Abs W N) (s next : State) → D.fits before → IsStateValue B M.context cap (state_type spec) value
-      → D.holds before s → Describes B (M.world s) value (value_of (state_type spec).number next) → D.holds (M.closed before value) next
+      → D.holds before s → Describes B (M.valuation s) value (value_of (state_type spec).number next) → D.holds (M.closed before value) next
   -- ---- elements that are the same open to one value, and close to elements that are the same
   pub open_same : (pc : ℕ) (x y : E) → D.fits x → D.fits y → D.same x y → M.opened pc x ≡ M.opened pc y
   pub close_same : (x y : E) (value : Abs W N) → D.fits x → D.fits y → IsStateValue B M.context cap (state_type spec) value → D.same x y → D.same (M.closed x value) (M.closed y value)
   -- ---- notes only add to the rank
-  pub rank_least : (stamps : List Stamped) (x : E) → D.fits x → M.rank x ≤ D.rank stamps x
+  pub rank_least : (stamps : List Stamp) (x : E) → D.fits x → M.rank x ≤ D.rank stamps x

@@ -1,22 +1,22 @@
 -- Entries that fit the fields of states.
 use Rattle.std.specs.Prelude.{ℕ, zero, suc, ◌^◌, ◌<◌, ◌≤◌, Option, None, IsSomeAnd, List, slice_get, ⊤}
 use Rattle.base_trait.specs.Lists.{Each}
-use Rattle.tsl_values.specs.declared.entry.Given.{Given}
-use Rattle.tsl_values.specs.declared.entry.Given.TheVariants.{One, Any, Range}
-use Rattle.tsl_values.specs.declared.entry.KeyAt.{KeyAt}
-use Rattle.tsl_values.specs.declared.entry.KeyAt.TheVariants.{Whole, Rest, At}
-use Rattle.tsl_values.specs.declared.entry.Line.{Line}
+use Rattle.semantics_values.specs.declared.entry.GivenNumber.{GivenNumber}
+use Rattle.semantics_values.specs.declared.entry.GivenNumber.TheVariants.{One, Any, Range}
+use Rattle.semantics_values.specs.declared.entry.KeyAt.{KeyAt}
+use Rattle.semantics_values.specs.declared.entry.KeyAt.TheVariants.{Whole, Rest, At}
+use Rattle.semantics_values.specs.declared.entry.Line.{Line}
 use Rattle.domain_laws.specs.declared.field.Field.{Field}
 use Rattle.domain_laws.specs.declared.field.Field.TheVariants.{Word, Map}
 
 -- What is given is some number of w bits.
-abbrev pub GivenFits : ℕ → Given → Type 0
+abbrev pub GivenFits : ℕ → GivenNumber → Type 0
 GivenFits w (One v) = v < 2 ^ w
 GivenFits w Any = ⊤
 GivenFits w (Range lo hi) = (lo ≤ hi) × (hi < 2 ^ w)
 
 -- It is given of a part that the field has.
-abbrev pub PlaceFits : Field → KeyAt → Given → Type 0
+abbrev pub PlaceFits : Field → KeyAt → GivenNumber → Type 0
 PlaceFits (Word w) Whole g = GivenFits w g
 PlaceFits (Map m keys width default) Rest g = GivenFits width g
 PlaceFits (Map m keys width default) (At k) g = (k < keys) × GivenFits width g

@@ -2,16 +2,16 @@
 use Rattle.std.specs.Prelude.{◌≡◌, ℕ, ◌^◌, Bool, true, false, ◌&&◌, ◌==◌, nat_le, nat_lt, Option, Some, None, List, [], ◌∷◌, map as map_of, slice_get}
 use Rattle.std.specs.List.{list_all}
 use Rattle.base_trait.specs.Identity.{same_list}
-use Rattle.spec_types.specs.declared.ty.Ty.{Ty}
-use Rattle.spec_types.specs.declared.ty.Ty.TheVariants as ty
-use Rattle.spec_types.specs.declared.declared.MapTy.{MapTy}
-use Rattle.spec_types.specs.declared.spec.Machine.{Machine}
-use Rattle.spec_types.specs.Environment.{Case, Environment, field_types}
-use Rattle.spec_types.specs.Specification.{Spec}
-use Rattle.spec_types.specs.Texts.{case_at, cases_of, fields_at}
-use Rattle.spec_types.specs.WellFormed.{is_width}
-use Rattle.tsl_values.specs.States.{State, value_of}
-use Rattle.tsl_values.specs.Types.{environment_of, has_type, key_count}
+use Rattle.spec_ir.specs.declared.ty.Ty.{Ty}
+use Rattle.spec_ir.specs.declared.ty.Ty.TheVariants as ty
+use Rattle.spec_ir.specs.declared.declared.MapType.{MapType}
+use Rattle.spec_ir.specs.declared.spec.Machine.{Machine}
+use Rattle.spec_ir.specs.Environment.{Case, Environment, field_types}
+use Rattle.spec_ir.specs.Specification.{Spec}
+use Rattle.spec_ir.specs.Texts.{case_at, cases_of, fields_at}
+use Rattle.spec_ir.specs.WellFormed.{is_width}
+use Rattle.semantics_values.specs.States.{State, value_of}
+use Rattle.semantics_values.specs.Types.{environment_of, has_type, key_count}
 use Rattle.domain_laws.specs.declared.field.Field.{Field}
 use Rattle.domain_laws.specs.declared.field.Field.TheVariants.{Word, Map}
 
@@ -26,7 +26,7 @@ behind [] = []
 behind (t ∷ types) = types
 
 module _ (env : Environment) where
-  abbrev pub map_field : ℕ → Option MapTy → Field
+  abbrev pub map_field : ℕ → Option MapType → Field
   map_field m None = Map m 0 0 0
   map_field m (Some d) = Map m (key_count env d.key) d.width d.default
 

@@ -2,9 +2,9 @@
 use Rattle.std.specs.Prelude.{◌≡◌, ℕ, ◌<◌, List, [], ◌∷◌, ⊤}
 use Rattle.base_trait.specs.Algebra.{Algebra}
 use Rattle.base_trait.specs.Lists.{Each}
-use Rattle.map_laws.specs.Maps.{keys}
-use Rattle.value_laws.specs.Abs.{Abs, Parts, word, made, map, no_case, present, no_part, part}
-use Rattle.value_laws.specs.Fits.{Fits, PartsFit}
+use Rattle.abstract_map_laws.specs.Maps.{keys}
+use Rattle.abstract_value_laws.specs.Abs.{Abs, Parts, word, made, map, no_case, present, no_part, part}
+use Rattle.abstract_value_laws.specs.Fits.{Fits, PartsFit}
 use Rattle.domain_laws.specs.declared.field.Field.{Field}
 use Rattle.domain_laws.specs.declared.field.Field.TheVariants.{Word, Map}
 use Rattle.domain_laws.specs.States.{StateType}

@@ -2,7 +2,7 @@
 //! evaluated on them.
 //!
 //! In an analysis an element stands at each code address. An instruction is not evaluated on the element itself, but on an
-//! abstract value of the type of states. So a domain has three calls besides those of `fixed_point` specs/Elements
+//! abstract value of the type of states. So a domain has three calls besides those of `fixpoint_theory` specs/Elements
 //! (specs/Domain): `entry` makes the element of an entry, `open` the state value of an element at an address, and `close`
 //! the element of the state value behind an instruction. Take intervals for the two words of a state behind its counter,
 //! with the element 0..9, 5..5. At 4096 it opens to the value `State(4096, 0..9, 5..5)`. An instruction that adds both and
@@ -10,8 +10,8 @@
 //! address at which it stands.
 //!
 //! *Worlds.* Words of a state value may be forms over the numbers that some cells, the tracked ones, had before the
-//! instruction. The world of a state is the list of these numbers. What an element opens to describes the state in the world
-//! of that state, and what closes describes the next state in the world before.
+//! instruction. The valuation of a state is the list of these numbers. What an element opens to describes the state in the valuation
+//! of that state, and what closes describes the next state in the valuation before.
 //!
 //! *Laws* (`DomainLaws`). The entry's element holds of each state of the entry. Where an element holds of a state, what it
 //! opens to describes the state. Where a value describes the next state, what it closes to holds of that. No call lists a

@@ -1,21 +1,21 @@
 //! The trait of domains.
 
 ghost use Rattle.std.specs.Prelude.{◌≡◌, ◌-◌, ◌^◌, Bool, min, IfOk, IsTrue};
-ghost use Rattle.spec_types.specs.Specification as plain;
-ghost use Rattle.spec_types.specs.Views.{specification};
-ghost use Rattle.tsl_values.specs.States.{State};
-ghost use Rattle.fixed_point.specs.Elements.{Elements};
+ghost use Rattle.spec_ir.specs.Specification as plain;
+ghost use Rattle.spec_ir.specs.Views.{specification};
+ghost use Rattle.semantics_values.specs.States.{State};
+ghost use Rattle.fixpoint_theory.specs.Elements.{Elements};
 ghost use Rattle.domain_laws.specs.Domain.{DomainLaws, Meaning};
 ghost use Rattle.domain_laws.specs.Entries.{LinesFit};
 ghost use Rattle.domain_laws.specs.States.{state_type};
 ghost use Rattle.domain_laws.specs.Values.{IsStateValue};
-ghost use Rattle.abs_value.specs.View.{abs};
+ghost use Rattle.abstract_value.specs.View.{abs};
 
-use abs_value::AV;
+use abstract_value::AbstractValue;
 use base_trait::Base;
-use spec_types::Spec;
+use semantics_values::Entry;
+use spec_ir::Spec;
 use std::alloc::{AllocError as NoMemory, Global};
-use tsl_values::Entry;
 
 /// Elements of an analysis, each of which describes a set of states.
 ///
@@ -26,12 +26,12 @@ pub trait Domain {
     type B: Base;
 
     /// What stands at an address.
-    type Elem: Drop;
+    type Element: Drop;
 
     /// What elements are as plain data.
     ghost Plain: { Type 0 };
 
-    ghost view: { Self.Elem → Plain };
+    ghost view: { Self.Element → Plain };
 
     /// What an analysis needs of elements.
     ghost elements: { Self → Elements Plain State };
@@ -47,7 +47,7 @@ pub trait Domain {
         ensures value { IfOk result (λ r. r ≡ (meaning self.now).context) };
 
     /// The element of an entry: it holds of each state of the entry.
-    fn entry(&self, alloc: Global, spec: &Spec, e: &Entry) -> Result<Self::Elem, NoMemory>
+    fn entry(&self, alloc: Global, spec: &Spec, e: &Entry) -> Result<Self::Element, NoMemory>
         requires made { IsTrue (is_for self.now (specification spec.now)) }
         requires lines { LinesFit (state_type (specification spec.now)).fields e.now.lines.items }
         ensures value { IfOk result (λ r. (elements self.now).same (view r) ((meaning self.now).entry e.now.lines.items)) }
@@ -58,9 +58,9 @@ pub trait Domain {
         &self,
         alloc: Global,
         spec: &Spec,
-        x: &Self::Elem,
+        x: &Self::Element,
         pc: u32,
-    ) -> Result<AV<Self::B>, NoMemory>
+    ) -> Result<AbstractValue<Self::B>, NoMemory>
         requires made { IsTrue (is_for self.now (specification spec.now)) }
         requires fits { (elements self.now).fits (view x.now) }
         ensures value { IfOk result (λ r. abs r ≡ (meaning self.now).opened pc (view x.now)) };
@@ -71,9 +71,9 @@ pub trait Domain {
         &self,
         alloc: Global,
         spec: &Spec,
-        before: &Self::Elem,
-        value: &AV<Self::B>,
-    ) -> Result<Self::Elem, NoMemory>
+        before: &Self::Element,
+        value: &AbstractValue<Self::B>,
+    ) -> Result<Self::Element, NoMemory>
         requires made { IsTrue (is_for self.now (specification spec.now)) }
         requires fits { (elements self.now).fits (view before.now) }
         requires state { IsStateValue Self.B.algebra (meaning self.now).context Self.B.CAP (state_type (specification spec.now)) (abs value.now) }
@@ -81,7 +81,12 @@ pub trait Domain {
         ensures fits { IfOk result (λ r. (elements self.now).fits (view r)) };
 
     /// An element that holds of what either side holds of.
-    fn join(&self, alloc: Global, x: &Self::Elem, y: &Self::Elem) -> Result<Self::Elem, NoMemory>
+    fn join(
+        &self,
+        alloc: Global,
+        x: &Self::Element,
+        y: &Self::Element,
+    ) -> Result<Self::Element, NoMemory>
         requires left { (elements self.now).fits (view x.now) }
         requires right { (elements self.now).fits (view y.now) }
         ensures value { IfOk result (λ r. (elements self.now).same (view r) ((elements self.now).join (view x.now) (view y.now))) }
@@ -91,27 +96,27 @@ pub trait Domain {
     fn widen(
         &self,
         alloc: Global,
-        old: &Self::Elem,
-        new: &Self::Elem,
-    ) -> Result<Self::Elem, NoMemory>
+        old: &Self::Element,
+        new: &Self::Element,
+    ) -> Result<Self::Element, NoMemory>
         requires old { (elements self.now).fits (view old.now) }
         requires new { (elements self.now).fits (view new.now) }
         ensures value { IfOk result (λ r. (elements self.now).same (view r) ((elements self.now).widen (view old.now) (view new.now))) }
         ensures fits { IfOk result (λ r. (elements self.now).fits (view r)) };
 
     /// Whether the old element absorbs the new one: if so it holds of all that the new one holds of.
-    fn absorbs(&self, old: &Self::Elem, new: &Self::Elem) -> bool
+    fn absorbs(&self, old: &Self::Element, new: &Self::Element) -> bool
         requires old { (elements self.now).fits (view old.now) }
         requires new { (elements self.now).fits (view new.now) }
         ensures value { result ≡ (elements self.now).absorbs (view old.now) (view new.now) };
 
     /// What falls where an element is widened and changes, with each note counted as 0; 2^64 - 1 where it is more than that.
-    fn rank(&self, x: &Self::Elem) -> u64
+    fn rank(&self, x: &Self::Element) -> u64
         requires fits { (elements self.now).fits (view x.now) }
         ensures value { result ≡ min ((meaning self.now).rank (view x.now)) (2 ^ 64 - 1) };
 
     /// The same element once more.
-    fn copy(&self, alloc: Global, x: &Self::Elem) -> Result<Self::Elem, NoMemory>
+    fn copy(&self, alloc: Global, x: &Self::Element) -> Result<Self::Element, NoMemory>
         requires fits { (elements self.now).fits (view x.now) }
         ensures value { IfOk result (λ r. (elements self.now).same (view r) (view x.now)) }
         ensures fits { IfOk result (λ r. (elements self.now).fits (view r)) };

@@ -7,7 +7,7 @@
 //!
 //! # From a domain to an analysis
 //!
-//! A struct of references to a domain, its specification and what else a transfer needs is an analysis (`transfer`), with the
+//! A struct of references to a domain, its specification and what else a transfer needs is an analysis (`analysis_transfer`), with the
 //! domain's elements. It is ready where, besides, `is_for` says that the domain is for its specification.
 #![tactic(auto)]
 

@@ -3,8 +3,8 @@ use Rattle.std.proofs.Common.{◌≡◌, ◌++◌, ℕ, List, Option, Some, None
 use Rattle.std.specs.Prelude.{IfOk, IfSome}
 use Rattle.std.specs.Result.{IsErr, IsErrAnd}
 use Rattle.base_trait.specs.Uses.{Seen}
-use Rattle.recursion_fix.specs.Answer.{IfGives, fails, gives}
-use Rattle.reinterpretation.specs.Answers.{Answer, behind}
+use Rattle.support_tail_fixpoint.specs.Answer.{IfGives, fails, gives}
+use Rattle.abstract_semantics.specs.Answers.{Answer, behind}
 use Rattle.eval_memo.specs.Given.{Gives}
 use Rattle.eval_memo.specs.declared.error.EvalError.{EvalError}
 use Rattle.eval_memo.specs.declared.error.EvalError.TheVariants as e
@@ -24,7 +24,7 @@ behind_is view P (Err er) l log answer h k = tt
 
 -- an error that is passed on
 pub passed : {V U A D : Type 0} (view : V → A) (other : U → D) (er : EvalError) (log m : List Seen) (answer : Answer A) (later : Answer D) → Gives view (Err er) log answer → ((i : ℕ) → answer ≡ fails i → later ≡ fails i) → Gives other (Err er) m later
-passed view other (e.Deep i) log m answer later h k = k i h
+passed view other (e.OutOfFuel i) log m answer later h k = k i h
 passed view other e.NoMemory log m answer later h k = tt
 
 -- and what an answer gives

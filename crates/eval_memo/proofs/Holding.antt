@@ -1,7 +1,7 @@
 -- Memos that hold a call.
 use Rattle.std.proofs.Common.{ℕ, ◌++◌, List, [], ◌∷◌, refl, sym, subst, inl, inr}
 use Rattle.base_trait.specs.Lists.{IsGrown}
-use Rattle.value_laws.specs.Abs.{Abs}
+use Rattle.abstract_value_laws.specs.Abs.{Abs}
 use Rattle.eval_memo.specs.Memos.{Holds, IsNew, Keeps, Remembered}
 use Rattle.eval_memo.proofs.Growth.{grown_more, grown_same}
 

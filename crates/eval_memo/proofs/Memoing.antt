@@ -1,8 +1,8 @@
 -- Memos with one more entry.
 use Rattle.std.proofs.Common.{◌≡◌, ℕ, ◌+◌, ◌++◌, ◌∷◌, [], List, length, refl, sym, arith}
-use Rattle.recursion_fix.specs.Answer.{gives}
-use Rattle.value_laws.specs.Abs.{Abs}
-use Rattle.reinterpretation.specs.Answers.{Answer}
+use Rattle.support_tail_fixpoint.specs.Answer.{gives}
+use Rattle.abstract_value_laws.specs.Abs.{Abs}
+use Rattle.abstract_semantics.specs.Answers.{Answer}
 use Rattle.eval_memo.specs.Memos.{AreDistinct, AreTrue, IsNew, Remembered, Stands}
 
 module _ {W N : Type 0} where

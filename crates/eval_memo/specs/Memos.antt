@@ -1,10 +1,10 @@
 -- Memos as plain data, and when one is right.
 use Rattle.std.specs.Prelude.{◌≡◌, ⊤, ◌⊎◌, ℕ, ◌+◌, ◌++◌, Option, List, [], ◌∷◌, length, map, option_map}
 use Rattle.base_trait.specs.Uses.{Seen, uses_of}
-use Rattle.recursion_fix.specs.Answer.{gives}
-use Rattle.value_laws.specs.Abs.{Abs}
-use Rattle.abs_value.specs.View.{abs}
-use Rattle.reinterpretation.specs.Answers.{Answer}
+use Rattle.support_tail_fixpoint.specs.Answer.{gives}
+use Rattle.abstract_value_laws.specs.Abs.{Abs}
+use Rattle.abstract_value.specs.View.{abs}
+use Rattle.abstract_semantics.specs.Answers.{Answer}
 use Rattle.eval_memo.specs.declared.memo.Entry.{Entry}
 use Rattle.eval_memo.specs.declared.memo.Memo.{Memo}
 

@@ -1,6 +1,6 @@
 -- The order of calls: each is of a function that is there, of a group of lower rank, or of the group itself in tail position.
 use Rattle.std.specs.Prelude.{◌≡◌, ⊤, ◌⊎◌, ℕ, ◌<◌, Bool, true, false}
-use Rattle.spec_types.specs.CoreTerms.{Core, Cores, var, flag, word, un, bin, test, cast, let_in, if_else, choose, make, call, get, put, no_core, core_then}
+use Rattle.spec_ir.specs.CoreTerms.{Core, Cores, var, flag, word, un, bin, test, cast, let_in, if_else, choose, make, call, get, put, no_core, core_then}
 
 -- there are n functions; `group` is the group of a function, and groups have ranks
 module _ (n : ℕ) (group : ℕ → ℕ) (rank : ℕ → ℕ) (g : ℕ) where

@@ -1,20 +1,20 @@
 -- The conditions under which an evaluation takes place.
 use Rattle.std.specs.Prelude.{◌≡◌, ℕ, zero, suc, ◌<◌, List, Option, Some, IfSome, true, length, slice_get}
 use Rattle.base_trait.specs.Algebra.{Algebra}
-use Rattle.map_laws.specs.Laws.{HasRoom}
-use Rattle.spec_types.specs.Specification.{Spec, Fun}
-use Rattle.meaning_laws.specs.Accepted.{IsAccepted}
-use Rattle.call_answers.specs.Laws.{JoinsUnder}
-use Rattle.cir_lower.specs.Code.{IsCodeOf}
-use Rattle.cir_lower.specs.Views.{code}
-use Rattle.recursion_fix.specs.Activation.{HasTurn}
-use Rattle.recursion_fix.specs.Answer.{IfGives, Yield}
-use Rattle.value_laws.specs.Abs.{Abs}
-use Rattle.value_laws.specs.Fits.{Fits}
-use Rattle.group_arguments.specs.Groups.{EachIs}
-use Rattle.reinterpretation.specs.Answers.{Answer}
-use Rattle.reinterpretation.specs.Calls.{AreArguments, AreRight}
-use Rattle.reinterpretation.specs.Terms.{GroupArgs}
+use Rattle.abstract_map_laws.specs.Laws.{HasRoom}
+use Rattle.spec_ir.specs.Specification.{Spec, Fun}
+use Rattle.semantics_laws.specs.Accepted.{IsAccepted}
+use Rattle.abstract_calls.specs.Laws.{JoinsUnder}
+use Rattle.eval_code.specs.Code.{IsCodeOf}
+use Rattle.eval_code.specs.Views.{code}
+use Rattle.support_tail_fixpoint.specs.Activation.{HasTurn}
+use Rattle.support_tail_fixpoint.specs.Answer.{IfGives, Yield}
+use Rattle.abstract_value_laws.specs.Abs.{Abs}
+use Rattle.abstract_value_laws.specs.Fits.{Fits}
+use Rattle.support_group_arguments.specs.Groups.{EachIs}
+use Rattle.abstract_semantics.specs.Answers.{Answer}
+use Rattle.abstract_semantics.specs.Calls.{AreArguments, AreRight}
+use Rattle.abstract_semantics.specs.Terms.{GroupArgs}
 use Rattle.eval_memo.specs.declared.setting.Setting.{Setting}
 use Rattle.eval_memo.specs.Order.{InOrder}
 use Rattle.eval_memo.specs.Settings.{group_of, spec_of}

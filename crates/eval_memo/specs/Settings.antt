@@ -3,18 +3,18 @@ use Rattle.std.specs.Prelude.{⊤, ℕ, zero, suc, Bool, true, false, List, slic
 use Rattle.base_trait.specs.Algebra.{Algebra}
 use Rattle.base_trait.specs.Uses.{Seen}
 use Rattle.base_trait.specs.declared.tri.Tri.{Tri}
-use Rattle.tsl_match.specs.Decisions.{Decision, Decisions}
-use Rattle.spec_types.specs.CoreTerms as form
-use Rattle.spec_types.specs.CoreTerms.{Core, Cores}
-use Rattle.spec_types.specs.Specification.{Spec}
-use Rattle.spec_types.specs.Views.{specification}
-use Rattle.meaning.specs.Direct as meaning
-use Rattle.value_laws.specs.Abs.{Abs, Cases}
-use Rattle.recursion_fix.specs.Answer.{Yield}
-use Rattle.reinterpretation.specs.Answers.{Answer, Evaluation, behind, branch, joined_from}
-use Rattle.reinterpretation.specs.Choices as choices
-use Rattle.reinterpretation.specs.Terms as t
-use Rattle.reinterpretation.specs.Terms.{GroupArgs}
+use Rattle.spec_match_compiler.specs.Decisions.{Decision, Decisions}
+use Rattle.spec_ir.specs.CoreTerms as form
+use Rattle.spec_ir.specs.CoreTerms.{Core, Cores}
+use Rattle.spec_ir.specs.Specification.{Spec}
+use Rattle.spec_ir.specs.Views.{specification}
+use Rattle.semantics.specs.Direct as meaning
+use Rattle.abstract_value_laws.specs.Abs.{Abs, Cases}
+use Rattle.support_tail_fixpoint.specs.Answer.{Yield}
+use Rattle.abstract_semantics.specs.Answers.{Answer, Evaluation, behind, branch, joined_from}
+use Rattle.abstract_semantics.specs.Choices as choices
+use Rattle.abstract_semantics.specs.Terms as t
+use Rattle.abstract_semantics.specs.Terms.{GroupArgs}
 use Rattle.eval_memo.specs.declared.setting.Setting.{Setting}
 
 module _ {X W N C : Type 0} (s : Setting X W N C) where

@@ -5,7 +5,7 @@ use std::alloc::{AllocError, AllocFailed};
 /// The activation that began with this function had no turn left; or memory ran out.
 #[derive(Clone, Copy, Debug, PartialEq, Eq, Drop)]
 pub enum EvalError {
-    Deep { function: u32 },
+    OutOfFuel { function: u32 },
     NoMemory,
 }
 

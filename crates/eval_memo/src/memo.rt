@@ -2,23 +2,23 @@
 
 ghost use Rattle.std.specs.Prelude.{◌≡◌, ◌↔◌, ◌++◌, [], ◌∷◌, Some, None, true, false, length, map, option_map, IfSome, IsTrue, OnErr, OnOk};
 ghost use Rattle.base_trait.specs.Uses.{uses_of};
-ghost use Rattle.recursion_fix.specs.Answer.{gives};
-ghost use Rattle.abs_value.specs.View.{abs};
+ghost use Rattle.support_tail_fixpoint.specs.Answer.{gives};
+ghost use Rattle.abstract_value.specs.View.{abs};
 ghost use Rattle.eval_memo.specs.Memos.{Holds, IsNew, Stands, Tells, entries, remembered};
 
 use crate::setting::{Known, Setting};
-use abs_value::AV;
+use abstract_value::AbstractValue;
 use base_trait::{Base, Log};
 use std::alloc::{AllocError as NoMemory, Global};
 use std::sync::ledger::Ledger;
-use step_counter::Steps;
+use support_step_counter::Steps;
 
 /// A call of a function, with its value, or none, and its own reads.
 #[derive(Drop)]
 pub(crate) struct Entry<B: Base> {
     pub(crate) function: u32,
-    pub(crate) args: Vec<AV<B>>,
-    pub(crate) value: Option<AV<B>>,
+    pub(crate) args: Vec<AbstractValue<B>>,
+    pub(crate) value: Option<AbstractValue<B>>,
     pub(crate) reads: Log,
 }
 
@@ -48,14 +48,14 @@ pub fn memo_len<B: Base>(memo: &Memo<B>) -> u64
 pub(crate) fn find<'m, B: Base>(
     memo: &'m Memo<B>,
     function: u32,
-    args: &[AV<B>],
+    args: &[AbstractValue<B>],
 ) -> Option<&'m Entry<B>>
     ensures there { IfSome result (λ e. Tells (entries memo.now) function (map abs args.now) (remembered e.now)) }
     ensures held { IfSome result (λ _. Holds function (map abs args.now) (entries memo.now)) }
     ensures new { result ≡ None → IsNew function (map abs args.now) (entries memo.now) }
 {
     for entry in &memo.entries {
-        if is_of(entry, function, args) {
+        if is_entry_of(entry, function, args) {
             return Some(entry);
         }
     }
@@ -63,7 +63,7 @@ pub(crate) fn find<'m, B: Base>(
 }
 
 /// Whether an entry is of this call.
-fn is_of<B: Base>(entry: &Entry<B>, function: u32, args: &[AV<B>]) -> bool
+fn is_entry_of<B: Base>(entry: &Entry<B>, function: u32, args: &[AbstractValue<B>]) -> bool
     ensures is { result ≡ true → (entry.now.function ≡ function) × (map abs entry.now.args.items ≡ map abs args.now) }
     ensures not { result ≡ false → entry.now.function ≡ function → map abs entry.now.args.items ≡ map abs args.now → ⊥ }
 {
@@ -71,7 +71,7 @@ fn is_of<B: Base>(entry: &Entry<B>, function: u32, args: &[AV<B>]) -> bool
 }
 
 /// Whether both are one list of values.
-fn same_all<B: Base>(xs: &[AV<B>], ys: &[AV<B>]) -> bool
+fn same_all<B: Base>(xs: &[AbstractValue<B>], ys: &[AbstractValue<B>]) -> bool
     ensures { IsTrue result ↔ (map abs xs.now ≡ map abs ys.now) }
 {
     if xs.len() != ys.len() {

@@ -1,22 +1,22 @@
 //! Where an evaluation takes place.
 
 ghost use Rattle.std.specs.Prelude.{ℕ, List};
-ghost use Rattle.value_laws.specs.Abs.{Abs};
-ghost use Rattle.reinterpretation.specs.Answers.{Answer};
+ghost use Rattle.abstract_value_laws.specs.Abs.{Abs};
+ghost use Rattle.abstract_semantics.specs.Answers.{Answer};
 
 use base_trait::Base;
-use cir_lower::Cir;
-use group_turns::Specified;
-use recursion_fix::Policy;
-use spec_types::Spec;
+use eval_code::EvaluatorCode;
+use eval_group_turns::Specified;
+use spec_ir::Spec;
 use std::marker::Brand;
+use support_tail_fixpoint::Policy;
 
 /// What does not change while a call is evaluated: the specification with its code, what the words share, the address
 /// of the instruction, and how many turns activations have.
 #[derive(Drop)]
 pub struct Setting<'a, B: Base> {
     pub spec: &'a Spec,
-    pub cir: &'a Cir,
+    pub cir: &'a EvaluatorCode,
     pub ctx: &'a B::Ctx,
     pub at: u32,
     pub policy: Policy,

@@ -3,27 +3,27 @@
 ghost use Rattle.std.specs.Prelude.{◌≡◌, ◌++◌, ◌<◌, Some, None, true, length, map, option_map, slice_get, IfOk, IfSome, OnErr, OnOk};
 ghost use Rattle.base_trait.specs.Lists.{IsGrown};
 ghost use Rattle.base_trait.specs.Uses.{uses_of};
-ghost use Rattle.spec_types.specs.Views.{core, specification};
-ghost use Rattle.tsl_values.specs.Types.{environment_of};
-ghost use Rattle.meaning.specs.Direct as meaning;
-ghost use Rattle.value_laws.specs.Abs.{parts};
-ghost use Rattle.value_types.specs.Types as types;
-ghost use Rattle.abs_value.specs.View.{abs};
-ghost use Rattle.recursion_fix.specs.Answer.{gives};
-ghost use Rattle.reinterpretation.specs.Answers.{behind};
-ghost use Rattle.reinterpretation.specs.Terms.{params_of};
+ghost use Rattle.spec_ir.specs.Views.{core, specification};
+ghost use Rattle.semantics_values.specs.Types.{environment_of};
+ghost use Rattle.semantics.specs.Direct as meaning;
+ghost use Rattle.abstract_value_laws.specs.Abs.{parts};
+ghost use Rattle.abstract_value_types.specs.Types as types;
+ghost use Rattle.abstract_value.specs.View.{abs};
+ghost use Rattle.support_tail_fixpoint.specs.Answer.{gives};
+ghost use Rattle.abstract_semantics.specs.Answers.{behind};
+ghost use Rattle.abstract_semantics.specs.Terms.{params_of};
 ghost use Rattle.eval_memo.specs.Memos.{AreTrue, Holds, IsNew, Keeps, Stands, called, entries, remembered};
 ghost use Rattle.eval_memo.specs.Ready.{IsReady};
 ghost use Rattle.eval_memo.specs.Settings.{spec_of};
 
 use crate::memo::{Entry, Memo, find, store};
 use crate::setting::{Known, Setting};
-use abs_value::AV;
-use base_trait::{Base, Log, Stamped};
-use spec_types::{Core, Spec, Ty};
+use abstract_value::AbstractValue;
+use base_trait::{Base, Log, Stamp};
+use spec_ir::{Core, Spec, Ty};
 use std::alloc::{AllocError as NoMemory, Global};
 use std::sync::ledger::Ledger;
-use step_counter::Steps;
+use support_step_counter::Steps;
 
 /// The group of a function.
 pub fn group_of(spec: &Spec, fun: u32) -> u32
@@ -36,7 +36,7 @@ pub fn group_of(spec: &Spec, fun: u32) -> u32
 }
 
 /// Whether values have the types of a function's parameters.
-pub fn are_arguments<B: Base>(spec: &Spec, fun: u32, args: &[AV<B>]) -> bool
+pub fn are_arguments<B: Base>(spec: &Spec, fun: u32, args: &[AbstractValue<B>]) -> bool
     requires there { fun < length (specification spec.now).funs }
     ensures { result ≡ types.have_types (environment_of (specification spec.now)) (parts (map abs args.now)) (params_of (specification spec.now) fun) }
 {
@@ -45,7 +45,7 @@ pub fn are_arguments<B: Base>(spec: &Spec, fun: u32, args: &[AV<B>]) -> bool
 }
 
 /// Whether values have types, each the one of its place.
-fn have_types<B: Base>(spec: &Spec, params: &[Ty], args: &[AV<B>]) -> bool
+fn have_types<B: Base>(spec: &Spec, params: &[Ty], args: &[AbstractValue<B>]) -> bool
     ensures { result ≡ types.have_types (environment_of (specification spec.now)) (parts (map abs args.now)) params.now }
 {
     if args.len() != params.len() {
@@ -63,7 +63,11 @@ fn have_types<B: Base>(spec: &Spec, params: &[Ty], args: &[AV<B>]) -> bool
 }
 
 /// The same values once more.
-pub fn copy_all<B: Base>(alloc: Global, ctx: &B::Ctx, xs: &[AV<B>]) -> Result<Vec<AV<B>>, NoMemory>
+pub fn copy_all<B: Base>(
+    alloc: Global,
+    ctx: &B::Ctx,
+    xs: &[AbstractValue<B>],
+) -> Result<Vec<AbstractValue<B>>, NoMemory>
     ensures { IfOk result (λ r. map abs r.items ≡ map abs xs.now) }
 {
     let mut out = Vec::new(alloc);
@@ -83,7 +87,7 @@ pub fn body_of<'a, B: Base, K: Known<B>>(setting: &Setting<'a, B>, fun: usize) -
 }
 
 /// The same stamps once more.
-fn copy_stamps(alloc: Global, stamps: &[Stamped]) -> Result<Vec<Stamped>, NoMemory>
+fn copy_stamps(alloc: Global, stamps: &[Stamp]) -> Result<Vec<Stamp>, NoMemory>
     ensures { IfOk result (λ r. r.items ≡ stamps.now) }
 {
     let mut out = Vec::new(alloc);
@@ -109,8 +113,8 @@ pub fn append(alloc: Global, log: &mut Log, more: &Log) -> Result<(), NoMemory>
 fn copy_some<B: Base>(
     alloc: Global,
     ctx: &B::Ctx,
-    v: &Option<AV<B>>,
-) -> Result<Option<AV<B>>, NoMemory>
+    v: &Option<AbstractValue<B>>,
+) -> Result<Option<AbstractValue<B>>, NoMemory>
     ensures { IfOk result (λ r. option_map abs r ≡ option_map abs v.now) }
 {
     match v {
@@ -121,14 +125,14 @@ fn copy_some<B: Base>(
 
 /// What is known of a call: its value, or none, and its reads are added to the log. A call on arguments of other types is known to
 /// have no value. Nothing where the call is new: then its arguments have the types of the parameters.
-pub fn recalled<B: Base, K: Known<B>>(
+pub fn recall_call<B: Base, K: Known<B>>(
     alloc: Global,
     setting: &Setting<B>,
     memo: &Memo<B>,
     fun: u32,
-    args: &[AV<B>],
+    args: &[AbstractValue<B>],
     log: &mut Log,
-) -> Result<Option<Option<AV<B>>>, NoMemory>
+) -> Result<Option<Option<AbstractValue<B>>>, NoMemory>
     requires setting { IsReady B.algebra B.CAP setting.now K.spec K.rank (K.calls setting.now.ctx.now) }
     requires there { fun < length (spec_of setting.now).funs }
     requires memo { AreTrue (K.calls setting.now.ctx.now) (entries memo.now) }
@@ -153,17 +157,17 @@ pub fn recalled<B: Base, K: Known<B>>(
 
 /// The value of a call that was evaluated. It is kept with its own reads, where it is new, and they are added to the log. Where
 /// memory runs out, the memo stays as it was, and the log may have grown.
-pub fn recorded<B: Base, K: Known<B>, L: Ledger>(
+pub fn record_call<B: Base, K: Known<B>, L: Ledger>(
     alloc: Global,
     setting: &Setting<B>,
     fun: u32,
-    args: Vec<AV<B>>,
-    value: Option<AV<B>>,
+    args: Vec<AbstractValue<B>>,
+    value: Option<AbstractValue<B>>,
     own: Log,
     memo: &mut Memo<B>,
     steps: &mut Steps<L>,
     log: &mut Log,
-) -> Result<Option<AV<B>>, NoMemory>
+) -> Result<Option<AbstractValue<B>>, NoMemory>
     requires memo { Stands (K.calls setting.now.ctx.now) K.before K.ticked (entries memo.old) steps.old }
     requires value { K.calls setting.now.ctx.now fun (map abs args.items) ≡ gives (option_map abs value) (uses_of own) }
     ensures value { IfOk result (λ r. option_map abs r ≡ option_map abs value) }
@@ -181,12 +185,12 @@ pub fn recorded<B: Base, K: Known<B>, L: Ledger>(
         value,
         reads: own,
     };
-    kept::<B, K, L>(setting, memo, steps, entry)?;
+    keep_call::<B, K, L>(setting, memo, steps, entry)?;
     Ok(again)
 }
 
 /// Keeps a call that was evaluated, with its value and its own reads, where it is new.
-fn kept<B: Base, K: Known<B>, L: Ledger>(
+fn keep_call<B: Base, K: Known<B>, L: Ledger>(
     setting: &Setting<B>,
     memo: &mut Memo<B>,
     steps: &mut Steps<L>,

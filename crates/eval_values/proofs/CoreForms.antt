@@ -1,17 +1,17 @@
 -- What forms of core terms are, seen as plain data.
 use Rattle.std.proofs.Common.{◌≡◌, ◌∙◌, ℕ, Vec, Global, map, sym, ap}
 use Rattle.std.specs.Prelude.{Box}
-use Rattle.word_ops.specs.declared.kinds.Op1.{Op1}
-use Rattle.word_ops.specs.declared.kinds.Op2.{Op2}
-use Rattle.tsl_match.specs.Views.{tree}
-use Rattle.tsl_match.specs.declared.decision.Decision.{Decision}
-use Rattle.spec_types.specs.CoreTerms as form
-use Rattle.spec_types.specs.CoreTerms.{cores}
-use Rattle.spec_types.specs.Views.{core, core_step}
-use Rattle.spec_types.specs.declared.term.CastKind.{CastKind}
-use Rattle.spec_types.specs.declared.core_term.Core.{Core as Body, fold-roll-Core}
-use Rattle.spec_types.specs.declared.core_term.Core.TheOpen.{Core-F}
-use Rattle.spec_types.specs.declared.core_term.Core.TheVariants.{Bin, Cast, Choose, If, Let, Make, Put, Un, Var, Word, rolls-Bin, rolls-Cast, rolls-Choose, rolls-If, rolls-Let, rolls-Make, rolls-Put, rolls-Un, rolls-Var, rolls-Word}
+use Rattle.word_operations.specs.declared.kinds.UnaryOperation.{UnaryOperation}
+use Rattle.word_operations.specs.declared.kinds.BinaryOperation.{BinaryOperation}
+use Rattle.spec_match_compiler.specs.Views.{tree}
+use Rattle.spec_match_compiler.specs.declared.decision.Decision.{Decision}
+use Rattle.spec_ir.specs.CoreTerms as form
+use Rattle.spec_ir.specs.CoreTerms.{cores}
+use Rattle.spec_ir.specs.Views.{core, core_step}
+use Rattle.spec_ir.specs.declared.term.CastKind.{CastKind}
+use Rattle.spec_ir.specs.declared.core_term.Core.{Core as Body, fold-roll-Core}
+use Rattle.spec_ir.specs.declared.core_term.Core.TheOpen.{Core-F}
+use Rattle.spec_ir.specs.declared.core_term.Core.TheVariants.{Bin, Cast, Choose, If, Let, Make, Put, Un, Var, Word, rolls-Bin, rolls-Cast, rolls-Choose, rolls-If, rolls-Let, rolls-Make, rolls-Put, rolls-Un, rolls-Var, rolls-Word}
 
 pub core_Var : (n : ℕ) → core (Var n) ≡ form.var n
 core_Var n = ap core (sym (rolls-Var n)) ∙ fold-roll-Core form.Core core_step (Core-F.Var n)
@@ -19,10 +19,10 @@ core_Var n = ap core (sym (rolls-Var n)) ∙ fold-roll-Core form.Core core_step 
 pub core_Word : (w v : ℕ) → core (Word w v) ≡ form.word w v
 core_Word w v = ap core (sym (rolls-Word w v)) ∙ fold-roll-Core form.Core core_step (Core-F.Word w v)
 
-pub core_Un : (op : Op1) (w : ℕ) (x : Box Body Global) → core (Un op w x) ≡ form.un op w (core x.value)
+pub core_Un : (op : UnaryOperation) (w : ℕ) (x : Box Body Global) → core (Un op w x) ≡ form.un op w (core x.value)
 core_Un op w x = ap core (sym (rolls-Un op w x)) ∙ fold-roll-Core form.Core core_step (Core-F.Un op w x)
 
-pub core_Bin : (op : Op2) (w : ℕ) (x y : Box Body Global) → core (Bin op w x y) ≡ form.bin op w (core x.value) (core y.value)
+pub core_Bin : (op : BinaryOperation) (w : ℕ) (x y : Box Body Global) → core (Bin op w x y) ≡ form.bin op w (core x.value) (core y.value)
 core_Bin op w x y = ap core (sym (rolls-Bin op w x y)) ∙ fold-roll-Core form.Core core_step (Core-F.Bin op w x y)
 
 pub core_Cast : (kind : CastKind) (from to : ℕ) (x : Box Body Global) → core (Cast kind from to x) ≡ form.cast kind from to (core x.value)

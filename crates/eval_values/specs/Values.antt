@@ -2,15 +2,15 @@
 use Rattle.std.specs.Prelude.{ℕ, List, Option, Some, None, option_and_then, slice_get, if◌then◌else◌}
 use Rattle.base_trait.specs.Algebra.{Algebra}
 use Rattle.base_trait.specs.Uses.{Seen}
-use Rattle.spec_types.specs.CoreTerms as t
-use Rattle.spec_types.specs.CoreTerms.{Core}
-use Rattle.tsl_values.specs.Types.{environment_of}
-use Rattle.meaning.specs.Steps.{is_word}
-use Rattle.value_laws.specs.Abs.{Abs, flag, word}
-use Rattle.value_types.specs.OfValues.{only}
-use Rattle.recursion_fix.specs.Answer.{gives}
-use Rattle.reinterpretation.specs.Answers.{Answer}
-use Rattle.reinterpretation.specs.Steps.{accessed, binary, compared, made_of, resized, unary, updated}
+use Rattle.spec_ir.specs.CoreTerms as t
+use Rattle.spec_ir.specs.CoreTerms.{Core}
+use Rattle.semantics_values.specs.Types.{environment_of}
+use Rattle.semantics.specs.Steps.{is_word}
+use Rattle.abstract_value_laws.specs.Abs.{Abs, flag, word}
+use Rattle.abstract_value_types.specs.OfValues.{only}
+use Rattle.support_tail_fixpoint.specs.Answer.{gives}
+use Rattle.abstract_semantics.specs.Answers.{Answer}
+use Rattle.abstract_semantics.specs.Steps.{accessed, binary, compared, made_of, resized, unary, updated}
 use Rattle.eval_memo.specs.declared.setting.Setting.{Setting}
 use Rattle.eval_memo.specs.Settings.{spec_of}
 use Rattle.eval_values.specs.Operands.{one, two, three}

@@ -3,33 +3,34 @@
 ghost use Rattle.std.specs.Prelude.{◌≡◌, map, option_and_then, option_map, All, IfOk, IfSome};
 ghost use Rattle.base_trait.specs.Lists.{IsGrown};
 ghost use Rattle.base_trait.specs.Uses.{uses_of};
-ghost use Rattle.spec_types.specs.Views.{core};
-ghost use Rattle.value_laws.specs.Fits.{Fits};
-ghost use Rattle.abs_value.specs.View.{abs};
-ghost use Rattle.recursion_fix.specs.Answer.{gives};
-ghost use Rattle.reinterpretation.specs.Steps as steps;
+ghost use Rattle.spec_ir.specs.Views.{core};
+ghost use Rattle.abstract_value_laws.specs.Fits.{Fits};
+ghost use Rattle.abstract_value.specs.View.{abs};
+ghost use Rattle.support_tail_fixpoint.specs.Answer.{gives};
+ghost use Rattle.abstract_semantics.specs.Steps as steps;
 ghost use Rattle.eval_values.specs.Values as of;
 ghost use Rattle.eval_values.specs.Operands as operands;
 
 use crate::operands::{one, three, two};
-use abs_steps::{
-    accessed, binary, compared, flag, looked_up, made_of, resized, unary, updated, word,
-};
-use abs_value::AV;
+use abstract_value::AbstractValue;
 use base_trait::{Base, Log};
 use eval_memo::Setting;
-use spec_types::{CastKind, Core};
+use eval_operations::{
+    access_map, binary, compare_words, flag, looked_up, make_value, resize_word, unary, update_map,
+    word,
+};
+use spec_ir::{CastKind, Core};
 use std::alloc::{AllocError as NoMemory, Global};
-use word_ops::{Cmp, Op1, Op2};
+use word_operations::{BinaryOperation, UnaryOperation, WordComparison};
 
 /// The value of a form that computes it from the values of its parts, or finds it in the environment.
 pub fn value_on<B: Base>(
     alloc: Global,
     setting: &Setting<B>,
-    env: &[AV<B>],
+    env: &[AbstractValue<B>],
     t: &Core,
-    done: Vec<AV<B>>,
-) -> Result<Option<AV<B>>, NoMemory>
+    done: Vec<AbstractValue<B>>,
+) -> Result<Option<AbstractValue<B>>, NoMemory>
     requires env { All (λ v. Fits B.algebra setting.now.ctx.now B.CAP (abs v)) env.now }
     requires done { All (λ v. Fits B.algebra setting.now.ctx.now B.CAP (abs v)) done.items }
     ensures value { IfOk result (λ r. option_map abs r ≡ of.value_on B.algebra B.CAP setting.now (map abs env.now) (core t.now) (map abs done.items)) }
@@ -57,7 +58,7 @@ pub fn value_on<B: Base>(
             ty,
             case,
             args: _args,
-        } => made_of(alloc, setting.ctx, setting.spec, *ty, *case, done),
+        } => make_value(alloc, setting.ctx, setting.spec, *ty, *case, done),
         Core::Put {
             map,
             x: _x,
@@ -76,10 +77,10 @@ pub fn value_on<B: Base>(
 fn unary_on<B: Base>(
     alloc: Global,
     ctx: &B::Ctx,
-    op: Op1,
+    op: UnaryOperation,
     w: u32,
-    done: &[AV<B>],
-) -> Result<Option<AV<B>>, NoMemory>
+    done: &[AbstractValue<B>],
+) -> Result<Option<AbstractValue<B>>, NoMemory>
     requires done { All (λ v. Fits B.algebra ctx.now B.CAP (abs v)) done.now }
     ensures value { IfOk result (λ r. option_map abs r ≡ option_and_then (steps.unary B.algebra ctx.now op w) (operands.one (map abs done.now))) }
     ensures fits { IfOk result (λ r. IfSome r (λ v. Fits B.algebra ctx.now B.CAP (abs v))) }
@@ -94,10 +95,10 @@ fn unary_on<B: Base>(
 fn binary_on<B: Base>(
     alloc: Global,
     ctx: &B::Ctx,
-    op: Op2,
+    op: BinaryOperation,
     w: u32,
-    done: &[AV<B>],
-) -> Result<Option<AV<B>>, NoMemory>
+    done: &[AbstractValue<B>],
+) -> Result<Option<AbstractValue<B>>, NoMemory>
     requires done { All (λ v. Fits B.algebra ctx.now B.CAP (abs v)) done.now }
     ensures value { IfOk result (λ r. option_map abs r ≡ option_and_then (λ p. steps.binary B.algebra ctx.now op w p.0 p.1) (operands.two (map abs done.now))) }
     ensures fits { IfOk result (λ r. IfSome r (λ v. Fits B.algebra ctx.now B.CAP (abs v))) }
@@ -109,13 +110,18 @@ fn binary_on<B: Base>(
 }
 
 /// A comparison of the two parts.
-fn compared_on<B: Base>(ctx: &B::Ctx, c: Cmp, w: u32, done: &[AV<B>]) -> Option<AV<B>>
+fn compared_on<B: Base>(
+    ctx: &B::Ctx,
+    c: WordComparison,
+    w: u32,
+    done: &[AbstractValue<B>],
+) -> Option<AbstractValue<B>>
     requires done { All (λ v. Fits B.algebra ctx.now B.CAP (abs v)) done.now }
     ensures value { option_map abs result ≡ option_and_then (λ p. steps.compared B.algebra ctx.now c w p.0 p.1) (operands.two (map abs done.now)) }
     ensures fits { IfSome result (λ v. Fits B.algebra ctx.now B.CAP (abs v)) }
 {
     match two(done) {
-        Some((x, y)) => compared(ctx, c, w, x, y),
+        Some((x, y)) => compare_words(ctx, c, w, x, y),
         None => None,
     }
 }
@@ -127,14 +133,14 @@ fn resized_on<B: Base>(
     kind: CastKind,
     from: u32,
     to: u32,
-    done: &[AV<B>],
-) -> Result<Option<AV<B>>, NoMemory>
+    done: &[AbstractValue<B>],
+) -> Result<Option<AbstractValue<B>>, NoMemory>
     requires done { All (λ v. Fits B.algebra ctx.now B.CAP (abs v)) done.now }
     ensures value { IfOk result (λ r. option_map abs r ≡ option_and_then (steps.resized B.algebra ctx.now kind from to) (operands.one (map abs done.now))) }
     ensures fits { IfOk result (λ r. IfSome r (λ v. Fits B.algebra ctx.now B.CAP (abs v))) }
 {
     match one(done) {
-        Some(x) => resized(alloc, ctx, kind, from, to, x),
+        Some(x) => resize_word(alloc, ctx, kind, from, to, x),
         None => Ok(None),
     }
 }
@@ -144,14 +150,14 @@ fn updated_on<B: Base>(
     alloc: Global,
     setting: &Setting<B>,
     number: u32,
-    done: Vec<AV<B>>,
-) -> Result<Option<AV<B>>, NoMemory>
+    done: Vec<AbstractValue<B>>,
+) -> Result<Option<AbstractValue<B>>, NoMemory>
     requires done { All (λ v. Fits B.algebra setting.now.ctx.now B.CAP (abs v)) done.items }
     ensures value { IfOk result (λ r. option_map abs r ≡ option_and_then (λ p. steps.updated B.algebra setting.now.ctx.now B.CAP setting.now.at number p.0 p.1 p.2) (operands.three (map abs done.items))) }
     ensures fits { IfOk result (λ r. IfSome r (λ v. Fits B.algebra setting.now.ctx.now B.CAP (abs v))) }
 {
     match three(done) {
-        Some((x, key, v)) => updated(alloc, setting.ctx, setting.at, number, x, &key, &v),
+        Some((x, key, v)) => update_map(alloc, setting.ctx, setting.at, number, x, &key, &v),
         None => Ok(None),
     }
 }
@@ -161,16 +167,16 @@ pub fn read_on<B: Base>(
     alloc: Global,
     setting: &Setting<B>,
     number: u32,
-    done: &[AV<B>],
+    done: &[AbstractValue<B>],
     log: &mut Log,
-) -> Result<Option<AV<B>>, NoMemory>
+) -> Result<Option<AbstractValue<B>>, NoMemory>
     requires done { All (λ v. Fits B.algebra setting.now.ctx.now B.CAP (abs v)) done.now }
     ensures value { IfOk result (λ r. of.read_on B.algebra B.CAP setting.now number (operands.two (map abs done.now)) (uses_of log.old) ≡ gives (option_map abs r) (uses_of log.new)) }
     ensures fits { IfOk result (λ r. IfSome r (λ v. Fits B.algebra setting.now.ctx.now B.CAP (abs v))) }
     ensures grown { IsGrown (uses_of log.old) (uses_of log.new) }
 {
     match two(done) {
-        Some((x, key)) => accessed(alloc, setting.ctx, number, x, key, log),
+        Some((x, key)) => access_map(alloc, setting.ctx, number, x, key, log),
         None => Ok(None),
     }
 }

@@ -2,15 +2,15 @@
 use Rattle.std.proofs.Common.{◌≡◌, ◌⊎◌, ℕ, suc, ◌<◌, ◌≤◌, Bool, true, false, cond, ltb, List, length, refl, sym, ap, ◌∙◌, inl, inr, arith}
 use Rattle.std.proofs.lemmas.Bool.{cases_lt, false≢true}
 use Rattle.std.proofs.lemmas.Bool.Decides.{nat_tests}
-use Rattle.reachability.specs.Graph.{SameGroup, edge}
-use Rattle.reachability.specs.Table.{IsTableOf, same_group, rank}
-use Rattle.reachability.proofs.Searching.{leads}
-use Rattle.reachability.proofs.Ranks.{ranks_fall}
-use Rattle.spec_types.specs.Terms.{Term}
+use Rattle.support_reachability.specs.Graph.{SameGroup, edge}
+use Rattle.support_reachability.specs.Table.{IsTableOf, same_group, rank}
+use Rattle.support_reachability.proofs.Searching.{leads}
+use Rattle.support_reachability.proofs.Ranks.{ranks_fall}
+use Rattle.spec_ir.specs.Terms.{Term}
 use Rattle.spec_calls.specs.Calls.{call_graph}
 use Rattle.spec_calls.specs.Groups.{InOneGroup, CallsTo, IsRanked}
 use Rattle.spec_calls.specs.Laws.{CallsHaveRanks}
-use Rattle.reachability.proofs.Tables.{some_table}
+use Rattle.support_reachability.proofs.Tables.{some_table}
 use Rattle.spec_calls.proofs.Told.{told_from, told_to}
 
 module _ (bodies : List Term) (t : List (List Bool)) (table : IsTableOf (call_graph bodies) t) where

@@ -2,13 +2,13 @@
 use Rattle.std.proofs.Common.{◌≡◌, ℕ, Vec, Global, List, ◌++◌, map, sym, ap, ◌∙◌, append_assoc}
 use Rattle.std.specs.Prelude.{Box}
 use Rattle.std.proofs.lemmas.Simd.{map-map}
-use Rattle.tsl_match.specs.declared.pattern.Pattern.{Pattern}
-use Rattle.tsl_match.specs.Views.{pat}
-use Rattle.spec_types.specs.Terms as s
-use Rattle.spec_types.specs.Views.{term, term_step}
-use Rattle.spec_types.specs.declared.term.Term.{Term, fold-roll-Term}
-use Rattle.spec_types.specs.declared.term.Term.TheOpen.{Term-F}
-use Rattle.spec_types.specs.declared.term.Term.TheVariants.{Match, Call, Get, Put, rolls-Match, rolls-Call, rolls-Get, rolls-Put}
+use Rattle.spec_match_compiler.specs.declared.pattern.Pattern.{Pattern}
+use Rattle.spec_match_compiler.specs.Views.{pat}
+use Rattle.spec_ir.specs.Terms as s
+use Rattle.spec_ir.specs.Views.{term, term_step}
+use Rattle.spec_ir.specs.declared.term.Term.{Term, fold-roll-Term}
+use Rattle.spec_ir.specs.declared.term.Term.TheOpen.{Term-F}
+use Rattle.spec_ir.specs.declared.term.Term.TheVariants.{Match, Call, Get, Put, rolls-Match, rolls-Call, rolls-Get, rolls-Put}
 
 pub match_seen : (x : Box Term Global) (arms : Vec (Pattern × Term) Global) → term (Match x arms) ≡ s.match_on (term x.value) (s.arms (map (λ a. (pat a.0, term a.1)) arms.items))
 match_seen x arms =

@@ -1,10 +1,10 @@
 -- There is one fault at most, and calls within a group stand in tail position where there is none.
 use Rattle.std.proofs.Common.{◌≡◌, true, false, Some, List, slice_get, refl, sym, ap, ◌∙◌, inl, inr, arith}
 use Rattle.std.proofs.lemmas.Bool.{cases_lt}
-use Rattle.tsl_parser.specs.declared.tree.Name.{Name}
-use Rattle.spec_types.specs.declared.spec_error.SpecError.{SpecError}
-use Rattle.spec_types.specs.declared.spec_error.SpecError.TheVariants.{BadRecursion}
-use Rattle.spec_types.specs.Terms.{Term}
+use Rattle.syntax_parser.specs.declared.tree.Name.{Name}
+use Rattle.spec_ir.specs.declared.spec_error.SpecError.{SpecError}
+use Rattle.spec_ir.specs.declared.spec_error.SpecError.TheVariants.{BadRecursion}
+use Rattle.spec_ir.specs.Terms.{Term}
 use Rattle.spec_calls.specs.Recursion.{IsRecursionFault}
 use Rattle.spec_calls.specs.Laws.{FaultsAreSettled, GroupCallsAreTails}
 

@@ -5,14 +5,14 @@ use Rattle.std.proofs.lemmas.Bool.{cases_lt, false≢true, not-true as not_is, e
 use Rattle.std.proofs.lemmas.List.{get_or_past, length-map}
 use Rattle.std.proofs.lemmas.Simd.{map-map}
 use Rattle.std.proofs.lemmas.Option.{slice_get-map, slice_get_within}
-use Rattle.reachability.specs.Graph.{Reaches, SameGroup, IsLeastOfGroup, edge, onward}
-use Rattle.reachability.specs.Table.{IsTableOf, says, same_group}
-use Rattle.reachability.proofs.Groups.{same_from, same_to, inside, least}
-use Rattle.reachability.proofs.Ranks.{joined}
-use Rattle.tsl_parser.specs.declared.tree.Name.{Name}
-use Rattle.spec_types.specs.declared.spec_error.SpecError.{SpecError}
-use Rattle.spec_types.specs.declared.spec_error.SpecError.TheVariants.{BadRecursion, NoMemory}
-use Rattle.spec_types.specs.Terms.{Term}
+use Rattle.support_reachability.specs.Graph.{Reaches, SameGroup, IsLeastOfGroup, edge, onward}
+use Rattle.support_reachability.specs.Table.{IsTableOf, says, same_group}
+use Rattle.support_reachability.proofs.Groups.{same_from, same_to, inside, least}
+use Rattle.support_reachability.proofs.Ranks.{joined}
+use Rattle.syntax_parser.specs.declared.tree.Name.{Name}
+use Rattle.spec_ir.specs.declared.spec_error.SpecError.{SpecError}
+use Rattle.spec_ir.specs.declared.spec_error.SpecError.TheVariants.{BadRecursion, NoMemory}
+use Rattle.spec_ir.specs.Terms.{Term}
 use Rattle.spec_calls.specs.declared.call.Call.{Call}
 use Rattle.spec_calls.specs.declared.group.Group.{Group}
 use Rattle.spec_calls.specs.Calls.{calls, call_of, call_graph}

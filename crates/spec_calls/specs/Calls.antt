@@ -1,6 +1,6 @@
 -- Calls in typed terms, and which of them stand in tail position.
 use Rattle.std.specs.Prelude.{ℕ, Bool, true, false, List, [], ◌∷◌, ◌++◌, map}
-use Rattle.spec_types.specs.Terms.{Term, Terms, Arms, var, flag, word, un, bin, test, cast, let_in, if_else, match_on, make, call, get, put, no_term, term_then, no_arm, arm_then}
+use Rattle.spec_ir.specs.Terms.{Term, Terms, Arms, var, flag, word, un, bin, test, cast, let_in, if_else, match_on, make, call, get, put, no_term, term_then, no_arm, arm_then}
 use Rattle.spec_calls.specs.declared.call.Call.{Call}
 
 -- a call of function f

@@ -1,8 +1,8 @@
 -- Groups of functions: two functions are of one group where each is the other, or each reaches the other by calls.
 use Rattle.std.specs.Prelude.{◌≡◌, ℕ, true, false, ◌↔◌, ◌⊎◌, ◌<◌, Some, List, length, slice_get}
 use Rattle.std.specs.List.{Contains}
-use Rattle.reachability.specs.Graph.{IsEdge, SameGroup, IsLeastOfGroup}
-use Rattle.spec_types.specs.Terms.{Term}
+use Rattle.support_reachability.specs.Graph.{IsEdge, SameGroup, IsLeastOfGroup}
+use Rattle.spec_ir.specs.Terms.{Term}
 use Rattle.spec_calls.specs.declared.group.Group.{Group}
 use Rattle.spec_calls.specs.Calls.{calls, call_of, call_graph}
 

@@ -1,9 +1,9 @@
 -- Laws of calls and groups.
 use Rattle.std.specs.Prelude.{◌≡◌, ℕ, Bool, true, Some, List, slice_get}
 use Rattle.std.specs.List.{Contains}
-use Rattle.tsl_parser.specs.declared.tree.Name.{Name}
-use Rattle.spec_types.specs.declared.spec_error.SpecError.{SpecError}
-use Rattle.spec_types.specs.Terms.{Term}
+use Rattle.syntax_parser.specs.declared.tree.Name.{Name}
+use Rattle.spec_ir.specs.declared.spec_error.SpecError.{SpecError}
+use Rattle.spec_ir.specs.Terms.{Term}
 use Rattle.spec_calls.specs.Calls.{calls, call_of}
 use Rattle.spec_calls.specs.Groups.{InOneGroup, IsRanked}
 use Rattle.spec_calls.specs.Recursion.{IsRecursionFault, NoRecursionFault}

@@ -1,9 +1,9 @@
 -- The fifth pass: functions that may not call as they do.
 use Rattle.std.specs.Prelude.{◌≡◌, ℕ, ◌<◌, Some, List, slice_get}
-use Rattle.tsl_parser.specs.declared.tree.Name.{Name}
-use Rattle.spec_types.specs.declared.spec_error.SpecError.{SpecError}
-use Rattle.spec_types.specs.declared.spec_error.SpecError.TheVariants.{BadRecursion}
-use Rattle.spec_types.specs.Terms.{Term}
+use Rattle.syntax_parser.specs.declared.tree.Name.{Name}
+use Rattle.spec_ir.specs.declared.spec_error.SpecError.{SpecError}
+use Rattle.spec_ir.specs.declared.spec_error.SpecError.TheVariants.{BadRecursion}
+use Rattle.spec_ir.specs.Terms.{Term}
 use Rattle.spec_calls.specs.Groups.{CallsGroupInside}
 
 -- The first function that calls one of its own group outside tail position is at fault, at its name (T7).

@@ -1,7 +1,7 @@
 -- What a table of which functions reach which tells: calls within a group outside tail position, and groups.
 use Rattle.std.specs.Prelude.{◌≡◌, ℕ, ◌+◌, Bool, not, ◌&&◌, Option, Some, None, List, [], ◌∷◌, length, slice_get, if◌then◌else◌}
 use Rattle.std.specs.List.{list_any}
-use Rattle.reachability.specs.Table.{same_group, group, says}
+use Rattle.support_reachability.specs.Table.{same_group, group, says}
 use Rattle.spec_calls.specs.declared.call.Call.{Call}
 use Rattle.spec_calls.specs.declared.group.Group.{Group}
 

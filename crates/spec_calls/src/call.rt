@@ -1,14 +1,14 @@
 //! Calls in typed terms.
 
 ghost use Rattle.std.specs.Prelude.{◌≡◌, ◌++◌, false, map, OnOk, IfOk};
-ghost use Rattle.spec_types.specs.Terms.{arms as arm_trees, terms};
-ghost use Rattle.spec_types.specs.Views as view;
-ghost use Rattle.tsl_match.specs.Views.{pat};
+ghost use Rattle.spec_ir.specs.Terms.{arms as arm_trees, terms};
+ghost use Rattle.spec_ir.specs.Views as view;
+ghost use Rattle.spec_match_compiler.specs.Views.{pat};
 ghost use Rattle.spec_calls.specs.Calls as spec;
 
-use spec_types::Term;
+use spec_ir::Term;
+use spec_match_compiler::Pattern;
 use std::alloc::{AllocError, Global};
-use tsl_match::Pattern;
 
 /// A call of a function, by its number, and whether it stands in tail position.
 #[derive(Clone, Copy, Debug, PartialEq, Eq, Drop)]

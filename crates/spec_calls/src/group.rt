@@ -1,16 +1,16 @@
 //! Groups of functions.
 
 ghost use Rattle.std.specs.Prelude.{◌≡◌, true, length, map, IfErr, IfOk};
-ghost use Rattle.reachability.specs.Table as reach;
-ghost use Rattle.spec_types.specs.Views as view;
-ghost use Rattle.spec_types.specs.declared.spec_error.SpecError.TheVariants.{NoMemory};
+ghost use Rattle.support_reachability.specs.Table as reach;
+ghost use Rattle.spec_ir.specs.Views as view;
+ghost use Rattle.spec_ir.specs.declared.spec_error.SpecError.TheVariants.{NoMemory};
 ghost use Rattle.spec_calls.specs.Calls as spec;
 ghost use Rattle.spec_calls.specs.Told as told;
 
 use crate::call::{Call, calls};
-use reachability::Reachability;
-use spec_types::{SpecError, Term, number};
+use spec_ir::{SpecError, Term, number};
 use std::alloc::{AllocError, Global};
+use support_reachability::Reachability;
 
 /// What is said of the group of a function: of the functions that reach it by calls and that it
 /// reaches, and of itself.
@@ -37,7 +37,7 @@ pub fn calls_of_all(alloc: Global, bodies: &[&Term]) -> Result<Vec<Vec<Call>>, A
 }
 
 /// The functions that are called.
-fn called(alloc: Global, found: &[Call]) -> Result<Vec<u32>, AllocError>
+fn called_functions(alloc: Global, found: &[Call]) -> Result<Vec<u32>, AllocError>
     ensures { IfOk result (λ r. r.items ≡ map (λ c. c.fun) found.now) }
 {
     let mut out = Vec::new(alloc);
@@ -53,7 +53,7 @@ pub fn call_graph(alloc: Global, all: &[Vec<Call>]) -> Result<Vec<Vec<u32>>, All
 {
     let mut graph = Vec::new(alloc);
     for found in all {
-        graph.push(called(alloc, found)?)?;
+        graph.push(called_functions(alloc, found)?)?;
     }
     Ok(graph)
 }

@@ -1,19 +1,19 @@
 //! Functions that may not call as they do.
 
 ghost use Rattle.std.specs.Prelude.{◌≡◌, ◌⊎◌, ◌<◌, ◌&&◌, ℕ, length, map, not, IfErr, IfOk, IfSome, OnOk};
-ghost use Rattle.reachability.specs.Table as reach;
-ghost use Rattle.spec_types.specs.Views as view;
-ghost use Rattle.spec_types.specs.declared.spec_error.SpecError.TheVariants.{BadRecursion, NoMemory};
+ghost use Rattle.support_reachability.specs.Table as reach;
+ghost use Rattle.spec_ir.specs.Views as view;
+ghost use Rattle.spec_ir.specs.declared.spec_error.SpecError.TheVariants.{BadRecursion, NoMemory};
 ghost use Rattle.spec_calls.specs.Groups.{AreGroups, IsRanked};
 ghost use Rattle.spec_calls.specs.Recursion.{IsRecursionFault, NoRecursionFault};
 ghost use Rattle.spec_calls.specs.Told as told;
 
 use crate::call::Call;
 use crate::group::{Group, all_groups, call_graph, calls_of_all};
-use reachability::Reachability;
-use spec_types::{SpecError, Term};
+use spec_ir::{SpecError, Term};
 use std::alloc::Global;
-use tsl_parser::tree::Name;
+use support_reachability::Reachability;
+use syntax_parser::tree::Name;
 
 /// Whether a call of function f is of its own group and outside tail position.
 fn is_inside(table: &Reachability, f: usize, call: &Call) -> bool

@@ -1,33 +1,33 @@
 -- The core term by the tree is the core term of the typed term.
 use Rattle.std.proofs.Common.{◌≡◌, ℕ, true, Option, Some, None, option_map, List, [], ◌∷◌, ◌++◌, ◌+◌, length, slice_get, unwrap_or, refl, sym, subst, ap, ◌∙◌, arith}
 use Rattle.std.proofs.lemmas.Option.{slice_get-map}
-use Rattle.tsl_parser.specs.Tree as e
-use Rattle.tsl_parser.specs.Tree.{Term as Expr, Terms as Exprs, Arms as ExprArms, Pattern, Patterns}
-use Rattle.tsl_parser.specs.declared.tree.Name.{Name}
-use Rattle.tsl_parser.specs.declared.tree.Num.{Num}
-use Rattle.tsl_parser.specs.declared.tree.PreOp.{PreOp}
-use Rattle.tsl_parser.specs.declared.tree.Span.{Span}
-use Rattle.tsl_match.specs.Patterns as m
-use Rattle.spec_types.specs.declared.ty.Ty.{Ty}
-use Rattle.spec_types.specs.declared.ty.Ty.TheVariants.{Bool as Flag, Word, Data as DataTy, Map as MapOf}
-use Rattle.spec_types.specs.declared.spec_error.SpecError.{SpecError}
-use Rattle.spec_types.specs.declared.term.CastKind.{CastKind}
-use Rattle.spec_types.specs.Answers.{◌then◌, within, found}
-use Rattle.spec_types.specs.Environment.{Environment, Scope, Variable, Function, Constructor, variable_named, function_named, constructor_named, or_else}
-use Rattle.spec_types.specs.Terms as s
-use Rattle.spec_types.specs.Terms.{patterns_of}
-use Rattle.spec_types.specs.CoreTerms as c
-use Rattle.spec_types.specs.Texts.{case_at, fields_at}
-use Rattle.spec_types.specs.Cores.{tree_of, result_of, variable_types, all_variable_types, type_in, core_of, cores_of}
-use Rattle.spec_types.specs.Cores as k
-use Rattle.spec_types.specs.TermTypes.{PatternTyped, PatternsTyped}
-use Rattle.spec_types.specs.WellFormed.{IsWellFormed, is_scope, is_type}
-use Rattle.spec_types.proofs.Checks.{then_left, then_right}
+use Rattle.syntax_parser.specs.Tree as e
+use Rattle.syntax_parser.specs.Tree.{Term as Expr, Terms as Exprs, Arms as ExprArms, Pattern, Patterns}
+use Rattle.syntax_parser.specs.declared.tree.Name.{Name}
+use Rattle.syntax_parser.specs.declared.tree.Num.{Num}
+use Rattle.syntax_parser.specs.declared.tree.PreOp.{PreOp}
+use Rattle.syntax_parser.specs.declared.tree.Span.{Span}
+use Rattle.spec_match_compiler.specs.Patterns as m
+use Rattle.spec_ir.specs.declared.ty.Ty.{Ty}
+use Rattle.spec_ir.specs.declared.ty.Ty.TheVariants.{Bool as Flag, Word, Data as DataTy, Map as MapOf}
+use Rattle.spec_ir.specs.declared.spec_error.SpecError.{SpecError}
+use Rattle.spec_ir.specs.declared.term.CastKind.{CastKind}
+use Rattle.spec_ir.specs.Answers.{◌then◌, within, found}
+use Rattle.spec_ir.specs.Environment.{Environment, Scope, Variable, Function, Constructor, variable_named, function_named, constructor_named, or_else}
+use Rattle.spec_ir.specs.Terms as s
+use Rattle.spec_ir.specs.Terms.{patterns_of}
+use Rattle.spec_ir.specs.CoreTerms as c
+use Rattle.spec_ir.specs.Texts.{case_at, fields_at}
+use Rattle.spec_ir.specs.Cores.{tree_of, result_of, variable_types, all_variable_types, type_in, core_of, cores_of}
+use Rattle.spec_ir.specs.Cores as k
+use Rattle.spec_ir.specs.TermTypes.{PatternTyped, PatternsTyped}
+use Rattle.spec_ir.specs.WellFormed.{IsWellFormed, is_scope, is_type}
+use Rattle.spec_ir.proofs.Checks.{then_left, then_right}
 use Rattle.spec_patterns.specs.Faults.{unknown, count_fault}
 use Rattle.spec_patterns.specs.Patterns.{pattern_fault, pattern_of, variables, fields_of, case_number}
 use Rattle.spec_patterns.proofs.Suits.{lengths as counts}
-use Rattle.spec_forms.specs.Forms.{operator_term, operator_type, operator_core, prefix_term, prefix_type, prefix_core, width_of}
-use Rattle.spec_forms.specs.Operators.{Operator, both, either, operation, comparison, operator_of, keyword_operator, cast_of}
+use Rattle.spec_term_forms.specs.Forms.{operator_term, operator_type, operator_core, prefix_term, prefix_type, prefix_core, width_of}
+use Rattle.spec_term_forms.specs.Operators.{Operator, both, either, operation, comparison, operator_of, keyword_operator, cast_of}
 use Rattle.spec_typing.specs.Parts.{wanted, wanted_if, word_wanted, map_wanted}
 use Rattle.spec_typing.specs.Terms.{fault_in, type_of, term_of, part, terms_of, arms_of, arms_type, arms_fault, argument_faults, terms_len, operands_fault, operand_fault, prefix_fault, get_fault, cast_to_fault, params_of, number_of, datatype_of, place_of, map_of, type_or, enter, rows_of}
 use Rattle.spec_typing.specs.Cores.{core_in, cores_in, arm_cores}

@@ -2,9 +2,9 @@
 use Rattle.std.proofs.Common.{◌≡◌, ℕ, suc, ◌+◌, ◌<◌, Bool, true, false, cond, Option, Some, None, List, [], ◌∷◌, length, refl, subst, ap, ◌∙◌, arith, slice_get}
 use Rattle.std.specs.Prelude.{bytes_eq}
 use Rattle.std.proofs.lemmas.Option.{slice_get_within}
-use Rattle.spec_types.specs.declared.ty.Ty.TheVariants.{Data as DataTy}
-use Rattle.spec_types.specs.Environment.{Environment, Scope, Case, Data, Signature, Constructor, Function, Variable, field_types, case_from, constructor_from, constructor_named, function_from, function_named, variable_from, variable_named, or_else}
-use Rattle.spec_types.specs.Texts.{case_at, fields_at}
+use Rattle.spec_ir.specs.declared.ty.Ty.TheVariants.{Data as DataTy}
+use Rattle.spec_ir.specs.Environment.{Environment, Scope, Case, Data, Signature, Constructor, Function, Variable, field_types, case_from, constructor_from, constructor_named, function_from, function_named, variable_from, variable_named, or_else}
+use Rattle.spec_ir.specs.Texts.{case_at, fields_at}
 
 -- ---- variables
 pub record VariableAt (n : ℕ) (scope : Scope) (v : Variable) : Type 0 where

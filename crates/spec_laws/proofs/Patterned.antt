@@ -1,17 +1,17 @@
 -- A pattern without a fault has the type of what it is matched with, and its variables theirs.
 use Rattle.std.proofs.Common.{◌≡◌, ◌+◌, Option, Some, None, List, [], ◌∷◌, ◌++◌, length, refl, sym, subst, ap, ◌∙◌, arith}
 use Rattle.std.proofs.lemmas.List.{map-append, length-map, length-append}
-use Rattle.tsl_parser.specs.Tree as e
-use Rattle.tsl_parser.specs.Tree.{Pattern, Patterns}
-use Rattle.tsl_parser.specs.declared.tree.Name.{Name}
-use Rattle.tsl_parser.specs.declared.tree.Span.{Span}
-use Rattle.tsl_match.specs.Patterns as m
-use Rattle.spec_types.specs.declared.ty.Ty.{Ty}
-use Rattle.spec_types.specs.declared.ty.Ty.TheVariants.{Bool as Flag, Word, Data as DataTy}
-use Rattle.spec_types.specs.Answers.{◌then◌, found}
-use Rattle.spec_types.specs.Environment.{Environment, Scope, Constructor, constructor_named, same_type}
-use Rattle.spec_types.specs.TermTypes.{PatternTyped, PatternsTyped}
-use Rattle.spec_types.proofs.Checks.{then_left, then_right, unless_none}
+use Rattle.syntax_parser.specs.Tree as e
+use Rattle.syntax_parser.specs.Tree.{Pattern, Patterns}
+use Rattle.syntax_parser.specs.declared.tree.Name.{Name}
+use Rattle.syntax_parser.specs.declared.tree.Span.{Span}
+use Rattle.spec_match_compiler.specs.Patterns as m
+use Rattle.spec_ir.specs.declared.ty.Ty.{Ty}
+use Rattle.spec_ir.specs.declared.ty.Ty.TheVariants.{Bool as Flag, Word, Data as DataTy}
+use Rattle.spec_ir.specs.Answers.{◌then◌, found}
+use Rattle.spec_ir.specs.Environment.{Environment, Scope, Constructor, constructor_named, same_type}
+use Rattle.spec_ir.specs.TermTypes.{PatternTyped, PatternsTyped}
+use Rattle.spec_ir.proofs.Checks.{then_left, then_right, unless_none}
 use Rattle.spec_patterns.specs.Faults.{fits, unknown, count_fault, literal_fault, type_fault}
 use Rattle.spec_patterns.specs.Patterns as s
 use Rattle.spec_patterns.specs.Patterns.{pattern_fault, part_faults, pattern_of, parts_of, patterns_len, variables, part_variables, make_fault, case_number}

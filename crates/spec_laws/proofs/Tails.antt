@@ -3,12 +3,12 @@ use Rattle.std.proofs.Common.{◌≡◌, ℕ, zero, suc, ◌<◌, Bool, true, fa
 use Rattle.std.proofs.lemmas.Bool.{false≢true}
 use Rattle.std.proofs.lemmas.Option.{slice_get-map, unwrap_or-slice_get, same_Some as same_signature}
 use Rattle.std.proofs.lemmas.List.{length-map}
-use Rattle.reachability.specs.Graph.{Reaches, edge, onward}
-use Rattle.reachability.proofs.Ranks.{joined}
-use Rattle.spec_types.specs.declared.ty.Ty.{Ty}
-use Rattle.spec_types.specs.Environment.{Environment, Signature}
-use Rattle.spec_types.specs.Terms.{Term, Terms, Arms, var, flag, word, un, bin, test, cast, let_in, if_else, match_on, make, call, get, put, no_term, term_then, no_arm, arm_then}
-use Rattle.spec_types.specs.TermTypes.{HasType, ArmsHaveType}
+use Rattle.support_reachability.specs.Graph.{Reaches, edge, onward}
+use Rattle.support_reachability.proofs.Ranks.{joined}
+use Rattle.spec_ir.specs.declared.ty.Ty.{Ty}
+use Rattle.spec_ir.specs.Environment.{Environment, Signature}
+use Rattle.spec_ir.specs.Terms.{Term, Terms, Arms, var, flag, word, un, bin, test, cast, let_in, if_else, match_on, make, call, get, put, no_term, term_then, no_arm, arm_then}
+use Rattle.spec_ir.specs.TermTypes.{HasType, ArmsHaveType}
 use Rattle.spec_calls.specs.declared.call.Call.{Call}
 use Rattle.spec_calls.specs.Calls.{calls, all_calls, arm_calls, call_of, call_graph}
 use Rattle.spec_calls.specs.Groups.{InOneGroup, CallsTo}

@@ -4,34 +4,34 @@ use Rattle.std.specs.List.{list_all}
 use Rattle.std.proofs.lemmas.Bool.Decides.{nat_tests}
 use Rattle.std.proofs.lemmas.Option.{slice_get-map}
 use Rattle.std.proofs.lemmas.Bool.{and_from as and_both}
-use Rattle.tsl_parser.specs.Tree as e
-use Rattle.tsl_parser.specs.Tree.{Term as Expr, Terms as Exprs, Arms as ExprArms, Pattern}
-use Rattle.tsl_parser.specs.declared.tree.Name.{Name}
-use Rattle.tsl_parser.specs.declared.tree.Num.{Num}
-use Rattle.tsl_parser.specs.declared.tree.PreOp.{PreOp}
-use Rattle.tsl_parser.specs.declared.tree.Span.{Span}
-use Rattle.word_ops.specs.declared.kinds.Op1.{Op1}
-use Rattle.tsl_match.specs.Answers.{match_answer, decided}
-use Rattle.tsl_match.proofs.Truth.{and_left, and_right}
-use Rattle.spec_types.specs.declared.ty.Ty.{Ty}
-use Rattle.spec_types.specs.declared.ty.Ty.TheVariants.{Bool as Flag, Word, Data as DataTy, Map as MapOf}
-use Rattle.spec_types.specs.declared.declared.MapTy.{MapTy}
-use Rattle.spec_types.specs.declared.spec_error.SpecError.{SpecError}
-use Rattle.spec_types.specs.declared.term.CastKind.{CastKind}
-use Rattle.spec_types.specs.Answers.{◌then◌, within, found}
-use Rattle.spec_types.specs.Environment.{Environment, Scope, Variable, Function, Constructor, variable_named, function_named, constructor_named, key_type, value_type, value_of, same_type}
-use Rattle.spec_types.specs.Terms as s
-use Rattle.spec_types.specs.TermTypes.{HasType, HaveTypes, ArmsHaveType, CastFits}
-use Rattle.spec_types.specs.WellFormed.{IsWellFormed, is_type, is_scope, is_width, is_signature}
-use Rattle.spec_types.proofs.Lists.{all_at}
-use Rattle.spec_types.proofs.Checks.{then_left, then_right, unless_none, width_is}
+use Rattle.syntax_parser.specs.Tree as e
+use Rattle.syntax_parser.specs.Tree.{Term as Expr, Terms as Exprs, Arms as ExprArms, Pattern}
+use Rattle.syntax_parser.specs.declared.tree.Name.{Name}
+use Rattle.syntax_parser.specs.declared.tree.Num.{Num}
+use Rattle.syntax_parser.specs.declared.tree.PreOp.{PreOp}
+use Rattle.syntax_parser.specs.declared.tree.Span.{Span}
+use Rattle.word_operations.specs.declared.kinds.UnaryOperation.{UnaryOperation}
+use Rattle.spec_match_compiler.specs.Answers.{match_answer, decided}
+use Rattle.spec_match_compiler.proofs.Truth.{and_left, and_right}
+use Rattle.spec_ir.specs.declared.ty.Ty.{Ty}
+use Rattle.spec_ir.specs.declared.ty.Ty.TheVariants.{Bool as Flag, Word, Data as DataTy, Map as MapOf}
+use Rattle.spec_ir.specs.declared.declared.MapType.{MapType}
+use Rattle.spec_ir.specs.declared.spec_error.SpecError.{SpecError}
+use Rattle.spec_ir.specs.declared.term.CastKind.{CastKind}
+use Rattle.spec_ir.specs.Answers.{◌then◌, within, found}
+use Rattle.spec_ir.specs.Environment.{Environment, Scope, Variable, Function, Constructor, variable_named, function_named, constructor_named, key_type, value_type, value_of, same_type}
+use Rattle.spec_ir.specs.Terms as s
+use Rattle.spec_ir.specs.TermTypes.{HasType, HaveTypes, ArmsHaveType, CastFits}
+use Rattle.spec_ir.specs.WellFormed.{IsWellFormed, is_type, is_scope, is_width, is_signature}
+use Rattle.spec_ir.proofs.Lists.{all_at}
+use Rattle.spec_ir.proofs.Checks.{then_left, then_right, unless_none, width_is}
 use Rattle.spec_patterns.specs.Faults.{fits, unknown, count_fault, type_fault}
 use Rattle.spec_patterns.specs.Patterns.{pattern_fault, variables, fields_of, case_number}
 use Rattle.spec_patterns.proofs.Steps.{same_types, fits_width, fits_below}
 use Rattle.spec_patterns.proofs.Variables.{all_append, variables_are_typed}
 use Rattle.spec_patterns.proofs.Suits.{lengths as counts}
-use Rattle.spec_forms.specs.Forms.{operator_term, operator_type, prefix_term, prefix_type, width_of}
-use Rattle.spec_forms.specs.Operators.{Operator, both, either, operation, comparison, operator_of, keyword_operator, cast_of, cast_fits}
+use Rattle.spec_term_forms.specs.Forms.{operator_term, operator_type, prefix_term, prefix_type, width_of}
+use Rattle.spec_term_forms.specs.Operators.{Operator, both, either, operation, comparison, operator_of, keyword_operator, cast_of, cast_fits}
 use Rattle.spec_typing.specs.Parts.{wanted, word_wanted, map_wanted, word_fault, map_fault, match_fault}
 use Rattle.spec_typing.specs.Terms.{fault_in, type_of, term_of, part, terms_of, arms_of, arms_type, arms_fault, argument_faults, terms_len, operands_fault, prefix_fault, get_fault, put_fault, cast_to_fault, params_of, number_of, datatype_of, place_of, map_of, type_or, enter}
 use Rattle.spec_laws.specs.Typed.{types, IsTyped}
@@ -70,7 +70,7 @@ some_arm env span ty h = cc
 
 module _ (env : Environment) (wf : IsWellFormed env) where
   -- ---- types of the environment
-  value_is : (o : Option MapTy) (m : ℕ) → slice_get env.maps m ≡ o → is_type env (value_of o) ≡ true
+  value_is : (o : Option MapType) (m : ℕ) → slice_get env.maps m ≡ o → is_type env (value_of o) ≡ true
   value_is None m h = refl
   value_is (Some d) m h = all_at (λ x. is_width x.width) env.maps m d wf.values h
 
@@ -198,7 +198,7 @@ module _ (env : Environment) (wf : IsWellFormed env) where
         ty = Word k.w;
         found_it = k.found;
         is = k.is;
-        has = subst (λ o. HasType env (types scope) (s.un Op1.Not (width_of o) (term_of env scope x)) (Word k.w)) (sym k.found) (k.has, refl);
+        has = subst (λ o. HasType env (types scope) (s.un UnaryOperation.Not (width_of o) (term_of env scope x)) (Word k.w)) (sym k.found) (k.has, refl);
       }
   prefix_typed scope PreOp.Minus x fx h =
       let k = word_typed scope x fx h in
@@ -206,7 +206,7 @@ module _ (env : Environment) (wf : IsWellFormed env) where
         ty = Word k.w;
         found_it = k.found;
         is = k.is;
-        has = subst (λ o. HasType env (types scope) (s.un Op1.Neg (width_of o) (term_of env scope x)) (Word k.w)) (sym k.found) (k.has, refl);
+        has = subst (λ o. HasType env (types scope) (s.un UnaryOperation.Neg (width_of o) (term_of env scope x)) (Word k.w)) (sym k.found) (k.has, refl);
       }
 
   cast_typed : (scope : Scope) (kind : CastKind) (x : Expr) (to : Num) (span : Span) → Goes scope x → cast_to_fault env kind (part env scope x) to span ≡ None

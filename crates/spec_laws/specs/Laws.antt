@@ -1,12 +1,12 @@
 -- Laws of terms without faults.
 use Rattle.std.specs.Prelude.{◌≡◌, ℕ, true, Some, None, List, slice_get}
-use Rattle.tsl_parser.specs.Tree.{Term as Expr}
-use Rattle.spec_types.specs.declared.ty.Ty.{Ty}
-use Rattle.spec_types.specs.Environment.{Environment, Scope, Signature}
-use Rattle.spec_types.specs.Terms.{Term}
-use Rattle.spec_types.specs.TermTypes.{HasType}
-use Rattle.spec_types.specs.Cores.{core_of}
-use Rattle.spec_types.specs.WellFormed.{IsWellFormed, is_scope}
+use Rattle.syntax_parser.specs.Tree.{Term as Expr}
+use Rattle.spec_ir.specs.declared.ty.Ty.{Ty}
+use Rattle.spec_ir.specs.Environment.{Environment, Scope, Signature}
+use Rattle.spec_ir.specs.Terms.{Term}
+use Rattle.spec_ir.specs.TermTypes.{HasType}
+use Rattle.spec_ir.specs.Cores.{core_of}
+use Rattle.spec_ir.specs.WellFormed.{IsWellFormed, is_scope}
 use Rattle.spec_typing.specs.Parts.{wanted}
 use Rattle.spec_typing.specs.Terms.{fault_in, part, term_of}
 use Rattle.spec_typing.specs.Cores.{core_in}

@@ -1,11 +1,11 @@
 -- Terms and bodies that have their types.
 use Rattle.std.specs.Prelude.{◌≡◌, ℕ, true, Some, List, map, slice_get}
-use Rattle.tsl_parser.specs.Tree.{Term as Expr}
-use Rattle.spec_types.specs.declared.ty.Ty.{Ty}
-use Rattle.spec_types.specs.Environment.{Environment, Scope, Signature}
-use Rattle.spec_types.specs.Terms.{Term}
-use Rattle.spec_types.specs.TermTypes.{HasType}
-use Rattle.spec_types.specs.WellFormed.{is_type}
+use Rattle.syntax_parser.specs.Tree.{Term as Expr}
+use Rattle.spec_ir.specs.declared.ty.Ty.{Ty}
+use Rattle.spec_ir.specs.Environment.{Environment, Scope, Signature}
+use Rattle.spec_ir.specs.Terms.{Term}
+use Rattle.spec_ir.specs.TermTypes.{HasType}
+use Rattle.spec_ir.specs.WellFormed.{is_type}
 use Rattle.spec_typing.specs.Terms.{type_of, term_of}
 
 -- the types of the names in scope

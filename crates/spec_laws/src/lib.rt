@@ -2,7 +2,7 @@
 //!
 //! A specification is accepted where no fault stands, and faults are found by a function over the
 //! tree. The layers above want another thing: that each term has a type, by a judgement that knows
-//! nothing of faults. `HasType` (of spec_types) is that judgement, and the laws here tie both:
+//! nothing of faults. `HasType` (of spec_ir) is that judgement, and the laws here tie both:
 //!
 //! - `terms_are_typed`: a term without a fault has a type of the environment, and its typed term has
 //!   that type by the judgement. The parts of an operator, the arguments of a call, the arms of a

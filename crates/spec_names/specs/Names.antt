@@ -1,16 +1,16 @@
 -- The first pass: names and counts.
 use Rattle.std.specs.Prelude.{ℕ, ◌+◌, Bool, true, false, not, Option, Some, None, List, [], ◌∷◌, ◌++◌, length, codes, bytes_eq, nat_lt, filter_map}
 use Rattle.std.specs.List.{list_any}
-use Rattle.tsl_parser.specs.declared.tree.Span.{Span}
-use Rattle.tsl_parser.specs.declared.tree.Name.{Name}
-use Rattle.tsl_parser.specs.declared.tree.FieldDecl.{FieldDecl}
-use Rattle.tsl_parser.specs.declared.tree.PartDecl.{PartDecl}
-use Rattle.tsl_parser.specs.declared.tree.PartDecl.TheVariants.{Fixed, Named}
-use Rattle.tsl_parser.specs.Tree as e
-use Rattle.tsl_parser.specs.Tree.{Tree, Item, Term as Expr, Terms as Exprs, Arms as ExprArms, Pattern, Patterns, Constructor, Datatype, Function, Row}
-use Rattle.spec_types.specs.declared.spec_error.SpecError.{SpecError}
-use Rattle.spec_types.specs.declared.spec_error.SpecError.TheVariants.{Twice, TooMany}
-use Rattle.spec_types.specs.Answers.{unless, ◌then◌}
+use Rattle.syntax_parser.specs.declared.tree.Span.{Span}
+use Rattle.syntax_parser.specs.declared.tree.Name.{Name}
+use Rattle.syntax_parser.specs.declared.tree.FieldDecl.{FieldDecl}
+use Rattle.syntax_parser.specs.declared.tree.PartDecl.{PartDecl}
+use Rattle.syntax_parser.specs.declared.tree.PartDecl.TheVariants.{Fixed, Named}
+use Rattle.syntax_parser.specs.Tree as e
+use Rattle.syntax_parser.specs.Tree.{Tree, Item, Term as Expr, Terms as Exprs, Arms as ExprArms, Pattern, Patterns, Constructor, Datatype, Function, Row}
+use Rattle.spec_ir.specs.declared.spec_error.SpecError.{SpecError}
+use Rattle.spec_ir.specs.declared.spec_error.SpecError.TheVariants.{Twice, TooMany}
+use Rattle.spec_ir.specs.Answers.{unless, ◌then◌}
 use Rattle.spec_names.specs.Limits.{most_types, most_constructors, most_functions, most_fields, most_rows}
 
 -- the names that were declared before, in their order

@@ -1,17 +1,17 @@
 //! Declarations.
 
 ghost use Rattle.std.specs.Prelude.{◌≡◌, [], ◌++◌, OnOk, filter_map, map};
-ghost use Rattle.tsl_parser.specs.View as view;
-ghost use Rattle.spec_types.specs.Answers.{Agrees};
+ghost use Rattle.syntax_parser.specs.View as view;
+ghost use Rattle.spec_ir.specs.Answers.{Agrees};
 ghost use Rattle.spec_names.specs.Names as spec;
 ghost use Rattle.spec_names.specs.Views.{seen};
 
 use crate::names::{Names, check_fields, too_many, twice_among};
 use crate::patterns::check_patterns;
-use spec_types::SpecError;
+use spec_ir::SpecError;
 use std::alloc::Global;
-use tsl_lexer::Text;
-use tsl_parser::tree::{CaseDecl, Item, PartDecl, RowDecl, Tree};
+use syntax_lexer::Text;
+use syntax_parser::tree::{CaseDecl, Item, PartDecl, RowDecl, Tree};
 
 /// Most types and map types together.
 const MOST_TYPES: usize = 256;

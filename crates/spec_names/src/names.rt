@@ -1,15 +1,15 @@
 //! Tables of names, and counts.
 
 ghost use Rattle.std.specs.Prelude.{◌≡◌, ◌++◌, ◌∷◌, [], IfOk, List, OnOk, length, map, not, true, ℕ};
-ghost use Rattle.spec_types.specs.Answers.{Agrees};
+ghost use Rattle.spec_ir.specs.Answers.{Agrees};
 ghost use Rattle.spec_names.specs.Names as spec;
 
 use indexmap::IndexSet;
-use spec_types::SpecError;
+use spec_ir::SpecError;
 use std::alloc::{AllocFailed, Global};
 use std::marker::Model;
-use tsl_lexer::Text;
-use tsl_parser::tree::{FieldDecl, Name, Span};
+use syntax_lexer::Text;
+use syntax_parser::tree::{FieldDecl, Name, Span};
 
 /// Most fields of a constructor, or parameters of a function.
 const MOST_FIELDS: usize = 16;

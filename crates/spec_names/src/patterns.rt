@@ -1,15 +1,15 @@
 //! Variables of patterns.
 
 ghost use Rattle.std.specs.Prelude.{◌≡◌, [], ◌++◌, OnOk, map};
-ghost use Rattle.tsl_parser.specs.Tree.{arms as arm_trees, patterns as pattern_trees, terms as exprs};
-ghost use Rattle.tsl_parser.specs.View.{arm as arm_tree, pattern as pattern_tree, term as expr};
-ghost use Rattle.spec_types.specs.Answers.{Agrees};
+ghost use Rattle.syntax_parser.specs.Tree.{arms as arm_trees, patterns as pattern_trees, terms as exprs};
+ghost use Rattle.syntax_parser.specs.View.{arm as arm_tree, pattern as pattern_tree, term as expr};
+ghost use Rattle.spec_ir.specs.Answers.{Agrees};
 ghost use Rattle.spec_names.specs.Names as spec;
 
 use crate::names::twice_among;
-use spec_types::SpecError;
+use spec_ir::SpecError;
 use std::alloc::{AllocError, Global};
-use tsl_parser::tree::{Arm, Expr, Name, Pat};
+use syntax_parser::tree::{Arm, Expr, Name, Pat};
 
 /// Puts the variables of a pattern behind others.
 #[cycle(variables)]

@@ -1,9 +1,9 @@
 -- Lists of patterns.
 use Rattle.std.proofs.Common.{◌≡◌, suc, List, [], ◌∷◌, ◌++◌, length, map, refl, ap}
-use Rattle.tsl_parser.specs.Tree.{patterns}
-use Rattle.tsl_parser.specs.View.{pattern}
-use Rattle.tsl_parser.specs.declared.tree.Pat.{Pat as ParsedPat}
-use Rattle.tsl_match.specs.Patterns.{Pattern, Patterns, no_pat, pat_then, pats}
+use Rattle.syntax_parser.specs.Tree.{patterns}
+use Rattle.syntax_parser.specs.View.{pattern}
+use Rattle.syntax_parser.specs.declared.tree.Pat.{Pat as ParsedPat}
+use Rattle.spec_match_compiler.specs.Patterns.{Pattern, Patterns, no_pat, pat_then, pats}
 use Rattle.spec_patterns.specs.Patterns.{patterns_len}
 
 -- patterns in front of more

@@ -1,10 +1,10 @@
 -- What tests of types and of widths say.
 use Rattle.std.proofs.Common.{◌≡◌, ℕ, ◌<◌, ◌^◌, true, refl, ap, arith}
 use Rattle.std.proofs.lemmas.Bool.Decides.{nat_tests}
-use Rattle.spec_types.specs.declared.ty.Ty.{Ty}
-use Rattle.spec_types.specs.declared.ty.Ty.TheVariants.{Bool as Flag, Word, Data as DataTy, Map as MapOf}
-use Rattle.spec_types.specs.Environment.{same_type}
-use Rattle.spec_types.specs.WellFormed.{is_width}
+use Rattle.spec_ir.specs.declared.ty.Ty.{Ty}
+use Rattle.spec_ir.specs.declared.ty.Ty.TheVariants.{Bool as Flag, Word, Data as DataTy, Map as MapOf}
+use Rattle.spec_ir.specs.Environment.{same_type}
+use Rattle.spec_ir.specs.WellFormed.{is_width}
 use Rattle.spec_patterns.specs.Faults.{fits}
 
 pub same_types : (a b : Ty) → same_type a b ≡ true → a ≡ b

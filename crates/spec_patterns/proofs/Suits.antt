@@ -1,18 +1,18 @@
 -- A pattern without faults suits the shape of what it is matched with.
 use Rattle.std.proofs.Common.{◌≡◌, ℕ, zero, suc, ◌+◌, ◌<◌, ◌^◌, Bool, true, false, ◌==◌, Option, Some, None, List, [], ◌∷◌, ◌++◌, length, map, refl, sym, subst, ap, ◌∙◌, arith, rules, slice_get, unwrap_or}
 use Rattle.std.proofs.lemmas.Bool.Decides.{nat_tests}
-use Rattle.tsl_parser.specs.Tree as e
-use Rattle.tsl_parser.specs.Tree.{Pattern, Patterns}
-use Rattle.tsl_parser.specs.declared.tree.Name.{Name}
-use Rattle.tsl_parser.specs.declared.tree.Span.{Span}
-use Rattle.tsl_match.specs.Patterns as m
-use Rattle.tsl_match.specs.Shapes.{Suits, AllSuit, fields_of}
-use Rattle.spec_types.specs.declared.ty.Ty.{Ty}
-use Rattle.spec_types.specs.declared.ty.Ty.TheVariants.{Bool as Flag, Word, Data as DataTy, Map as MapOf}
-use Rattle.spec_types.specs.declared.spec_error.SpecError.{SpecError}
-use Rattle.spec_types.specs.Answers.{◌then◌, unless, found}
-use Rattle.spec_types.specs.Environment.{Environment, Scope, Constructor, constructor_named, same_type, shape_of, shapes_of}
-use Rattle.spec_types.proofs.Checks.{then_left, then_right, unless_none}
+use Rattle.syntax_parser.specs.Tree as e
+use Rattle.syntax_parser.specs.Tree.{Pattern, Patterns}
+use Rattle.syntax_parser.specs.declared.tree.Name.{Name}
+use Rattle.syntax_parser.specs.declared.tree.Span.{Span}
+use Rattle.spec_match_compiler.specs.Patterns as m
+use Rattle.spec_match_compiler.specs.Shapes.{Suits, AllSuit, fields_of}
+use Rattle.spec_ir.specs.declared.ty.Ty.{Ty}
+use Rattle.spec_ir.specs.declared.ty.Ty.TheVariants.{Bool as Flag, Word, Data as DataTy, Map as MapOf}
+use Rattle.spec_ir.specs.declared.spec_error.SpecError.{SpecError}
+use Rattle.spec_ir.specs.Answers.{◌then◌, unless, found}
+use Rattle.spec_ir.specs.Environment.{Environment, Scope, Constructor, constructor_named, same_type, shape_of, shapes_of}
+use Rattle.spec_ir.proofs.Checks.{then_left, then_right, unless_none}
 use Rattle.spec_patterns.specs.Faults.{fits, unknown, count_fault, literal_fault, type_fault}
 use Rattle.spec_patterns.specs.Patterns as s
 use Rattle.spec_patterns.specs.Patterns.{pattern_fault, part_faults, pattern_of, parts_of, patterns_len, variables, make_fault, case_number}

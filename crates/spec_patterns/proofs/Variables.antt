@@ -3,13 +3,13 @@ use Rattle.std.proofs.Common.{◌≡◌, ℕ, ◌+◌, Bool, true, false, Option
 use Rattle.std.specs.List.{list_all}
 use Rattle.std.specs.Prelude.{if◌then◌else◌, bytes_eq}
 use Rattle.std.proofs.lemmas.Bool.{and_from as and_both}
-use Rattle.tsl_parser.specs.Tree as e
-use Rattle.tsl_parser.specs.Tree.{Pattern, Patterns}
-use Rattle.spec_types.specs.declared.ty.Ty.{Ty}
-use Rattle.spec_types.specs.Environment.{Environment, Scope, Case, Data, Constructor, field_types, case_from, constructor_from, constructor_named, or_else}
-use Rattle.spec_types.specs.WellFormed.{IsWellFormed, is_scope, is_type}
+use Rattle.syntax_parser.specs.Tree as e
+use Rattle.syntax_parser.specs.Tree.{Pattern, Patterns}
+use Rattle.spec_ir.specs.declared.ty.Ty.{Ty}
+use Rattle.spec_ir.specs.Environment.{Environment, Scope, Case, Data, Constructor, field_types, case_from, constructor_from, constructor_named, or_else}
+use Rattle.spec_ir.specs.WellFormed.{IsWellFormed, is_scope, is_type}
 use Rattle.spec_patterns.specs.Patterns.{fields_of, variables, part_variables}
-use Rattle.tsl_match.proofs.Truth.{and_left, and_right}
+use Rattle.spec_match_compiler.proofs.Truth.{and_left, and_right}
 
 pub all_append : {A : Type 0} (f : A → Bool) (xs ys : List A) → list_all f xs ≡ true → list_all f ys ≡ true → list_all f (xs ++ ys) ≡ true
 all_append f [] ys h k = k

@@ -1,15 +1,15 @@
 -- Faults of a name, a count, a literal and a type.
 use Rattle.std.specs.Prelude.{ℕ, ◌==◌, ◌^◌, ◌&&◌, Bool, Option, nat_lt}
-use Rattle.tsl_parser.specs.declared.tree.Span.{Span}
-use Rattle.tsl_parser.specs.declared.tree.Name.{Name}
-use Rattle.tsl_parser.specs.declared.tree.Num.{Num}
-use Rattle.spec_types.specs.declared.ty.Ty.{Ty}
-use Rattle.spec_types.specs.declared.spec_error.SpecError.{SpecError}
-use Rattle.spec_types.specs.declared.spec_error.SpecError.TheVariants.{Unknown, Mismatch, Arity, BadWidth}
-use Rattle.spec_types.specs.Answers.{unless}
-use Rattle.spec_types.specs.Environment.{Environment, same_type}
-use Rattle.spec_types.specs.Texts.{type_text, literal_text}
-use Rattle.spec_types.specs.WellFormed.{is_width}
+use Rattle.syntax_parser.specs.declared.tree.Span.{Span}
+use Rattle.syntax_parser.specs.declared.tree.Name.{Name}
+use Rattle.syntax_parser.specs.declared.tree.Num.{Num}
+use Rattle.spec_ir.specs.declared.ty.Ty.{Ty}
+use Rattle.spec_ir.specs.declared.spec_error.SpecError.{SpecError}
+use Rattle.spec_ir.specs.declared.spec_error.SpecError.TheVariants.{Unknown, Mismatch, Arity, BadWidth}
+use Rattle.spec_ir.specs.Answers.{unless}
+use Rattle.spec_ir.specs.Environment.{Environment, same_type}
+use Rattle.spec_ir.specs.Texts.{type_text, literal_text}
+use Rattle.spec_ir.specs.WellFormed.{is_width}
 
 -- whether a number fits a width
 abbrev pub fits : ℕ → ℕ → Bool

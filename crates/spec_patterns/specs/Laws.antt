@@ -1,10 +1,10 @@
 -- Laws of patterns.
 use Rattle.std.specs.Prelude.{◌≡◌, true, None}
-use Rattle.tsl_parser.specs.Tree.{Pattern}
-use Rattle.tsl_match.specs.Shapes.{Suits}
-use Rattle.spec_types.specs.declared.ty.Ty.{Ty}
-use Rattle.spec_types.specs.Environment.{Environment, Scope, shape_of, shapes_of}
-use Rattle.spec_types.specs.WellFormed.{IsWellFormed, is_scope, is_type}
+use Rattle.syntax_parser.specs.Tree.{Pattern}
+use Rattle.spec_match_compiler.specs.Shapes.{Suits}
+use Rattle.spec_ir.specs.declared.ty.Ty.{Ty}
+use Rattle.spec_ir.specs.Environment.{Environment, Scope, shape_of, shapes_of}
+use Rattle.spec_ir.specs.WellFormed.{IsWellFormed, is_scope, is_type}
 use Rattle.spec_patterns.specs.Patterns.{pattern_fault, pattern_of, variables}
 
 -- A pattern without a fault may stand where values have the type: the premise of a match.

@@ -1,15 +1,15 @@
 -- Patterns: the first fault, the variables, and the typed pattern.
 use Rattle.std.specs.Prelude.{ℕ, suc, Option, Some, None, List, [], ◌∷◌, ◌++◌, length}
-use Rattle.tsl_parser.specs.declared.tree.Name.{Name}
-use Rattle.tsl_parser.specs.declared.tree.Span.{Span}
-use Rattle.tsl_parser.specs.Tree as e
-use Rattle.tsl_parser.specs.Tree.{Pattern, Patterns}
-use Rattle.tsl_match.specs.Patterns as m
-use Rattle.spec_types.specs.declared.ty.Ty.{Ty}
-use Rattle.spec_types.specs.declared.ty.Ty.TheVariants.{Bool as Flag, Word, Data as DataTy}
-use Rattle.spec_types.specs.declared.spec_error.SpecError.{SpecError}
-use Rattle.spec_types.specs.Answers.{found, ◌then◌}
-use Rattle.spec_types.specs.Environment.{Environment, Constructor, Scope, constructor_named}
+use Rattle.syntax_parser.specs.declared.tree.Name.{Name}
+use Rattle.syntax_parser.specs.declared.tree.Span.{Span}
+use Rattle.syntax_parser.specs.Tree as e
+use Rattle.syntax_parser.specs.Tree.{Pattern, Patterns}
+use Rattle.spec_match_compiler.specs.Patterns as m
+use Rattle.spec_ir.specs.declared.ty.Ty.{Ty}
+use Rattle.spec_ir.specs.declared.ty.Ty.TheVariants.{Bool as Flag, Word, Data as DataTy}
+use Rattle.spec_ir.specs.declared.spec_error.SpecError.{SpecError}
+use Rattle.spec_ir.specs.Answers.{found, ◌then◌}
+use Rattle.spec_ir.specs.Environment.{Environment, Constructor, Scope, constructor_named}
 use Rattle.spec_patterns.specs.Faults.{unknown, count_fault, literal_fault, type_fault}
 
 -- how many patterns there are

@@ -1,13 +1,13 @@
 //! Faults of a name, a count, a literal and a type.
 
 ghost use Rattle.std.specs.Prelude.{◌≡◌, ◌⊎◌};
-ghost use Rattle.spec_types.specs.Answers.{Agrees};
-ghost use Rattle.spec_types.specs.WellFormed.{is_width};
+ghost use Rattle.spec_ir.specs.Answers.{Agrees};
+ghost use Rattle.spec_ir.specs.WellFormed.{is_width};
 ghost use Rattle.spec_patterns.specs.Faults as spec;
 
-use spec_types::{Environment, SpecError, Ty, literal_text, same_type};
+use spec_ir::{Environment, SpecError, Ty, literal_text, same_type};
 use std::alloc::Global;
-use tsl_parser::tree::{Name, Num, Span};
+use syntax_parser::tree::{Name, Num, Span};
 
 /// Whether a width is 1 to 64.
 pub fn is_width(w: u64) -> bool

@@ -1,20 +1,20 @@
 //! Patterns.
 
 ghost use Rattle.std.specs.Prelude.{◌≡◌, [], ◌∷◌, ◌++◌, IfErr, IfOk, OnOk, length, map};
-ghost use Rattle.tsl_parser.specs.Tree.{patterns as pattern_trees};
-ghost use Rattle.tsl_parser.specs.View.{pattern as pattern_tree};
-ghost use Rattle.tsl_match.specs.Patterns as m;
-ghost use Rattle.tsl_match.specs.Patterns.{pats};
-ghost use Rattle.tsl_match.specs.Views.{pat};
-ghost use Rattle.spec_types.specs.Answers.{Agrees};
-ghost use Rattle.spec_types.specs.Environment.{constructor_named};
+ghost use Rattle.syntax_parser.specs.Tree.{patterns as pattern_trees};
+ghost use Rattle.syntax_parser.specs.View.{pattern as pattern_tree};
+ghost use Rattle.spec_match_compiler.specs.Patterns as m;
+ghost use Rattle.spec_match_compiler.specs.Patterns.{pats};
+ghost use Rattle.spec_match_compiler.specs.Views.{pat};
+ghost use Rattle.spec_ir.specs.Answers.{Agrees};
+ghost use Rattle.spec_ir.specs.Environment.{constructor_named};
 ghost use Rattle.spec_patterns.specs.Patterns as spec;
 
 use crate::faults::{count_fault, literal_fault, type_fault, unknown};
-use spec_types::{Environment, Scope, SpecError, Ty, field_types, number};
+use spec_ir::{Environment, Scope, SpecError, Ty, field_types, number};
+use spec_match_compiler::Pattern;
 use std::alloc::Global;
-use tsl_match::Pattern;
-use tsl_parser::tree::{Name, Pat, Span};
+use syntax_parser::tree::{Name, Pat, Span};
 
 /// The typed pattern of a pattern where values have a type, or its first fault. Its variables enter
 /// the scope.
@@ -32,7 +32,7 @@ pub fn checked_pattern<'a>(
 {
     match p {
         Pat::Any { span: _span } => Ok(Pattern::Any),
-        Pat::Var(name) => Ok(Pattern::Bind(entered(scope, name, ty)?)),
+        Pat::Var(name) => Ok(Pattern::Bind(enter_variable(scope, name, ty)?)),
         Pat::Word { v, w, span } => {
             literal_fault(alloc, *v, *w, *span)?;
             type_fault(alloc, environment, ty, *span, Ty::Word(w.v as u32))?;
@@ -49,7 +49,7 @@ pub fn checked_pattern<'a>(
 }
 
 /// The place of a variable that enters the scope.
-fn entered<'a>(scope: &mut Scope<'a>, name: &'a Name, ty: Ty) -> Result<u32, SpecError>
+fn enter_variable<'a>(scope: &mut Scope<'a>, name: &'a Name, ty: Ty) -> Result<u32, SpecError>
     ensures memory { IfErr result (λ e. e ≡ SpecError.NoMemory) }
     ensures place { IfOk result (λ n. n ≡ length scope.old) }
     ensures scope { OnOk result (scope.new ≡ scope.old ++ (name.now.text, ty) ∷ []) }

@@ -1,10 +1,10 @@
 -- Lists of terms and arms.
 use Rattle.std.proofs.Common.{◌≡◌, List, [], ◌∷◌, ◌++◌, length, refl, ap, arith, Option, Some, None}
 use Rattle.std.specs.List.{zip}
-use Rattle.tsl_match.specs.Patterns.{Pattern}
-use Rattle.spec_types.specs.Environment.{or_else}
-use Rattle.spec_types.specs.Terms.{Term, Terms, Arms, terms_onto, term_then, arms_onto, arm_then}
-use Rattle.spec_types.specs.CoreTerms.{Core, Cores, cores_onto, core_then}
+use Rattle.spec_match_compiler.specs.Patterns.{Pattern}
+use Rattle.spec_ir.specs.Environment.{or_else}
+use Rattle.spec_ir.specs.Terms.{Term, Terms, Arms, terms_onto, term_then, arms_onto, arm_then}
+use Rattle.spec_ir.specs.CoreTerms.{Core, Cores, cores_onto, core_then}
 
 pub terms_onto_more : (out : List Term) (t : Term) (rest : Terms) → terms_onto (out ++ t ∷ []) rest ≡ terms_onto out (term_then t rest)
 terms_onto_more [] t rest = refl

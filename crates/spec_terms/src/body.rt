@@ -1,23 +1,23 @@
 //! Bodies of functions.
 
 ghost use Rattle.std.specs.Prelude.{◌≡◌, IfOk, OnOk, true};
-ghost use Rattle.tsl_parser.specs.View.{term as expr};
-ghost use Rattle.spec_types.specs.Answers.{Agrees};
-ghost use Rattle.spec_types.specs.Views.{core, term};
-ghost use Rattle.spec_types.specs.WellFormed.{IsWellFormed, is_scope};
+ghost use Rattle.syntax_parser.specs.View.{term as expr};
+ghost use Rattle.spec_ir.specs.Answers.{Agrees};
+ghost use Rattle.spec_ir.specs.Views.{core, term};
+ghost use Rattle.spec_ir.specs.WellFormed.{IsWellFormed, is_scope};
 ghost use Rattle.spec_typing.specs.Cores.{core_in};
 ghost use Rattle.spec_typing.specs.Parts.{wanted};
 ghost use Rattle.spec_typing.specs.Terms.{part, term_of};
 
-use crate::terms::of_type;
-use spec_forms::Forms;
-use spec_types::{Environment, Scope, SpecError, Ty};
+use crate::terms::check_of_type;
+use spec_ir::{Environment, Scope, SpecError, Ty};
+use spec_term_forms::Forms;
 use std::alloc::Global;
-use tsl_parser::tree::Expr;
+use syntax_parser::tree::Expr;
 
 /// The body of a function, in both forms, or its first fault. The parameters are in scope, and the
 /// body has to have the type of the result.
-pub fn checked_body<'a>(
+pub fn check_body_term<'a>(
     alloc: Global,
     environment: &Environment,
     scope: &mut Scope<'a>,
@@ -31,5 +31,5 @@ pub fn checked_body<'a>(
     ensures core { IfOk result (λ r. core r.core ≡ core_in environment.now scope.old (expr body.now)) }
     ensures scope { OnOk result (scope.new ≡ scope.old) }
 {
-    of_type(alloc, environment, scope, body, want)
+    check_of_type(alloc, environment, scope, body, want)
 }

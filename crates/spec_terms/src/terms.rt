@@ -5,42 +5,42 @@
 
 ghost use Rattle.std.specs.Prelude.{◌≡◌, ◌++◌, IfOk, None, OnOk, Some, length, map, option_map, true};
 ghost use Rattle.std.specs.List.{zip};
-ghost use Rattle.tsl_parser.specs.Tree.{arms as arm_trees, terms as exprs};
-ghost use Rattle.tsl_parser.specs.View.{arm as arm_tree, term as expr};
-ghost use Rattle.tsl_match.specs.Answers.{match_answer};
-ghost use Rattle.tsl_match.specs.Views.{pat};
-ghost use Rattle.spec_types.specs.Answers.{Agrees, ◌then◌};
-ghost use Rattle.spec_types.specs.CoreTerms as k;
-ghost use Rattle.spec_types.specs.Cores.{tree_of};
-ghost use Rattle.spec_types.specs.Environment.{constructor_named, function_named, shape_of, shapes_of, value_type};
-ghost use Rattle.spec_types.specs.Terms as s;
-ghost use Rattle.spec_types.specs.Views.{core, term};
-ghost use Rattle.spec_types.specs.WellFormed.{IsWellFormed, is_scope, is_type};
+ghost use Rattle.syntax_parser.specs.Tree.{arms as arm_trees, terms as exprs};
+ghost use Rattle.syntax_parser.specs.View.{arm as arm_tree, term as expr};
+ghost use Rattle.spec_match_compiler.specs.Answers.{match_answer};
+ghost use Rattle.spec_match_compiler.specs.Views.{pat};
+ghost use Rattle.spec_ir.specs.Answers.{Agrees, ◌then◌};
+ghost use Rattle.spec_ir.specs.CoreTerms as k;
+ghost use Rattle.spec_ir.specs.Cores.{tree_of};
+ghost use Rattle.spec_ir.specs.Environment.{constructor_named, function_named, shape_of, shapes_of, value_type};
+ghost use Rattle.spec_ir.specs.Terms as s;
+ghost use Rattle.spec_ir.specs.Views.{core, term};
+ghost use Rattle.spec_ir.specs.WellFormed.{IsWellFormed, is_scope, is_type};
 ghost use Rattle.spec_patterns.specs.Patterns as pattern;
 ghost use Rattle.spec_typing.specs.Cores as cores;
-ghost use Rattle.spec_forms.specs.Forms as forms;
-ghost use Rattle.spec_forms.specs.Operators as operators;
-ghost use Rattle.spec_forms.specs.OperatorViews.{operator};
+ghost use Rattle.spec_term_forms.specs.Forms as forms;
+ghost use Rattle.spec_term_forms.specs.Operators as operators;
+ghost use Rattle.spec_term_forms.specs.OperatorViews.{operator};
 ghost use Rattle.spec_typing.specs.Parts as parts;
 ghost use Rattle.spec_typing.specs.Terms as spec;
 
-use spec_forms::{
+use spec_ir::{Environment, Scope, SpecError, Ty, span_of};
+use spec_term_forms::{
     Branch, Branches, Forms, Lists, Operator, call, flag, get, if_else, keyword_operator, let_in,
     make, operator_of, put,
 };
-use spec_steps::{
-    body_part, callee_of, casted, count_of, decided, maker_of, map_part, operand_part, operated,
-    prefixed, typed_part,
+use spec_term_steps::{
+    body_part, callee_of, count_of, finish_cast, finish_match, finish_operation, finish_prefix,
+    maker_of, map_part, operand_part, typed_part,
 };
-use spec_types::{Environment, Scope, SpecError, Ty, span_of};
 use spec_typing::{Typed, a_literal, a_variable, enter, enter_pattern};
 use std::alloc::Global;
-use tsl_lexer::Keyword;
-use tsl_parser::tree::{Arm, Expr, Name, Num, PreOp, Span};
+use syntax_lexer::Keyword;
+use syntax_parser::tree::{Arm, Expr, Name, Num, PreOp, Span};
 
 /// The checked term of a term, or its first fault.
-#[cycle(checked)]
-pub fn checked<'a>(
+#[cycle(check_term)]
+pub fn check_term<'a>(
     alloc: Global,
     environment: &Environment,
     scope: &mut Scope<'a>,
@@ -61,61 +61,61 @@ pub fn checked<'a>(
             ty: Ty::Bool,
         }),
         Expr::Var(name) => a_variable(alloc, scope, name),
-        Expr::Paren { x, span: _span } => checked(alloc, environment, scope, x),
+        Expr::Paren { x, span: _span } => check_term(alloc, environment, scope, x),
         Expr::Let {
             name,
             x,
             then,
             span: _span,
-        } => bound(alloc, environment, scope, name, x, then),
+        } => check_let(alloc, environment, scope, name, x, then),
         Expr::If {
             c,
             yes,
             no,
             span: _span,
-        } => conditional(alloc, environment, scope, c, yes, no),
+        } => check_conditional(alloc, environment, scope, c, yes, no),
         Expr::Binary {
             op,
             x,
             y,
             span: _span,
-        } => operands(alloc, environment, scope, operator_of(*op), x, y),
+        } => check_operands(alloc, environment, scope, operator_of(*op), x, y),
         Expr::Op {
             op,
             x,
             y,
             span: _span,
-        } => operands(alloc, environment, scope, keyword_operator(*op), x, y),
-        Expr::Prefix { op, x, span: _span } => prefix(alloc, environment, scope, *op, x),
-        Expr::Cast { op, x, to, span } => a_cast(alloc, environment, scope, *op, x, *to, *span),
+        } => check_operands(alloc, environment, scope, keyword_operator(*op), x, y),
+        Expr::Prefix { op, x, span: _span } => check_prefix(alloc, environment, scope, *op, x),
+        Expr::Cast { op, x, to, span } => check_cast(alloc, environment, scope, *op, x, *to, *span),
         Expr::Get {
             x,
             key,
             span: _span,
-        } => got(alloc, environment, scope, x, key),
+        } => check_get(alloc, environment, scope, x, key),
         Expr::Put {
             x,
             key,
             v,
             span: _span,
-        } => changed(alloc, environment, scope, x, key, v),
+        } => check_put(alloc, environment, scope, x, key, v),
         Expr::Call {
             name,
             args,
             span: _span,
-        } => called(alloc, environment, scope, name, args),
+        } => check_call(alloc, environment, scope, name, args),
         Expr::Make {
             name,
             args,
             span: _span,
-        } => made(alloc, environment, scope, name, args),
-        Expr::Match { x, arms, span } => matched(alloc, environment, scope, x, arms, *span),
+        } => check_constructor(alloc, environment, scope, name, args),
+        Expr::Match { x, arms, span } => check_match(alloc, environment, scope, x, arms, *span),
     }
 }
 
 /// A part of which a type is wanted.
-#[cycle(checked)]
-pub fn of_type<'a>(
+#[cycle(check_term)]
+pub fn check_of_type<'a>(
     alloc: Global,
     environment: &Environment,
     scope: &mut Scope<'a>,
@@ -129,13 +129,13 @@ pub fn of_type<'a>(
     ensures core { IfOk result (λ r. core r.core ≡ cores.core_in environment.now scope.old (expr e.now)) }
     ensures scope { OnOk result (scope.new ≡ scope.old) }
 {
-    let x = checked(alloc, environment, scope, e)?;
+    let x = check_term(alloc, environment, scope, e)?;
     typed_part(alloc, environment, want, span_of(e), x)
 }
 
 /// A name for a term in another.
-#[cycle(checked)]
-fn bound<'a>(
+#[cycle(check_term)]
+fn check_let<'a>(
     alloc: Global,
     environment: &Environment,
     scope: &mut Scope<'a>,
@@ -152,12 +152,12 @@ fn bound<'a>(
     ensures scope { OnOk result (scope.new ≡ scope.old) }
 {
     let depth = scope.depth();
-    let x = checked(alloc, environment, scope, x)?;
+    let x = check_term(alloc, environment, scope, x)?;
     let Ok(()) = enter(environment, scope, &name.text, x.ty) else {
         drop(x);
         return Err(SpecError::NoMemory);
     };
-    let body = match checked(alloc, environment, scope, body) {
+    let body = match check_term(alloc, environment, scope, body) {
         Ok(body) => body,
         Err(e) => {
             drop(x);
@@ -170,8 +170,8 @@ fn bound<'a>(
 }
 
 /// A choice by a condition.
-#[cycle(checked)]
-fn conditional<'a>(
+#[cycle(check_term)]
+fn check_conditional<'a>(
     alloc: Global,
     environment: &Environment,
     scope: &mut Scope<'a>,
@@ -187,8 +187,8 @@ fn conditional<'a>(
     ensures core { IfOk result (λ r. core r.forms.core ≡ k.if_else (cores.core_in environment.now scope.old (expr c.now)) (cores.core_in environment.now scope.old (expr yes.now)) (cores.core_in environment.now scope.old (expr no.now))) }
     ensures scope { OnOk result (scope.new ≡ scope.old) }
 {
-    let c = of_type(alloc, environment, scope, c, Ty::Bool)?;
-    let yes = match checked(alloc, environment, scope, yes) {
+    let c = check_of_type(alloc, environment, scope, c, Ty::Bool)?;
+    let yes = match check_term(alloc, environment, scope, yes) {
         Ok(yes) => yes,
         Err(e) => {
             drop(c);
@@ -196,7 +196,7 @@ fn conditional<'a>(
         }
     };
     let ty = yes.ty;
-    let no = match of_type(alloc, environment, scope, no, ty) {
+    let no = match check_of_type(alloc, environment, scope, no, ty) {
         Ok(no) => no,
         Err(e) => {
             drop(c);
@@ -209,8 +209,8 @@ fn conditional<'a>(
 }
 
 /// An operator on two operands.
-#[cycle(checked)]
-fn operands<'a>(
+#[cycle(check_term)]
+fn check_operands<'a>(
     alloc: Global,
     environment: &Environment,
     scope: &mut Scope<'a>,
@@ -227,21 +227,21 @@ fn operands<'a>(
     ensures scope { OnOk result (scope.new ≡ scope.old) }
 {
     let span = span_of(x);
-    let x = checked(alloc, environment, scope, x)?;
+    let x = check_term(alloc, environment, scope, x)?;
     let x = operand_part(alloc, environment, op, span, x)?;
-    let y = match of_type(alloc, environment, scope, y, x.ty) {
+    let y = match check_of_type(alloc, environment, scope, y, x.ty) {
         Ok(y) => y,
         Err(e) => {
             drop(x);
             return Err(e);
         }
     };
-    Ok(operated(alloc, op, x, y)?)
+    Ok(finish_operation(alloc, op, x, y)?)
 }
 
 /// A prefix operator on an operand.
-#[cycle(checked)]
-fn prefix<'a>(
+#[cycle(check_term)]
+fn check_prefix<'a>(
     alloc: Global,
     environment: &Environment,
     scope: &mut Scope<'a>,
@@ -257,14 +257,14 @@ fn prefix<'a>(
     ensures scope { OnOk result (scope.new ≡ scope.old) }
 {
     let span = span_of(x);
-    let x = checked(alloc, environment, scope, x)?;
-    prefixed(alloc, environment, op, span, x)
+    let x = check_term(alloc, environment, scope, x)?;
+    finish_prefix(alloc, environment, op, span, x)
 }
 
 /// A cast.
-#[cycle(checked)]
+#[cycle(check_term)]
 #[tactic(auto, unfolding(spec_typing::specs::Terms::cast_to_fault))]
-fn a_cast<'a>(
+fn check_cast<'a>(
     alloc: Global,
     environment: &Environment,
     scope: &mut Scope<'a>,
@@ -282,13 +282,13 @@ fn a_cast<'a>(
     ensures scope { OnOk result (scope.new ≡ scope.old) }
 {
     let place = span_of(x);
-    let x = checked(alloc, environment, scope, x)?;
-    casted(alloc, environment, op, place, x, to, span)
+    let x = check_term(alloc, environment, scope, x)?;
+    finish_cast(alloc, environment, op, place, x, to, span)
 }
 
 /// An access to a map.
-#[cycle(checked)]
-fn got<'a>(
+#[cycle(check_term)]
+fn check_get<'a>(
     alloc: Global,
     environment: &Environment,
     scope: &mut Scope<'a>,
@@ -304,9 +304,9 @@ fn got<'a>(
     ensures scope { OnOk result (scope.new ≡ scope.old) }
 {
     let span = span_of(x);
-    let x = checked(alloc, environment, scope, x)?;
+    let x = check_term(alloc, environment, scope, x)?;
     let x = map_part(alloc, environment, span, x)?;
-    let key = match of_type(alloc, environment, scope, key, x.key) {
+    let key = match check_of_type(alloc, environment, scope, key, x.key) {
         Ok(key) => key,
         Err(e) => {
             drop(x);
@@ -319,8 +319,8 @@ fn got<'a>(
 }
 
 /// An update of a map.
-#[cycle(checked)]
-fn changed<'a>(
+#[cycle(check_term)]
+fn check_put<'a>(
     alloc: Global,
     environment: &Environment,
     scope: &mut Scope<'a>,
@@ -337,16 +337,16 @@ fn changed<'a>(
     ensures scope { OnOk result (scope.new ≡ scope.old) }
 {
     let span = span_of(x);
-    let x = checked(alloc, environment, scope, x)?;
+    let x = check_term(alloc, environment, scope, x)?;
     let x = map_part(alloc, environment, span, x)?;
-    let key = match of_type(alloc, environment, scope, key, x.key) {
+    let key = match check_of_type(alloc, environment, scope, key, x.key) {
         Ok(key) => key,
         Err(e) => {
             drop(x);
             return Err(e);
         }
     };
-    let v = match of_type(alloc, environment, scope, v, x.value) {
+    let v = match check_of_type(alloc, environment, scope, v, x.value) {
         Ok(v) => v,
         Err(e) => {
             drop(x);
@@ -360,8 +360,8 @@ fn changed<'a>(
 }
 
 /// A call of a function.
-#[cycle(checked)]
-fn called<'a>(
+#[cycle(check_term)]
+fn check_call<'a>(
     alloc: Global,
     environment: &Environment,
     scope: &mut Scope<'a>,
@@ -377,7 +377,7 @@ fn called<'a>(
     ensures scope { OnOk result (scope.new ≡ scope.old) }
 {
     let f = callee_of(alloc, environment, name, count_of(args))?;
-    let args = arguments(alloc, environment, scope, f.params, args)?;
+    let args = check_arguments(alloc, environment, scope, f.params, args)?;
     Ok(Typed {
         forms: call(f.fun, args),
         ty: f.result,
@@ -385,8 +385,8 @@ fn called<'a>(
 }
 
 /// A constructor with its arguments.
-#[cycle(checked)]
-fn made<'a>(
+#[cycle(check_term)]
+fn check_constructor<'a>(
     alloc: Global,
     environment: &Environment,
     scope: &mut Scope<'a>,
@@ -402,7 +402,7 @@ fn made<'a>(
     ensures scope { OnOk result (scope.new ≡ scope.old) }
 {
     let c = maker_of(alloc, environment, name, count_of(args))?;
-    let args = arguments(alloc, environment, scope, &c.fields, args)?;
+    let args = check_arguments(alloc, environment, scope, &c.fields, args)?;
     Ok(Typed {
         forms: make(c.ty, c.case, args),
         ty: Ty::Data(c.ty),
@@ -410,8 +410,8 @@ fn made<'a>(
 }
 
 /// Arguments, by the types of the parameters or fields.
-#[cycle(checked)]
-fn arguments<'a>(
+#[cycle(check_term)]
+fn check_arguments<'a>(
     alloc: Global,
     environment: &Environment,
     scope: &mut Scope<'a>,
@@ -428,15 +428,15 @@ fn arguments<'a>(
 {
     let mut out = Lists::new(alloc);
     for i in 0..types.len().min(args.len()) {
-        let arg = of_type(alloc, environment, scope, &args[i], types[i])?;
+        let arg = check_of_type(alloc, environment, scope, &args[i], types[i])?;
         out.push(arg)?;
     }
     Ok(out)
 }
 
 /// A match.
-#[cycle(checked)]
-fn matched<'a>(
+#[cycle(check_term)]
+fn check_match<'a>(
     alloc: Global,
     environment: &Environment,
     scope: &mut Scope<'a>,
@@ -454,20 +454,20 @@ fn matched<'a>(
         (cores.arm_cores environment.now scope.old (spec.type_or (spec.type_of environment.now scope.old (expr x.now))) (arm_trees (map arm_tree arms.now)))) }
     ensures scope { OnOk result (scope.new ≡ scope.old) }
 {
-    let x = checked(alloc, environment, scope, x)?;
-    let arms = match all_arms(alloc, environment, scope, x.ty, arms) {
+    let x = check_term(alloc, environment, scope, x)?;
+    let arms = match check_arms(alloc, environment, scope, x.ty, arms) {
         Ok(arms) => arms,
         Err(e) => {
             drop(x);
             return Err(e);
         }
     };
-    decided(alloc, environment, span, x, arms)
+    finish_match(alloc, environment, span, x, arms)
 }
 
 /// The arms of a match on values of a type.
-#[cycle(checked)]
-fn all_arms<'a>(
+#[cycle(check_term)]
+fn check_arms<'a>(
     alloc: Global,
     environment: &Environment,
     scope: &mut Scope<'a>,
@@ -486,15 +486,15 @@ fn all_arms<'a>(
 {
     let mut out = Branches::new(alloc);
     for i in 0..arms.len() {
-        let arm = an_arm(alloc, environment, scope, from, out.ty, &arms[i])?;
+        let arm = check_arm(alloc, environment, scope, from, out.ty, &arms[i])?;
         out.push(arm)?;
     }
     Ok(out)
 }
 
 /// An arm of a match on values of a type, with a body of the type that is wanted, where one is.
-#[cycle(checked)]
-fn an_arm<'a>(
+#[cycle(check_term)]
+fn check_arm<'a>(
     alloc: Global,
     environment: &Environment,
     scope: &mut Scope<'a>,
@@ -514,7 +514,7 @@ fn an_arm<'a>(
 {
     let depth = scope.depth();
     let pattern = enter_pattern(alloc, environment, scope, from, &arm.pat)?;
-    let body = checked(alloc, environment, scope, &arm.body)?;
+    let body = check_term(alloc, environment, scope, &arm.body)?;
     let body = body_part(alloc, environment, want, span_of(&arm.body), body)?;
     scope.leave(depth);
     Ok(Branch {

@@ -3,19 +3,19 @@ use Rattle.std.proofs.Common.{◌≡◌, ℕ, zero, suc, ◌<◌, true, Option, 
 use Rattle.std.proofs.lemmas.Bool.Decides.{nat_tests}
 use Rattle.std.proofs.lemmas.List.{length-map}
 use Rattle.std.specs.Prelude.{All}
-use Rattle.tsl_parser.specs.Tree as e
-use Rattle.tsl_parser.specs.Tree.{Term as Expr, Arms as ExprArms}
-use Rattle.tsl_match.specs.declared.pattern.Pattern.{Pattern}
-use Rattle.tsl_match.specs.declared.shape.Shape.{Shape}
-use Rattle.tsl_match.specs.Patterns as plain
-use Rattle.tsl_match.specs.Shapes.{Types, Suits, IsShape}
-use Rattle.tsl_match.specs.Views.{pat}
-use Rattle.spec_types.specs.declared.ty.Ty.{Ty}
-use Rattle.spec_types.specs.declared.ty.Ty.TheVariants.{Bool as Flag, Word, Data as DataTy, Map as MapOf}
-use Rattle.spec_types.specs.Answers.{◌then◌}
-use Rattle.spec_types.specs.Environment.{Environment, Scope, or_else, shape_of, shapes_of}
-use Rattle.spec_types.specs.WellFormed.{is_type}
-use Rattle.spec_types.proofs.Checks.{then_left, then_right, width_is}
+use Rattle.syntax_parser.specs.Tree as e
+use Rattle.syntax_parser.specs.Tree.{Term as Expr, Arms as ExprArms}
+use Rattle.spec_match_compiler.specs.declared.pattern.Pattern.{Pattern}
+use Rattle.spec_match_compiler.specs.declared.shape.Shape.{Shape}
+use Rattle.spec_match_compiler.specs.Patterns as plain
+use Rattle.spec_match_compiler.specs.Shapes.{Types, Suits, IsShape}
+use Rattle.spec_match_compiler.specs.Views.{pat}
+use Rattle.spec_ir.specs.declared.ty.Ty.{Ty}
+use Rattle.spec_ir.specs.declared.ty.Ty.TheVariants.{Bool as Flag, Word, Data as DataTy, Map as MapOf}
+use Rattle.spec_ir.specs.Answers.{◌then◌}
+use Rattle.spec_ir.specs.Environment.{Environment, Scope, or_else, shape_of, shapes_of}
+use Rattle.spec_ir.specs.WellFormed.{is_type}
+use Rattle.spec_ir.proofs.Checks.{then_left, then_right, width_is}
 use Rattle.spec_patterns.specs.Patterns.{pattern_fault, pattern_of, variables}
 use Rattle.spec_patterns.proofs.Suits.{suits}
 use Rattle.spec_typing.specs.Parts.{wanted_if}

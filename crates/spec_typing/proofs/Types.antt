@@ -4,29 +4,29 @@ use Rattle.std.proofs.lemmas.Bool.Decides.{nat_tests}
 use Rattle.std.specs.List.{list_all}
 use Rattle.std.specs.Prelude.{if◌then◌else◌, bytes_eq, nat_lt, option_map}
 use Rattle.std.proofs.lemmas.Bool.{and_from as and_both}
-use Rattle.tsl_parser.specs.Tree as e
-use Rattle.tsl_parser.specs.Tree.{Term as Expr, Arms as ExprArms, Pattern}
-use Rattle.tsl_parser.specs.declared.tree.Name.{Name}
-use Rattle.tsl_parser.specs.declared.tree.Num.{Num}
-use Rattle.tsl_parser.specs.declared.tree.PreOp.{PreOp}
-use Rattle.tsl_parser.specs.declared.tree.Span.{Span}
-use Rattle.tsl_match.specs.Answers.{match_answer, decided, decision}
-use Rattle.tsl_match.proofs.Truth.{and_left, and_right}
-use Rattle.spec_types.specs.declared.ty.Ty.{Ty}
-use Rattle.spec_types.specs.declared.ty.Ty.TheVariants.{Bool as Flag, Word, Data as DataTy, Map as MapOf}
-use Rattle.spec_types.specs.declared.declared.MapTy.{MapTy}
-use Rattle.spec_types.specs.declared.spec_error.SpecError.{SpecError}
-use Rattle.spec_types.specs.declared.term.CastKind.{CastKind}
-use Rattle.spec_types.specs.Answers.{◌then◌, unless, within, found}
-use Rattle.spec_types.specs.Environment.{Environment, Scope, Variable, Constructor, Function, Signature, Case, Data, field_types, case_from, constructor_from, constructor_named, function_from, function_named, variable_from, variable_named, or_else, value_of, value_type, shape_of, shapes_of}
-use Rattle.spec_types.specs.WellFormed.{IsWellFormed, is_scope, is_signature, is_type, is_width}
-use Rattle.spec_types.proofs.Checks.{then_left, then_right, unless_none}
+use Rattle.syntax_parser.specs.Tree as e
+use Rattle.syntax_parser.specs.Tree.{Term as Expr, Arms as ExprArms, Pattern}
+use Rattle.syntax_parser.specs.declared.tree.Name.{Name}
+use Rattle.syntax_parser.specs.declared.tree.Num.{Num}
+use Rattle.syntax_parser.specs.declared.tree.PreOp.{PreOp}
+use Rattle.syntax_parser.specs.declared.tree.Span.{Span}
+use Rattle.spec_match_compiler.specs.Answers.{match_answer, decided, decision}
+use Rattle.spec_match_compiler.proofs.Truth.{and_left, and_right}
+use Rattle.spec_ir.specs.declared.ty.Ty.{Ty}
+use Rattle.spec_ir.specs.declared.ty.Ty.TheVariants.{Bool as Flag, Word, Data as DataTy, Map as MapOf}
+use Rattle.spec_ir.specs.declared.declared.MapType.{MapType}
+use Rattle.spec_ir.specs.declared.spec_error.SpecError.{SpecError}
+use Rattle.spec_ir.specs.declared.term.CastKind.{CastKind}
+use Rattle.spec_ir.specs.Answers.{◌then◌, unless, within, found}
+use Rattle.spec_ir.specs.Environment.{Environment, Scope, Variable, Constructor, Function, Signature, Case, Data, field_types, case_from, constructor_from, constructor_named, function_from, function_named, variable_from, variable_named, or_else, value_of, value_type, shape_of, shapes_of}
+use Rattle.spec_ir.specs.WellFormed.{IsWellFormed, is_scope, is_signature, is_type, is_width}
+use Rattle.spec_ir.proofs.Checks.{then_left, then_right, unless_none}
 use Rattle.spec_patterns.specs.Faults.{fits, unknown, count_fault, literal_fault}
 use Rattle.spec_patterns.specs.Patterns.{variables, pattern_fault}
 use Rattle.spec_patterns.proofs.Steps.{fits_width}
 use Rattle.spec_patterns.proofs.Variables.{all_append, variables_are_typed}
-use Rattle.spec_forms.specs.Forms.{operator_type, prefix_type}
-use Rattle.spec_forms.specs.Operators.{Operator, both, either, operation, comparison, operator_of, keyword_operator, cast_of, cast_fits}
+use Rattle.spec_term_forms.specs.Forms.{operator_type, prefix_type}
+use Rattle.spec_term_forms.specs.Operators.{Operator, both, either, operation, comparison, operator_of, keyword_operator, cast_of, cast_fits}
 use Rattle.spec_typing.specs.Parts.{Part, wanted, wanted_if, word_wanted, map_wanted, word_fault, cast_fault, match_fault}
 use Rattle.spec_typing.specs.Terms.{fault_in, type_of, arms_fault, arms_type, part, rows_of, enter, type_or, operand_fault, prefix_fault, cast_to_fault, map_of, callee_fault, maker_fault}
 
@@ -83,10 +83,10 @@ datatype_below t (d ∷ rest) name c h = at (case_from t 0 d.cases name) refl (d
         let l = subst (λ (y : Constructor). y.ty ≡ t) same (case_number_is t 0 d.cases name x r) in
         omega (arith, l)
 
-value_fits : (env : Environment) (maps : List MapTy) (m : ℕ) → list_all (λ (d : MapTy). is_width d.width) maps ≡ true → is_type env (value_of (slice_get maps m)) ≡ true
+value_fits : (env : Environment) (maps : List MapType) (m : ℕ) → list_all (λ (d : MapType). is_width d.width) maps ≡ true → is_type env (value_of (slice_get maps m)) ≡ true
 value_fits env [] m h = refl
-value_fits env (d ∷ maps) zero h = and_left (is_width d.width) (list_all (λ (x : MapTy). is_width x.width) maps) h
-value_fits env (d ∷ maps) (suc m) h = value_fits env maps m (and_right (is_width d.width) (list_all (λ (x : MapTy). is_width x.width) maps) h)
+value_fits env (d ∷ maps) zero h = and_left (is_width d.width) (list_all (λ (x : MapType). is_width x.width) maps) h
+value_fits env (d ∷ maps) (suc m) h = value_fits env maps m (and_right (is_width d.width) (list_all (λ (x : MapType). is_width x.width) maps) h)
 
 -- ---- terms
 

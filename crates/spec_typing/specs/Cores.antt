@@ -1,16 +1,16 @@
 -- The core term of a term without faults, with each match as the decision for its patterns.
 use Rattle.std.specs.Prelude.{◌++◌}
-use Rattle.tsl_parser.specs.Tree as e
-use Rattle.tsl_parser.specs.Tree.{Term as Expr, Terms as Exprs, Arms as ExprArms}
-use Rattle.tsl_match.specs.Answers.{match_answer}
-use Rattle.spec_types.specs.declared.ty.Ty.{Ty}
-use Rattle.spec_types.specs.Environment.{Environment, Scope, variable_named, constructor_named, function_named, shape_of, shapes_of}
-use Rattle.spec_types.specs.CoreTerms as c
-use Rattle.spec_types.specs.CoreTerms.{Core, Cores}
-use Rattle.spec_types.specs.Cores.{tree_of}
+use Rattle.syntax_parser.specs.Tree as e
+use Rattle.syntax_parser.specs.Tree.{Term as Expr, Terms as Exprs, Arms as ExprArms}
+use Rattle.spec_match_compiler.specs.Answers.{match_answer}
+use Rattle.spec_ir.specs.declared.ty.Ty.{Ty}
+use Rattle.spec_ir.specs.Environment.{Environment, Scope, variable_named, constructor_named, function_named, shape_of, shapes_of}
+use Rattle.spec_ir.specs.CoreTerms as c
+use Rattle.spec_ir.specs.CoreTerms.{Core, Cores}
+use Rattle.spec_ir.specs.Cores.{tree_of}
 use Rattle.spec_patterns.specs.Patterns.{variables, case_number}
-use Rattle.spec_forms.specs.Forms.{operator_core, prefix_core, width_of}
-use Rattle.spec_forms.specs.Operators.{operator_of, keyword_operator, cast_of}
+use Rattle.spec_term_forms.specs.Forms.{operator_core, prefix_core, width_of}
+use Rattle.spec_term_forms.specs.Operators.{operator_of, keyword_operator, cast_of}
 use Rattle.spec_typing.specs.Terms.{type_of, rows_of, enter, type_or, map_of, place_of, number_of, datatype_of}
 
 module _ (env : Environment) where

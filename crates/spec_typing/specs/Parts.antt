@@ -1,22 +1,22 @@
 -- Faults of a part against what is wanted of it.
 use Rattle.std.specs.Prelude.{Option, Some, None, List, codes}
 use Rattle.std.specs.Fmt.{decimal}
-use Rattle.tsl_parser.specs.declared.tree.Span.{Span}
-use Rattle.tsl_parser.specs.declared.tree.Num.{Num}
-use Rattle.tsl_parser.specs.Tree.{Term as Expr}
-use Rattle.tsl_parser.specs.Nodes.{span_of}
-use Rattle.tsl_match.specs.Patterns.{Pattern}
-use Rattle.spec_types.specs.declared.ty.Ty.{Ty}
-use Rattle.spec_types.specs.declared.ty.Ty.TheVariants.{Bool as Flag, Word, Data as DataTy, Map as MapOf}
-use Rattle.spec_types.specs.declared.spec_error.SpecError.{SpecError}
-use Rattle.spec_types.specs.declared.spec_error.SpecError.TheVariants.{Mismatch, BadWidth, NotExhaustive, Useless}
-use Rattle.spec_types.specs.declared.term.CastKind.{CastKind}
-use Rattle.spec_types.specs.Answers.{unless, within, ◌then◌}
-use Rattle.spec_types.specs.Environment.{Environment, shape_of, shapes_of}
-use Rattle.spec_types.specs.Texts.{type_text, pattern_text}
-use Rattle.tsl_match.specs.Answers.{MatchAnswer, decision, not_exhaustive, useless, match_answer}
+use Rattle.syntax_parser.specs.declared.tree.Span.{Span}
+use Rattle.syntax_parser.specs.declared.tree.Num.{Num}
+use Rattle.syntax_parser.specs.Tree.{Term as Expr}
+use Rattle.syntax_parser.specs.Nodes.{span_of}
+use Rattle.spec_match_compiler.specs.Patterns.{Pattern}
+use Rattle.spec_ir.specs.declared.ty.Ty.{Ty}
+use Rattle.spec_ir.specs.declared.ty.Ty.TheVariants.{Bool as Flag, Word, Data as DataTy, Map as MapOf}
+use Rattle.spec_ir.specs.declared.spec_error.SpecError.{SpecError}
+use Rattle.spec_ir.specs.declared.spec_error.SpecError.TheVariants.{Mismatch, BadWidth, NotExhaustive, Useless}
+use Rattle.spec_ir.specs.declared.term.CastKind.{CastKind}
+use Rattle.spec_ir.specs.Answers.{unless, within, ◌then◌}
+use Rattle.spec_ir.specs.Environment.{Environment, shape_of, shapes_of}
+use Rattle.spec_ir.specs.Texts.{type_text, pattern_text}
+use Rattle.spec_match_compiler.specs.Answers.{MatchAnswer, decision, not_exhaustive, useless, match_answer}
 use Rattle.spec_patterns.specs.Faults.{type_fault}
-use Rattle.spec_forms.specs.Operators.{cast_fits}
+use Rattle.spec_term_forms.specs.Operators.{cast_fits}
 
 -- a part of a term: its span, its own first fault, and its type
 pub record Part : Type 0 where

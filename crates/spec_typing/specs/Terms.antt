@@ -1,22 +1,22 @@
 -- Terms: the first fault, the type, and the typed term.
 use Rattle.std.specs.Prelude.{ℕ, suc, Bool, true, false, Option, Some, None, List, [], ◌∷◌, ◌++◌, length, option_map, option_and_then}
-use Rattle.tsl_parser.specs.declared.tree.PreOp.{PreOp}
-use Rattle.tsl_parser.specs.declared.tree.Span.{Span}
-use Rattle.tsl_parser.specs.Tree as e
-use Rattle.tsl_parser.specs.Tree.{Term as Expr, Terms as Exprs, Arms as ExprArms, Pattern}
-use Rattle.tsl_parser.specs.declared.tree.Name.{Name}
-use Rattle.tsl_parser.specs.declared.tree.Num.{Num}
-use Rattle.tsl_match.specs.Patterns as plain
-use Rattle.spec_types.specs.declared.ty.Ty.{Ty}
-use Rattle.spec_types.specs.declared.ty.Ty.TheVariants.{Bool as Flag, Word, Data as DataTy, Map as MapOf}
-use Rattle.spec_types.specs.declared.spec_error.SpecError.{SpecError}
-use Rattle.spec_types.specs.declared.term.CastKind.{CastKind}
-use Rattle.spec_types.specs.Answers.{found, within, ◌then◌}
-use Rattle.spec_types.specs.Environment.{Environment, Scope, Variable, Constructor, Function, variable_named, constructor_named, function_named, key_type, value_type, or_else}
-use Rattle.spec_types.specs.Terms as s
-use Rattle.spec_types.specs.Terms.{Term, Terms, Arms}
-use Rattle.spec_forms.specs.Forms.{operator_term, operator_type, prefix_term, prefix_type, width_of}
-use Rattle.spec_forms.specs.Operators.{Operator, both, either, operation, comparison, operator_of, keyword_operator, cast_of}
+use Rattle.syntax_parser.specs.declared.tree.PreOp.{PreOp}
+use Rattle.syntax_parser.specs.declared.tree.Span.{Span}
+use Rattle.syntax_parser.specs.Tree as e
+use Rattle.syntax_parser.specs.Tree.{Term as Expr, Terms as Exprs, Arms as ExprArms, Pattern}
+use Rattle.syntax_parser.specs.declared.tree.Name.{Name}
+use Rattle.syntax_parser.specs.declared.tree.Num.{Num}
+use Rattle.spec_match_compiler.specs.Patterns as plain
+use Rattle.spec_ir.specs.declared.ty.Ty.{Ty}
+use Rattle.spec_ir.specs.declared.ty.Ty.TheVariants.{Bool as Flag, Word, Data as DataTy, Map as MapOf}
+use Rattle.spec_ir.specs.declared.spec_error.SpecError.{SpecError}
+use Rattle.spec_ir.specs.declared.term.CastKind.{CastKind}
+use Rattle.spec_ir.specs.Answers.{found, within, ◌then◌}
+use Rattle.spec_ir.specs.Environment.{Environment, Scope, Variable, Constructor, Function, variable_named, constructor_named, function_named, key_type, value_type, or_else}
+use Rattle.spec_ir.specs.Terms as s
+use Rattle.spec_ir.specs.Terms.{Term, Terms, Arms}
+use Rattle.spec_term_forms.specs.Forms.{operator_term, operator_type, prefix_term, prefix_type, width_of}
+use Rattle.spec_term_forms.specs.Operators.{Operator, both, either, operation, comparison, operator_of, keyword_operator, cast_of}
 use Rattle.spec_patterns.specs.Faults.{unknown, count_fault, literal_fault}
 use Rattle.spec_patterns.specs.Patterns.{pattern_fault, variables, pattern_of, fields_of, case_number}
 use Rattle.spec_typing.specs.Parts.{Part, part_of, cast_fault, wanted, wanted_if, word_wanted, map_wanted, match_fault}

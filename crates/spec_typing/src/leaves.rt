@@ -1,19 +1,19 @@
 //! Checked terms, and those without parts.
 
 ghost use Rattle.std.specs.Prelude.{◌≡◌, IfOk, None, Some, option_map};
-ghost use Rattle.spec_types.specs.Answers.{Agrees, found};
-ghost use Rattle.spec_types.specs.CoreTerms as k;
-ghost use Rattle.spec_types.specs.Environment.{variable_named};
-ghost use Rattle.spec_types.specs.Terms as s;
-ghost use Rattle.spec_types.specs.Views.{core, term};
+ghost use Rattle.spec_ir.specs.Answers.{Agrees, found};
+ghost use Rattle.spec_ir.specs.CoreTerms as k;
+ghost use Rattle.spec_ir.specs.Environment.{variable_named};
+ghost use Rattle.spec_ir.specs.Terms as s;
+ghost use Rattle.spec_ir.specs.Views.{core, term};
 ghost use Rattle.spec_patterns.specs.Faults as faults;
 ghost use Rattle.spec_typing.specs.Terms as spec;
 
-use spec_forms::{Forms, literal, variable};
+use spec_ir::{Scope, SpecError, Ty, number};
 use spec_patterns::{literal_fault, unknown};
-use spec_types::{Scope, SpecError, Ty, number};
+use spec_term_forms::{Forms, literal, variable};
 use std::alloc::Global;
-use tsl_parser::tree::{Name, Num, Span};
+use syntax_parser::tree::{Name, Num, Span};
 
 /// A checked term with its type.
 #[derive(Drop)]

@@ -1,19 +1,19 @@
 //! The decision of a match.
 
 ghost use Rattle.std.specs.Prelude.{◌≡◌, All, IfOk, map, true};
-ghost use Rattle.tsl_match.specs.Answers.{match_answer};
-ghost use Rattle.tsl_match.specs.Answers as answers;
-ghost use Rattle.tsl_match.specs.Shapes.{Suits};
-ghost use Rattle.tsl_match.specs.Views.{pat, tree};
-ghost use Rattle.spec_types.specs.Answers.{Agrees};
-ghost use Rattle.spec_types.specs.Environment.{shape_of, shapes_of};
-ghost use Rattle.spec_types.specs.WellFormed.{IsWellFormed, is_type};
+ghost use Rattle.spec_match_compiler.specs.Answers.{match_answer};
+ghost use Rattle.spec_match_compiler.specs.Answers as answers;
+ghost use Rattle.spec_match_compiler.specs.Shapes.{Suits};
+ghost use Rattle.spec_match_compiler.specs.Views.{pat, tree};
+ghost use Rattle.spec_ir.specs.Answers.{Agrees};
+ghost use Rattle.spec_ir.specs.Environment.{shape_of, shapes_of};
+ghost use Rattle.spec_ir.specs.WellFormed.{IsWellFormed, is_type};
 ghost use Rattle.spec_typing.specs.Parts as parts;
 
-use spec_types::{Environment, SpecError, Ty, number, shape};
+use spec_ir::{Environment, SpecError, Ty, number, shape};
+use spec_match_compiler::{Decision, MatchError, Pattern, compile};
 use std::alloc::Global;
-use tsl_match::{Decision, MatchError, Pattern, compile};
-use tsl_parser::tree::Span;
+use syntax_parser::tree::Span;
 
 /// The decision of a match on values of a type, or why it is refused.
 pub fn decision(

@@ -1,15 +1,15 @@
 //! Faults of a part against what is wanted of it.
 
 ghost use Rattle.std.specs.Prelude.{◌≡◌, ◌⊎◌, IfOk, codes};
-ghost use Rattle.spec_types.specs.Answers.{Agrees};
-ghost use Rattle.spec_types.specs.Texts.{type_text};
+ghost use Rattle.spec_ir.specs.Answers.{Agrees};
+ghost use Rattle.spec_ir.specs.Texts.{type_text};
 ghost use Rattle.spec_typing.specs.Parts as part;
 
-use spec_forms::cast_fits;
-use spec_types::{CastKind, Environment, SpecError, Ty, number_text};
+use spec_ir::{CastKind, Environment, SpecError, Ty, number_text};
+use spec_term_forms::cast_fits;
 use std::alloc::Global;
-use tsl_lexer::Text;
-use tsl_parser::tree::{Num, Span};
+use syntax_lexer::Text;
+use syntax_parser::tree::{Num, Span};
 
 /// A word may be cast to a width.
 pub fn cast_fault(

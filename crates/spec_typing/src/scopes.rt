@@ -1,18 +1,18 @@
 //! Names that enter a scope, with types of the environment.
 
 ghost use Rattle.std.specs.Prelude.{◌≡◌, [], ◌∷◌, ◌++◌, IfOk, OnOk, true};
-ghost use Rattle.tsl_parser.specs.View.{pattern as pattern_tree};
-ghost use Rattle.tsl_match.specs.Views.{pat};
-ghost use Rattle.spec_types.specs.Answers.{Agrees};
-ghost use Rattle.spec_types.specs.WellFormed.{IsWellFormed, is_scope, is_type};
+ghost use Rattle.syntax_parser.specs.View.{pattern as pattern_tree};
+ghost use Rattle.spec_match_compiler.specs.Views.{pat};
+ghost use Rattle.spec_ir.specs.Answers.{Agrees};
+ghost use Rattle.spec_ir.specs.WellFormed.{IsWellFormed, is_scope, is_type};
 ghost use Rattle.spec_patterns.specs.Patterns as spec;
 
+use spec_ir::{Environment, Scope, SpecError, Ty};
+use spec_match_compiler::Pattern;
 use spec_patterns::checked_pattern;
-use spec_types::{Environment, Scope, SpecError, Ty};
 use std::alloc::{AllocError, Global};
-use tsl_lexer::Text;
-use tsl_match::Pattern;
-use tsl_parser::tree::Pat;
+use syntax_lexer::Text;
+use syntax_parser::tree::Pat;
 
 /// A name enters.
 pub fn enter<'a>(

@@ -3,18 +3,18 @@ use Rattle.std.proofs.Common.{◌≡◌, ◌+◌, ◌<◌, ◌≤◌, ◌^◌, �
 use Rattle.std.proofs.lemmas.Bool.{and_parts, cases_Bool, ltb-true as below_is}
 use Rattle.std.proofs.lemmas.Bool.Decides.{nat_tests}
 use Rattle.std.specs.List.{list_all}
-use Rattle.spec_types.specs.declared.ty.Ty.{Ty}
-use Rattle.spec_types.specs.declared.ty.Ty.TheVariants.{Bool as Flag, Word, Data as DataTy, Map as MapOf}
-use Rattle.spec_types.specs.declared.declared.MapTy.{MapTy}
-use Rattle.spec_types.specs.Specification.{Spec}
-use Rattle.spec_types.specs.WellFormed.{is_width}
-use Rattle.tsl_values.specs.declared.entry.Given.TheVariants.{One}
-use Rattle.tsl_values.specs.declared.entry.KeyAt.TheVariants.{Whole, At}
-use Rattle.tsl_values.specs.declared.value.Cell.{Cell}
-use Rattle.tsl_values.specs.Types.{cell_fits, environment_of, has_type, have_types, key_count, keys_ascend, listed_fits, map_fits}
-use Rattle.tsl_values.specs.Values.{Val, flag, word, made, map as map_of, vals}
-use Rattle.cell_text.specs.declared.places.Place.TheVariants as place
-use Rattle.cell_text.specs.Places.{Field, place_at, place_of}
+use Rattle.spec_ir.specs.declared.ty.Ty.{Ty}
+use Rattle.spec_ir.specs.declared.ty.Ty.TheVariants.{Bool as Flag, Word, Data as DataTy, Map as MapOf}
+use Rattle.spec_ir.specs.declared.declared.MapType.{MapType}
+use Rattle.spec_ir.specs.Specification.{Spec}
+use Rattle.spec_ir.specs.WellFormed.{is_width}
+use Rattle.semantics_values.specs.declared.entry.GivenNumber.TheVariants.{One}
+use Rattle.semantics_values.specs.declared.entry.KeyAt.TheVariants.{Whole, At}
+use Rattle.semantics_values.specs.declared.value.Cell.{Cell}
+use Rattle.semantics_values.specs.Types.{cell_fits, environment_of, has_type, have_types, key_count, keys_ascend, listed_fits, map_fits}
+use Rattle.semantics_values.specs.Values.{Val, flag, word, made, map as map_of, vals}
+use Rattle.state_cell_text.specs.declared.places.Place.TheVariants as place
+use Rattle.state_cell_text.specs.Places.{Field, place_at, place_of}
 use Rattle.state_text.specs.Forms.{is_name}
 use Rattle.state_text.specs.Laws.{AreCellTypes, IsCellType, IsKeyType, IsMapType}
 use Rattle.state_text.specs.Meaning.{cells, single_says}
@@ -30,14 +30,14 @@ width_parts w h =
 -- ---- the maps
 
 -- what is known of a field that is a map
-pub record IsMapAt (spec : Spec) (i : ℕ) (name : List ℕ) (d : MapTy) : Type 0 where
+pub record IsMapAt (spec : Spec) (i : ℕ) (name : List ℕ) (d : MapType) : Type 0 where
   pub named : is_name name ≡ true
   pub placed : place_of spec name ≡ Some (place.Map i d.key d.width)
   pub some : 1 ≤ d.width
   pub narrow : d.width ≤ 64
   pub keys : IsKeyType spec d.key
 
-module _ (spec : Spec) (i : ℕ) (name : List ℕ) (d : MapTy) (at : IsMapAt spec i name d) where
+module _ (spec : Spec) (i : ℕ) (name : List ℕ) (d : MapType) (at : IsMapAt spec i name d) where
   readable_rest : (v : ℕ) → nat_lt v (2 ^ d.width) ≡ true → AllReadable spec (printed_rest i name d.key d.width d.default v)
   readable_rest v fits = elim (cases_Bool (v == d.default)) [
     | inl e ↦ rw e tt
@@ -60,7 +60,7 @@ module _ (spec : Spec) (i : ℕ) (name : List ℕ) (d : MapTy) (at : IsMapAt spe
 
 -- ---- the fields
 
-pub map_parts : (d : MapTy) (keys : ℕ) (r : Cell) (cs : List (ℕ × Cell)) → (cell_fits d.width r && (keys_ascend 0 cs && list_all (listed_fits keys d.width) cs)) ≡ true
+pub map_parts : (d : MapType) (keys : ℕ) (r : Cell) (cs : List (ℕ × Cell)) → (cell_fits d.width r && (keys_ascend 0 cs && list_all (listed_fits keys d.width) cs)) ≡ true
     → (cell_fits d.width r ≡ true) × (keys_ascend 0 cs ≡ true) × (list_all (listed_fits keys d.width) cs ≡ true)
 map_parts d keys r cs h =
     let first = and_parts (cell_fits d.width r) (keys_ascend 0 cs && list_all (listed_fits keys d.width) cs) h in
@@ -78,13 +78,13 @@ place_is : (i : ℕ) → 1 ≤ i → i < 2 ^ 32 → ((i == 0) ≡ false) × (nat
 place_is i some few = (grind (arith, nat_tests, some), grind (arith, nat_tests, few))
 
 module _ (spec : Spec) (i : ℕ) (name : List ℕ) where
-  map_at : (m : ℕ) (d : MapTy) → slice_get spec.maps m ≡ Some d → IsFieldAt spec i name (MapOf m) → IsMapType spec (Some d) → IsMapAt spec i name d
+  map_at : (m : ℕ) (d : MapType) → slice_get spec.maps m ≡ Some d → IsFieldAt spec i name (MapOf m) → IsMapType spec (Some d) → IsMapAt spec i name d
   map_at m d is f types =
       let number = place_is i f.first f.last in
       let width = width_parts d.width types.0 in
       record { named = f.named; placed = f.placed ∙ rw (number.0, number.1, is) refl; some = width.0; narrow = width.1; keys = types.1 }
 
-  readable_map : (m : ℕ) (o : Option MapTy) (r : Cell) (cs : List (ℕ × Cell)) → slice_get spec.maps m ≡ o → IsFieldAt spec i name (MapOf m) → IsMapType spec o → map_fits (environment_of spec) o r cs ≡ true
+  readable_map : (m : ℕ) (o : Option MapType) (r : Cell) (cs : List (ℕ × Cell)) → slice_get spec.maps m ≡ o → IsFieldAt spec i name (MapOf m) → IsMapType spec o → map_fits (environment_of spec) o r cs ≡ true
       → AllReadable spec (printed_map i name o r cs)
   readable_map m None r cs is f types fits = tt
   readable_map m (Some d) r cs is f types fits =
@@ -142,14 +142,14 @@ module _ (i : ℕ) (name : List ℕ) where
         | inr e ↦ rw e (start c.0 here, ascends_listed keys w x cs (suc c.0) i (suc (suc c.0)) more (omega arith) (λ k h. inr (refl, omega (arith, h))) both.1 follows)
       ]
 
-  ascends_map : (keys : ℕ) (d : MapTy) (x : Cell) (cs : List (ℕ × Cell)) (f r : ℕ) (more : List Printed) → f < i → keys_ascend 0 cs ≡ true → Follows i more
+  ascends_map : (keys : ℕ) (d : MapType) (x : Cell) (cs : List (ℕ × Cell)) (f r : ℕ) (more : List Printed) → f < i → keys_ascend 0 cs ≡ true → Follows i more
       → Ascends f r ((printed_rest i name d.key d.width d.default x.v ++ printed_listed i name d.key d.width x.v cs) ++ more)
   ascends_map keys d x cs f r more lt ascend follows = elim (cases_Bool (x.v == d.default)) [
     | inl e ↦ rw e (ascends_listed d.key d.width x.v cs 0 f r more (omega arith) (λ k h. inl lt) ascend follows)
     | inr e ↦ rw e (inl lt, ascends_listed d.key d.width x.v cs 0 i 1 more (omega arith) (λ k h. inr (refl, omega arith)) ascend follows)
   ]
 
-  ascends_option : (spec : Spec) (o : Option MapTy) (x : Cell) (cs : List (ℕ × Cell)) (f r : ℕ) (more : List Printed) → f < i → map_fits (environment_of spec) o x cs ≡ true → Follows i more
+  ascends_option : (spec : Spec) (o : Option MapType) (x : Cell) (cs : List (ℕ × Cell)) (f r : ℕ) (more : List Printed) → f < i → map_fits (environment_of spec) o x cs ≡ true → Follows i more
       → Ascends f r (printed_map i name o x cs ++ more)
   ascends_option spec None x cs f r more lt fits follows = follows f r (omega arith)
   ascends_option spec (Some d) x cs f r more lt fits follows =

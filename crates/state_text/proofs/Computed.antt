@@ -9,13 +9,13 @@ use Rattle.std.specs.Char.{digit_value}
 use Rattle.std.specs.List.{prefix_len, list_all}
 use Rattle.hex.specs.Hex.{decode_of, is_hex_digit}
 use Rattle.hex.proofs.HexLemmas.{decode_of-ok}
-use Rattle.tsl_values.specs.declared.entry.Given.{Given}
-use Rattle.tsl_values.specs.declared.entry.Given.TheVariants.{One, Any, Range}
-use Rattle.cell_text.specs.Digits.{hex_from, hex_number}
-use Rattle.state_text.specs.Forms.{Form, single, run, Part, whole, rest, at, from, HasForm, IsOnePart, IsRun, IsValue, begins_name, is_key, is_mark, is_name, is_word_byte, part_text}
-use Rattle.state_text.specs.Parsing.{after_cell, closed, cut, cut_at, form, formed, is_no_dot, is_space, range, run_of as bytes_of, value_of}
+use Rattle.semantics_values.specs.declared.entry.GivenNumber.{GivenNumber}
+use Rattle.semantics_values.specs.declared.entry.GivenNumber.TheVariants.{One, Any, Range}
+use Rattle.state_cell_text.specs.Digits.{hex_from, hex_number}
+use Rattle.state_text.specs.Forms.{Form, single, run, CellSuffix, whole, rest, at, from, HasForm, IsOnePart, IsRun, IsValue, begins_name, is_key, is_mark, is_name, is_word_byte, part_text}
+use Rattle.state_text.specs.Parsing.{after_cell, cut_closing, cut, cut_at, form, formed, is_no_dot, is_space, range, run_of as bytes_of, value_of}
 use Rattle.state_text.proofs.Bytes.{apart, begins_more, behind_spaces, run_of, spaces_of}
-use Rattle.spec_types.proofs.Entered.{same_name as same_text}
+use Rattle.spec_ir.proofs.Entered.{same_name as same_text}
 
 -- ---- the cell
 
@@ -36,13 +36,13 @@ cut_whole name more p =
     rw (begins_more name (32 ∷ more) p.begins, run_of is_word_byte name 32 more p.word refl, take-append_seam name (32 ∷ more), drop-append_seam name (32 ∷ more), p.no_mark) refl
 
 cut_bracket : (name bytes : List ℕ) → NameParts name
-    → cut (name ++ 91 ∷ bytes) ≡ closed name (take (prefix_len is_word_byte bytes) bytes) (drop (prefix_len is_word_byte bytes) bytes)
+    → cut (name ++ 91 ∷ bytes) ≡ cut_closing name (take (prefix_len is_word_byte bytes) bytes) (drop (prefix_len is_word_byte bytes) bytes)
 cut_bracket name bytes p =
     rw (begins_more name (91 ∷ bytes) p.begins, run_of is_word_byte name 91 bytes p.word refl, take-append_seam name (91 ∷ bytes), drop-append_seam name (91 ∷ bytes), p.no_mark) refl
 
 -- behind the text of a key
 cut_key : (name key : List ℕ) (y : ℕ) (ys : List ℕ) → NameParts name → list_all is_word_byte key ≡ true → is_word_byte y ≡ false
-    → cut (name ++ 91 ∷ (key ++ y ∷ ys)) ≡ closed name key (y ∷ ys)
+    → cut (name ++ 91 ∷ (key ++ y ∷ ys)) ≡ cut_closing name key (y ∷ ys)
 cut_key name key y ys p word other =
     cut_bracket name (key ++ y ∷ ys) p ∙ rw (run_of is_word_byte key y ys word other, take-append_seam key (y ∷ ys), drop-append_seam key (y ∷ ys)) refl
 
@@ -50,22 +50,22 @@ pub key_word : (key : List ℕ) → is_key key ≡ true → list_all is_word_byt
 key_word [] h = absurd (let bad : false ≡ true = h in cc)
 key_word (k ∷ key) h = h
 
-closed_at : (name key more : List ℕ) → is_key key ≡ true → closed name key (93 ∷ more) ≡ cut_at name (at key) more
+closed_at : (name key more : List ℕ) → is_key key ≡ true → cut_closing name key (93 ∷ more) ≡ cut_at name (at key) more
 closed_at name [] more h = absurd (let bad : false ≡ true = h in cc)
 closed_at name (k ∷ key) more h = refl
 
-closed_from : (name key more : List ℕ) → is_key key ≡ true → closed name key (46 ∷ 46 ∷ 93 ∷ more) ≡ cut_at name (from key) more
+closed_from : (name key more : List ℕ) → is_key key ≡ true → cut_closing name key (46 ∷ 46 ∷ 93 ∷ more) ≡ cut_at name (from key) more
 closed_from name [] more h = absurd (let bad : false ≡ true = h in cc)
 closed_from name (k ∷ key) more h = refl
 
 -- a part that may stand behind a name
-abbrev pub IsPart : Part → Type 0
+abbrev pub IsPart : CellSuffix → Type 0
 IsPart whole = Unit {0}
 IsPart rest = Unit {0}
 IsPart (at key) = is_key key ≡ true
 IsPart (from key) = is_key key ≡ true
 
-pub cut_is : (name : List ℕ) (part : Part) (more : List ℕ) → is_name name ≡ true → IsPart part → cut (name ++ (part_text part ++ 32 ∷ more)) ≡ cut_at name part (32 ∷ more)
+pub cut_is : (name : List ℕ) (part : CellSuffix) (more : List ℕ) → is_name name ≡ true → IsPart part → cut (name ++ (part_text part ++ 32 ∷ more)) ≡ cut_at name part (32 ∷ more)
 cut_is name whole more h p = cut_whole name more (name_parts name h)
 cut_is name rest more h p = cut_bracket name (42 ∷ 93 ∷ 32 ∷ more) (name_parts name h)
 cut_is name (at key) more h p =
@@ -76,7 +76,7 @@ cut_is name (from key) more h p =
 -- ---- the value
 
 -- behind the spaces
-after_spaces : (name : List ℕ) (part : Part) (n : ℕ) (value : List ℕ) → prefix_len is_space value ≡ 0
+after_spaces : (name : List ℕ) (part : CellSuffix) (n : ℕ) (value : List ℕ) → prefix_len is_space value ≡ 0
     → after_cell (cut_at name part (32 ∷ (replicate n 32 ++ value))) ≡ formed name part value
 after_spaces name part n value none =
     let e : 1 + n ≡ suc n = omega arith in
@@ -159,7 +159,7 @@ range_is a b lo hi p q h =
     let le : nat_le lo hi ≡ true = grind (arith, nat_tests, h) in
     rw (run_of is_no_dot a 46 (46 ∷ b) (number_no_dot a lo p) refl, drop-append_seam a (46 ∷ 46 ∷ b), take-append_seam a (46 ∷ 46 ∷ b), past_dots a b, p, q, le) refl
 
-value_is : (given : Given) (text : List ℕ) → IsValue given text → value_of text ≡ Some given
+value_is : (given : GivenNumber) (text : List ℕ) → IsValue given text → value_of text ≡ Some given
 value_is (One v) text h = rw (not_any text v h, h) refl
 value_is Any text h = rw h refl
 value_is (Range lo hi) text h =
@@ -167,7 +167,7 @@ value_is (Range lo hi) text h =
     let b = h.1 in
     rw (h.2, range_not_any a b (number_no_dot a lo h.3), no_number a (46 ∷ b)) (range_is a b lo hi h.3 h.4 h.5)
 
-value_no_space : (given : Given) (text : List ℕ) → IsValue given text → prefix_len is_space text ≡ 0
+value_no_space : (given : GivenNumber) (text : List ℕ) → IsValue given text → prefix_len is_space text ≡ 0
 value_no_space (One v) text h = number_no_space 16 text v h
 value_no_space Any text h = rw h refl
 value_no_space (Range lo hi) text h = rw h.2 (hex_no_space 16 h.0 lo (46 ∷ 46 ∷ h.1) h.3)
@@ -187,13 +187,13 @@ run_is bytes text h =
 
 -- ---- the line
 
-formed_single : (name : List ℕ) (part : Part) (given : Given) (value : List ℕ) → IsOnePart part → value_of value ≡ Some given → formed name part value ≡ Some (single name part given)
+formed_single : (name : List ℕ) (part : CellSuffix) (given : GivenNumber) (value : List ℕ) → IsOnePart part → value_of value ≡ Some given → formed name part value ≡ Some (single name part given)
 formed_single name whole given value p h = rw h refl
 formed_single name rest given value p h = rw h refl
 formed_single name (at key) given value p h = rw h refl
 formed_single name (from key) given value p h = absurd p
 
-one_is_part : (part : Part) → IsOnePart part → IsPart part
+one_is_part : (part : CellSuffix) → IsOnePart part → IsPart part
 one_is_part whole p = p
 one_is_part rest p = p
 one_is_part (at key) p = p

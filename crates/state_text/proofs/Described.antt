@@ -5,21 +5,21 @@ use Rattle.std.proofs.lemmas.Bool.Decides.{nat_tests}
 use Rattle.std.proofs.lemmas.Nat.{pow_pos}
 use Rattle.std.proofs.lemmas.Option.{none-some, same_Some}
 use Rattle.std.specs.List.{list_all}
-use Rattle.spec_types.specs.declared.ty.Ty.{Ty}
-use Rattle.spec_types.specs.declared.ty.Ty.TheVariants.{Bool as Flag, Word, Data as DataTy, Map as MapOf}
-use Rattle.spec_types.specs.declared.declared.MapTy.{MapTy}
-use Rattle.spec_types.specs.Specification.{Spec}
-use Rattle.tsl_values.specs.declared.entry.Given.{Given}
-use Rattle.tsl_values.specs.declared.entry.Given.TheVariants.{One, Any, Range}
-use Rattle.tsl_values.specs.declared.entry.KeyAt.{KeyAt}
-use Rattle.tsl_values.specs.declared.entry.KeyAt.TheVariants.{Whole, Rest, At}
-use Rattle.tsl_values.specs.declared.entry.Line.{Line}
-use Rattle.tsl_values.specs.declared.value.Cell.{Cell}
-use Rattle.tsl_values.specs.States.{State}
-use Rattle.tsl_values.specs.Types.{cell_fits, environment_of, has_type, have_types, key_count, keys_ascend, listed_fits, map_fits}
-use Rattle.tsl_values.specs.Values.{Val, cell_at, put_cell, vals}
-use Rattle.meaning.specs.Entries.{AreEntryFields, IsEntryCell, IsEntryField, IsEntryMap, IsEntryMapOf, IsEntryState, IsGiven, entry_cell, entry_field, entry_fields, entry_map, given_at, given_cell, given_or, given_rest, is_key, named_cells, one_number, one_state_of, with_line}
-use Rattle.cell_text.specs.Places.{Field, state_fields}
+use Rattle.spec_ir.specs.declared.ty.Ty.{Ty}
+use Rattle.spec_ir.specs.declared.ty.Ty.TheVariants.{Bool as Flag, Word, Data as DataTy, Map as MapOf}
+use Rattle.spec_ir.specs.declared.declared.MapType.{MapType}
+use Rattle.spec_ir.specs.Specification.{Spec}
+use Rattle.semantics_values.specs.declared.entry.GivenNumber.{GivenNumber}
+use Rattle.semantics_values.specs.declared.entry.GivenNumber.TheVariants.{One, Any, Range}
+use Rattle.semantics_values.specs.declared.entry.KeyAt.{KeyAt}
+use Rattle.semantics_values.specs.declared.entry.KeyAt.TheVariants.{Whole, Rest, At}
+use Rattle.semantics_values.specs.declared.entry.Line.{Line}
+use Rattle.semantics_values.specs.declared.value.Cell.{Cell}
+use Rattle.semantics_values.specs.States.{State}
+use Rattle.semantics_values.specs.Types.{cell_fits, environment_of, has_type, have_types, key_count, keys_ascend, listed_fits, map_fits}
+use Rattle.semantics_values.specs.Values.{Val, cell_at, put_cell, vals}
+use Rattle.semantics.specs.Entries.{AreEntryFields, IsEntryCell, IsEntryField, IsEntryMap, IsEntryMapOf, IsEntryState, IsGiven, entry_cell, entry_field, entry_fields, entry_map, given_at, given_cell, given_or, given_rest, is_key, named_cells, one_number, one_state_of, with_line}
+use Rattle.state_cell_text.specs.Places.{Field, state_fields}
 use Rattle.state_text.specs.declared.entry_error.EntryError.{EntryError}
 use Rattle.state_text.specs.Laws.{AreCellTypes, HasFields, IsCellType, IsMapType, OneIsDescribed}
 use Rattle.state_text.specs.Lines.{lines}
@@ -31,10 +31,10 @@ use Rattle.state_text.proofs.Fitting.{AllFit, EntryFits, FieldTypes, FitsField, 
 -- ---- what gives one number
 
 -- one number, of at most w bits
-abbrev IsOneOf : ℕ → Given → Type 0
+abbrev IsOneOf : ℕ → GivenNumber → Type 0
 IsOneOf w g = (one_number g < 2 ^ w) × IsGiven g (one_number g)
 
-one_of : (w : ℕ) (g : Given) → is_some (single_number g) ≡ true → given_fits g w ≡ true → IsOneOf w g
+one_of : (w : ℕ) (g : GivenNumber) → is_some (single_number g) ≡ true → given_fits g w ≡ true → IsOneOf w g
 one_of w (One v) one fits = (grind (arith, nat_tests, fits), refl)
 one_of w Any one fits = absurd (let bad : false ≡ true = one in cc)
 one_of w (Range lo hi) one fits = elim (cases_Bool (lo == hi)) [
@@ -80,7 +80,7 @@ key_same (At j) (At k) h = ap At (same_number j k h)
 
 -- ---- what is given at a key
 
-given_one : (i w : ℕ) (key : KeyAt) (ls : List Line) (other : Given) → AllOneOf i w ls → IsOneOf w other → IsOneOf w (given_or (given_at ls i key) other)
+given_one : (i w : ℕ) (key : KeyAt) (ls : List Line) (other : GivenNumber) → AllOneOf i w ls → IsOneOf w other → IsOneOf w (given_or (given_at ls i key) other)
 given_one i w key [] other all o = o
 given_one i w key (l ∷ ls) other all o = elim (cases_Bool (l.field == i)) [
   | inr e ↦ rw e (given_one i w key ls other all.1 o)
@@ -119,7 +119,7 @@ put_other k j x r (c ∷ cs) ne = elim (cases_Bool (c.0 == k)) [
 ]
 
 -- the cell at a key of those that lines name
-put_at : (i k : ℕ) (rest : Given) (key : KeyAt) (g : Given) (ls : List Line)
+put_at : (i k : ℕ) (rest : GivenNumber) (key : KeyAt) (g : GivenNumber) (ls : List Line)
     → cell_at (entry_cell (one_number rest)) (named_cells ls i) k ≡ entry_cell (one_number (given_or (given_at ls i (At k)) rest))
     → cell_at (entry_cell (one_number rest)) (with_line key g (named_cells ls i)) k ≡ entry_cell (one_number (given_or (if is_key key (At k) then (Some g) else given_at ls i (At k)) rest))
 put_at i k rest Whole g ls more = more
@@ -129,7 +129,7 @@ put_at i k rest (At j) g ls more = elim (cases_Bool (j == k)) [
   | inr f ↦ rw (f, put_other j k (entry_cell (one_number g)) (entry_cell (one_number rest)) (named_cells ls i) f) more
 ]
 
-named_at : (i k : ℕ) (rest : Given) (ls : List Line) → cell_at (entry_cell (one_number rest)) (named_cells ls i) k ≡ entry_cell (one_number (given_or (given_at ls i (At k)) rest))
+named_at : (i k : ℕ) (rest : GivenNumber) (ls : List Line) → cell_at (entry_cell (one_number rest)) (named_cells ls i) k ≡ entry_cell (one_number (given_or (given_at ls i (At k)) rest))
 named_at i k rest [] = refl
 named_at i k rest (l ∷ ls) = elim (cases_Bool (l.field == i)) [
   | inr e ↦ rw e (named_at i k rest ls)
@@ -157,7 +157,7 @@ put_ascends k least x (c ∷ cs) le h =
       ]
     ]
 
-with_ascends : (key : KeyAt) (g : Given) (cs : List (ℕ × Cell)) → keys_ascend 0 cs ≡ true → keys_ascend 0 (with_line key g cs) ≡ true
+with_ascends : (key : KeyAt) (g : GivenNumber) (cs : List (ℕ × Cell)) → keys_ascend 0 cs ≡ true → keys_ascend 0 (with_line key g cs) ≡ true
 with_ascends Whole g cs h = h
 with_ascends Rest g cs h = h
 with_ascends (At k) g cs h = put_ascends k 0 (entry_cell (one_number g)) cs (omega arith) h
@@ -181,7 +181,7 @@ put_fits keys w k x (c ∷ cs) one h =
       ]
     ]
 
-with_fits : (keys w : ℕ) (key : KeyAt) (g : Given) (cs : List (ℕ × Cell)) → IsOneOf w g → KeyBelow keys key → list_all (listed_fits keys w) cs ≡ true → list_all (listed_fits keys w) (with_line key g cs) ≡ true
+with_fits : (keys w : ℕ) (key : KeyAt) (g : GivenNumber) (cs : List (ℕ × Cell)) → IsOneOf w g → KeyBelow keys key → list_all (listed_fits keys w) cs ≡ true → list_all (listed_fits keys w) (with_line key g cs) ≡ true
 with_fits keys w Whole g cs o b h = h
 with_fits keys w Rest g cs o b h = h
 with_fits keys w (At k) g cs o b h =
@@ -205,12 +205,12 @@ module _ (spec : Spec) (i : ℕ) where
   word_one w [] is fit one = tt
   word_one w (l ∷ ls) is fit one = (λ same. one_of w l.given one.0 (fit.0 (Word w) (ap (slice_get (FieldTypes spec)) same ∙ is)), word_one w ls is fit.1 one.1)
 
-  map_one : (m : ℕ) (d : MapTy) (ls : List Line) → slice_get (FieldTypes spec) i ≡ Some (MapOf m) → slice_get spec.maps m ≡ Some d → AllFit spec ls → AllOne ls → AllOneOf i d.width ls
+  map_one : (m : ℕ) (d : MapType) (ls : List Line) → slice_get (FieldTypes spec) i ≡ Some (MapOf m) → slice_get spec.maps m ≡ Some d → AllFit spec ls → AllOne ls → AllOneOf i d.width ls
   map_one m d [] is e fit one = tt
   map_one m d (l ∷ ls) is e fit one =
       (λ same. one_of d.width l.given one.0 (let h = fit.0 (MapOf m) (ap (slice_get (FieldTypes spec)) same ∙ is) in (rw e at h).0), map_one m d ls is e fit.1 one.1)
 
-  map_keys : (m : ℕ) (d : MapTy) (ls : List Line) → slice_get (FieldTypes spec) i ≡ Some (MapOf m) → slice_get spec.maps m ≡ Some d → AllFit spec ls → AllKeys i (key_count (environment_of spec) d.key) ls
+  map_keys : (m : ℕ) (d : MapType) (ls : List Line) → slice_get (FieldTypes spec) i ≡ Some (MapOf m) → slice_get spec.maps m ≡ Some d → AllFit spec ls → AllKeys i (key_count (environment_of spec) d.key) ls
   map_keys m d [] is e fit = tt
   map_keys m d (l ∷ ls) is e fit =
       (λ same. (let h = fit.0 (MapOf m) (ap (slice_get (FieldTypes spec)) same ∙ is) in (rw e at h).1), map_keys m d ls is e fit.1)
@@ -222,7 +222,7 @@ module _ (spec : Spec) (i : ℕ) where
   itself : (n : ℕ) → (n == n) ≡ true
   itself n = grind (arith, nat_tests)
 
-  map_described : (m : ℕ) (o : Option MapTy) (ls : List Line) → slice_get spec.maps m ≡ o → slice_get (FieldTypes spec) i ≡ Some (MapOf m) → IsMapType spec o → AllFit spec ls → AllOne ls
+  map_described : (m : ℕ) (o : Option MapType) (ls : List Line) → slice_get spec.maps m ≡ o → slice_get (FieldTypes spec) i ≡ Some (MapOf m) → IsMapType spec o → AllFit spec ls → AllOne ls
       → IsDescribed ls (MapOf m) (entry_map (environment_of spec) ls i m o)
   map_described m None ls e is types fit one = absurd types
   map_described m (Some d) ls e is types fit one =

@@ -2,10 +2,10 @@
 use Rattle.std.proofs.Common.{◌≡◌, ◌≤◌, ℕ, List, [], ◌∷◌, length, drop, map, min, refl, inl, inr, arith}
 use Rattle.std.proofs.Math.ListN.{drop_of_length-le}
 use Rattle.std.proofs.lemmas.Bool.{cases_lt}
-use Rattle.spec_types.specs.Specification.{Spec}
-use Rattle.tsl_values.specs.Views.{val}
-use Rattle.tsl_values.specs.declared.value.Value.{Value}
-use Rattle.cell_text.specs.Places.{Field}
+use Rattle.spec_ir.specs.Specification.{Spec}
+use Rattle.semantics_values.specs.Views.{val}
+use Rattle.semantics_values.specs.declared.value.Value.{Value}
+use Rattle.state_cell_text.specs.Places.{Field}
 use Rattle.state_text.specs.Writing.{field_lines}
 
 no_values : (spec : Spec) (fields : List Field) → field_lines spec fields [] ≡ []

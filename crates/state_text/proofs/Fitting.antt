@@ -4,28 +4,28 @@ use Rattle.std.proofs.lemmas.Bool.{and_parts, cases_Bool}
 use Rattle.std.proofs.lemmas.Bool.Decides.{nat_tests}
 use Rattle.std.proofs.lemmas.Option.{none-some, same_Some}
 use Rattle.hex.proofs.HexLemmas.{decode_of-ok}
-use Rattle.spec_types.specs.declared.ty.Ty.{Ty}
-use Rattle.spec_types.specs.declared.ty.Ty.TheVariants.{Bool as Flag, Word, Data as DataTy, Map as MapOf}
-use Rattle.spec_types.specs.declared.declared.MapTy.{MapTy}
-use Rattle.spec_types.specs.Environment.{Case}
-use Rattle.spec_types.specs.Specification.{Spec}
-use Rattle.spec_types.specs.Texts.{cases_of}
-use Rattle.tsl_values.specs.declared.entry.Given.{Given}
-use Rattle.tsl_values.specs.declared.entry.Given.TheVariants.{One}
-use Rattle.tsl_values.specs.declared.entry.KeyAt.{KeyAt}
-use Rattle.tsl_values.specs.declared.entry.KeyAt.TheVariants.{Whole, Rest, At}
-use Rattle.tsl_values.specs.declared.entry.Line.{Line}
-use Rattle.tsl_values.specs.Types.{environment_of, key_count}
-use Rattle.cell_text.specs.declared.places.Place.{Place}
-use Rattle.cell_text.specs.declared.places.Place.TheVariants as place
-use Rattle.cell_text.specs.Keys.{below, case_number, key_number}
-use Rattle.cell_text.specs.Places.{Field, cell_place, map_place, place_at, place_from, place_of, state_fields}
+use Rattle.spec_ir.specs.declared.ty.Ty.{Ty}
+use Rattle.spec_ir.specs.declared.ty.Ty.TheVariants.{Bool as Flag, Word, Data as DataTy, Map as MapOf}
+use Rattle.spec_ir.specs.declared.declared.MapType.{MapType}
+use Rattle.spec_ir.specs.Environment.{Case}
+use Rattle.spec_ir.specs.Specification.{Spec}
+use Rattle.spec_ir.specs.Texts.{cases_of}
+use Rattle.semantics_values.specs.declared.entry.GivenNumber.{GivenNumber}
+use Rattle.semantics_values.specs.declared.entry.GivenNumber.TheVariants.{One}
+use Rattle.semantics_values.specs.declared.entry.KeyAt.{KeyAt}
+use Rattle.semantics_values.specs.declared.entry.KeyAt.TheVariants.{Whole, Rest, At}
+use Rattle.semantics_values.specs.declared.entry.Line.{Line}
+use Rattle.semantics_values.specs.Types.{environment_of, key_count}
+use Rattle.state_cell_text.specs.declared.places.Place.{Place}
+use Rattle.state_cell_text.specs.declared.places.Place.TheVariants as place
+use Rattle.state_cell_text.specs.Keys.{below, case_number, key_number}
+use Rattle.state_cell_text.specs.Places.{Field, cell_place, map_place, place_at, place_from, place_of, state_fields}
 use Rattle.state_text.specs.declared.entry_error.EntryError.{EntryError}
-use Rattle.state_text.specs.Forms.{Form, HasForm, Part, whole, rest, at, from, run, single}
+use Rattle.state_text.specs.Forms.{Form, HasForm, CellSuffix, whole, rest, at, from, run, single}
 use Rattle.state_text.specs.Lines.{lines}
 use Rattle.state_text.specs.Meaning.{Said, nothing, counter, cells, faulty, form_says, given_fits, run_cells, said, single_says, sized, at_key, run_at, run_says}
 use Rattle.state_text.specs.Parsing.{form}
-use Rattle.state_text.specs.Reading.{Entry, Found, any_given, counted, entry_found, goes_on, line_of, number_given, read_from, with_cells, with_counter, with_line}
+use Rattle.state_text.specs.Reading.{Entry, GivenCells, any_given, counted, entry_found, goes_on, line_of, number_given, read_from, with_cells, with_counter, with_line}
 use Rattle.state_text.proofs.Shown.{shown}
 
 -- a number given of a map's cell, at one of its keys
@@ -34,12 +34,12 @@ KeyBelow keys (At k) = k < keys
 KeyBelow keys _ = Unit {0}
 
 module _ (spec : Spec) where
-  abbrev pub FitsMap : Option MapTy → KeyAt → Given → Type 0
+  abbrev pub FitsMap : Option MapType → KeyAt → GivenNumber → Type 0
   FitsMap None key given = Unit {0}
   FitsMap (Some d) key given = (given_fits given d.width ≡ true) × KeyBelow (key_count (environment_of spec) d.key) key
 
   -- what is given of a part of a field of a type
-  abbrev pub FitsType : Ty → KeyAt → Given → Type 0
+  abbrev pub FitsType : Ty → KeyAt → GivenNumber → Type 0
   FitsType (Word w) key given = given_fits given w ≡ true
   FitsType (MapOf m) key given = FitsMap (slice_get spec.maps m) key given
   FitsType _ key given = Unit {0}
@@ -47,7 +47,7 @@ module _ (spec : Spec) where
   abbrev pub FieldTypes : List Ty
   FieldTypes = map (λ f. f.1) (state_fields spec)
 
-  abbrev pub FitsField : ℕ → KeyAt → Given → Type 0
+  abbrev pub FitsField : ℕ → KeyAt → GivenNumber → Type 0
   FitsField field key given = (t : Ty) → slice_get FieldTypes field ≡ Some t → FitsType t key given
 
   abbrev pub AllFit : List Line → Type 0
@@ -58,7 +58,7 @@ module _ (spec : Spec) where
   AllFit-append [] ys p q = q
   AllFit-append (x ∷ xs) ys p q = (p.0, AllFit-append xs ys p.1 q)
 
-  abbrev CellsFit : ℕ → List (KeyAt × Given) → Type 0
+  abbrev CellsFit : ℕ → List (KeyAt × GivenNumber) → Type 0
   CellsFit field [] = Unit {0}
   CellsFit field (c ∷ cs) = FitsField field c.0 c.1 × CellsFit field cs
 
@@ -73,9 +73,9 @@ module _ (spec : Spec) where
   abbrev IsPlaceOf : List Ty → ℕ → Place → Type 0
   IsPlaceOf types n place.Counter = Unit {0}
   IsPlaceOf types n (place.Word k w) = (j : ℕ) × (k ≡ n + j) × (slice_get types j ≡ Some (Word w))
-  IsPlaceOf types n (place.Map k key w) = (j : ℕ) × (m : ℕ) × (d : MapTy) × (k ≡ n + j) × (slice_get types j ≡ Some (MapOf m)) × (slice_get spec.maps m ≡ Some d) × (d.key ≡ key) × (d.width ≡ w)
+  IsPlaceOf types n (place.Map k key w) = (j : ℕ) × (m : ℕ) × (d : MapType) × (k ≡ n + j) × (slice_get types j ≡ Some (MapOf m)) × (slice_get spec.maps m ≡ Some d) × (d.key ≡ key) × (d.width ≡ w)
 
-  map_shown : (n m : ℕ) (types : List Ty) (o : Option MapTy) (p : Place) → slice_get spec.maps m ≡ o → map_place spec n o ≡ Some p → IsPlaceOf (MapOf m ∷ types) n p
+  map_shown : (n m : ℕ) (types : List Ty) (o : Option MapType) (p : Place) → slice_get spec.maps m ≡ o → map_place spec n o ≡ Some p → IsPlaceOf (MapOf m ∷ types) n p
   map_shown n m types None p e h = absurd (none-some p h)
   map_shown n m types (Some d) p e h = subst (IsPlaceOf (MapOf m ∷ types) n) (same_Some (place.Map n d.key d.width) p h) (0, m, d, omega arith, refl, e, refl, refl)
 
@@ -133,13 +133,13 @@ module _ (spec : Spec) where
 
   -- ---- what a line says
 
-  word_fits : (field w : ℕ) (given : Given) → IsPlaceOf FieldTypes 0 (place.Word field w) → given_fits given w ≡ true → FitsField field Whole given
+  word_fits : (field w : ℕ) (given : GivenNumber) → IsPlaceOf FieldTypes 0 (place.Word field w) → given_fits given w ≡ true → FitsField field Whole given
   word_fits field w given is fits t h =
       let j : field ≡ is.0 = (let e = is.1 in omega (arith, e)) in
       let same : Word w ≡ t = same_Some (Word w) t (sym is.2 ∙ rw j at h) in
       subst (λ u. FitsType u Whole given) same fits
 
-  map_fits_at : (field : ℕ) (key : Ty) (w : ℕ) (part : KeyAt) (given : Given) → IsPlaceOf FieldTypes 0 (place.Map field key w) → given_fits given w ≡ true → KeyBelow (key_count (environment_of spec) key) part → FitsField field part given
+  map_fits_at : (field : ℕ) (key : Ty) (w : ℕ) (part : KeyAt) (given : GivenNumber) → IsPlaceOf FieldTypes 0 (place.Map field key w) → given_fits given w ≡ true → KeyBelow (key_count (environment_of spec) key) part → FitsField field part given
   map_fits_at field key w part given is fits within t h =
       let j : field ≡ is.0 = (let e = is.3 in omega (arith, e)) in
       let same : MapOf is.1 ≡ t = same_Some (MapOf is.1) t (sym is.4 ∙ rw j at h) in
@@ -147,14 +147,14 @@ module _ (spec : Spec) where
       let both : FitsMap (Some d) part given = (rw is.7 fits, rw is.6 within) in
       subst (λ u. FitsType u part given) same (rw is.5 both)
 
-  sized_fits : (given : Given) (w : ℕ) (s : Said) → (given_fits given w ≡ true → SaidFits s) → SaidFits (sized given w s)
+  sized_fits : (given : GivenNumber) (w : ℕ) (s : Said) → (given_fits given w ≡ true → SaidFits s) → SaidFits (sized given w s)
   sized_fits given w s h = elim (cases_Bool (given_fits given w)) [ inl e ↦ rw e (h e) | inr e ↦ rw e tt ]
 
-  key_fits : (field : ℕ) (key : Ty) (w : ℕ) (given : Given) (n : Option ℕ) → IsPlaceOf FieldTypes 0 (place.Map field key w) → ((k : ℕ) → n ≡ Some k → k < key_count (environment_of spec) key) → SaidFits (at_key field w given n)
+  key_fits : (field : ℕ) (key : Ty) (w : ℕ) (given : GivenNumber) (n : Option ℕ) → IsPlaceOf FieldTypes 0 (place.Map field key w) → ((k : ℕ) → n ≡ Some k → k < key_count (environment_of spec) key) → SaidFits (at_key field w given n)
   key_fits field key w given None is within = tt
   key_fits field key w given (Some k) is within = sized_fits given w (cells field ((At k, given) ∷ [])) (λ fits. (map_fits_at field key w (At k) given is fits (within k refl), tt))
 
-  single_fits : (o : Option Place) (part : Part) (given : Given) → ((p : Place) → o ≡ Some p → IsPlaceOf FieldTypes 0 p) → SaidFits (single_says spec o part given)
+  single_fits : (o : Option Place) (part : CellSuffix) (given : GivenNumber) → ((p : Place) → o ≡ Some p → IsPlaceOf FieldTypes 0 p) → SaidFits (single_says spec o part given)
   single_fits None part given is = tt
   single_fits (Some place.Counter) whole given is = sized_fits given 32 (counter given) (λ fits. tt)
   single_fits (Some place.Counter) rest given is = tt
@@ -219,15 +219,15 @@ module _ (spec : Spec) where
 
   -- ---- the lines
 
-  lines_fit : (n field : ℕ) (cs : List (KeyAt × Given)) → CellsFit field cs → AllFit (map (line_of n field) cs)
+  lines_fit : (n field : ℕ) (cs : List (KeyAt × GivenNumber)) → CellsFit field cs → AllFit (map (line_of n field) cs)
   lines_fit n field [] h = tt
   lines_fit n field (c ∷ cs) h = (h.0, lines_fit n field cs h.1)
 
-  abbrev FoundFits : Result Found EntryError → Type 0
+  abbrev FoundFits : Result GivenCells EntryError → Type 0
   FoundFits (Ok found) = AllFit found.lines
   FoundFits (Err e) = Unit {0}
 
-  with_fits : (n : ℕ) (s : Said) (found : Found) → SaidFits s → AllFit found.lines → FoundFits (with_line n s found)
+  with_fits : (n : ℕ) (s : Said) (found : GivenCells) → SaidFits s → AllFit found.lines → FoundFits (with_line n s found)
   with_fits n nothing found h fits = fits
   with_fits n (faulty f) found h fits = tt
   with_fits n (counter given) found h fits = elim (cases_Bool (is_some found.counter)) [ inl e ↦ rw e tt | inr e ↦ rw e fits ]
@@ -244,11 +244,11 @@ module _ (spec : Spec) where
   counted_fits None ls fits = tt
   counted_fits (Some pc) ls fits = fits
 
-  goes_fits : (r : Result Found EntryError) (next : Found → Result Entry EntryError) → FoundFits r → ((found : Found) → AllFit found.lines → EntryFits (next found)) → EntryFits (goes_on spec r next)
+  goes_fits : (r : Result GivenCells EntryError) (next : GivenCells → Result Entry EntryError) → FoundFits r → ((found : GivenCells) → AllFit found.lines → EntryFits (next found)) → EntryFits (goes_on spec r next)
   goes_fits (Err e) next h more = tt
   goes_fits (Ok found) next h more = more found h
 
-  pub read_fits : (n : ℕ) (found : Found) (ls : List (List ℕ)) → AllFit found.lines → EntryFits (read_from spec n found ls)
+  pub read_fits : (n : ℕ) (found : GivenCells) (ls : List (List ℕ)) → AllFit found.lines → EntryFits (read_from spec n found ls)
   read_fits n found [] fits = counted_fits (number_given found.counter) found.lines fits
   read_fits n found (line ∷ ls) fits =
       goes_fits (with_line n (said spec line) found) (λ more. read_from spec (n + 1) more ls) (with_fits n (said spec line) found (said_fits line) fits) (λ more h. read_fits (n + 1) more ls h)

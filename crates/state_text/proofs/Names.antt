@@ -4,17 +4,17 @@ use Rattle.std.proofs.Math.Nat.{pow-le-pow_right}
 use Rattle.std.proofs.lemmas.Bool.{and_parts, cases_Bool, or_parts, not-true as not_true}
 use Rattle.std.proofs.lemmas.Bool.Decides.{nat_tests}
 use Rattle.std.specs.List.{list_all, list_any}
-use Rattle.spec_types.specs.declared.ty.Ty.{Ty}
-use Rattle.spec_types.specs.declared.ty.Ty.TheVariants.{Bool as Flag, Word, Data as DataTy, Map as MapOf}
-use Rattle.spec_types.specs.Environment.{Case}
-use Rattle.spec_types.specs.Specification.{Spec}
-use Rattle.spec_types.specs.Texts.{cases_of, case_text}
-use Rattle.spec_types.proofs.Entered.{name_itself as itself}
-use Rattle.tsl_values.specs.Types.{environment_of, key_count}
-use Rattle.cell_text.specs.declared.places.Place.{Place}
-use Rattle.cell_text.specs.Digits.{digits_of}
-use Rattle.cell_text.specs.Keys.{case_number, key_number, key_text}
-use Rattle.cell_text.specs.Places.{Field, place_at, place_from}
+use Rattle.spec_ir.specs.declared.ty.Ty.{Ty}
+use Rattle.spec_ir.specs.declared.ty.Ty.TheVariants.{Bool as Flag, Word, Data as DataTy, Map as MapOf}
+use Rattle.spec_ir.specs.Environment.{Case}
+use Rattle.spec_ir.specs.Specification.{Spec}
+use Rattle.spec_ir.specs.Texts.{cases_of, case_text}
+use Rattle.spec_ir.proofs.Entered.{name_itself as itself}
+use Rattle.semantics_values.specs.Types.{environment_of, key_count}
+use Rattle.state_cell_text.specs.declared.places.Place.{Place}
+use Rattle.state_cell_text.specs.Digits.{digits_of}
+use Rattle.state_cell_text.specs.Keys.{case_number, key_number, key_text}
+use Rattle.state_cell_text.specs.Places.{Field, place_at, place_from}
 use Rattle.state_text.specs.Forms.{is_key, is_name}
 use Rattle.state_text.specs.Laws.{IsKeyType, all_differ}
 use Rattle.state_text.proofs.Computed.{name_parts}

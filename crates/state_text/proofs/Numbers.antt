@@ -8,7 +8,7 @@ use Rattle.std.proofs.lemmas.Fmt.{decimal_digit, decimal_step}
 use Rattle.std.specs.Char.{digit_value}
 use Rattle.std.specs.Fmt.{decimal, digit_glyph}
 use Rattle.std.specs.List.{list_all}
-use Rattle.cell_text.specs.Digits.{hex_from, hex_number, hex_digits, digits_of, decimal_from, decimal_number, is_plain}
+use Rattle.state_cell_text.specs.Digits.{hex_from, hex_number, hex_digits, digits_of, decimal_from, decimal_number, is_plain}
 use Rattle.state_text.specs.Forms.{is_word_byte, is_key}
 
 -- ---- hex digits

@@ -3,25 +3,25 @@ use Rattle.std.proofs.Common.{◌≡◌, if◌then◌else◌, ◌⊎◌, ◌+◌
 use Rattle.std.proofs.lemmas.Bool.{cases_Bool}
 use Rattle.std.proofs.lemmas.Bool.Decides.{nat_tests}
 use Rattle.std.proofs.Math.Bool.{and-false as and_false}
-use Rattle.spec_types.specs.declared.ty.Ty.{Ty}
-use Rattle.spec_types.specs.declared.ty.Ty.TheVariants.{Bool as Flag, Word, Data as DataTy, Map as MapOf}
-use Rattle.spec_types.specs.declared.declared.MapTy.{MapTy}
-use Rattle.spec_types.specs.Specification.{Spec}
-use Rattle.tsl_values.specs.declared.entry.Given.TheVariants.{One}
-use Rattle.tsl_values.specs.declared.entry.KeyAt.{KeyAt}
-use Rattle.tsl_values.specs.declared.entry.KeyAt.TheVariants.{Whole, Rest, At}
-use Rattle.tsl_values.specs.declared.entry.Line.{Line}
-use Rattle.tsl_values.specs.declared.value.Cell.{Cell}
-use Rattle.tsl_values.specs.Values.{Val, flag, word, made, map as map_of}
-use Rattle.meaning.specs.Entries.{is_key as same_key}
-use Rattle.cell_text.specs.Digits.{digits_of, hex_digits}
-use Rattle.cell_text.specs.Keys.{key_part, key_text, keys_of}
-use Rattle.cell_text.specs.Places.{Field, place_of}
-use Rattle.state_text.specs.Forms.{Part, whole, rest, at, single, IsOnePart, begins_name, is_name, part_text}
+use Rattle.spec_ir.specs.declared.ty.Ty.{Ty}
+use Rattle.spec_ir.specs.declared.ty.Ty.TheVariants.{Bool as Flag, Word, Data as DataTy, Map as MapOf}
+use Rattle.spec_ir.specs.declared.declared.MapType.{MapType}
+use Rattle.spec_ir.specs.Specification.{Spec}
+use Rattle.semantics_values.specs.declared.entry.GivenNumber.TheVariants.{One}
+use Rattle.semantics_values.specs.declared.entry.KeyAt.{KeyAt}
+use Rattle.semantics_values.specs.declared.entry.KeyAt.TheVariants.{Whole, Rest, At}
+use Rattle.semantics_values.specs.declared.entry.Line.{Line}
+use Rattle.semantics_values.specs.declared.value.Cell.{Cell}
+use Rattle.semantics_values.specs.Values.{Val, flag, word, made, map as map_of}
+use Rattle.semantics.specs.Entries.{is_key as same_key}
+use Rattle.state_cell_text.specs.Digits.{digits_of, hex_digits}
+use Rattle.state_cell_text.specs.Keys.{key_part, key_text, keys_of}
+use Rattle.state_cell_text.specs.Places.{Field, place_of}
+use Rattle.state_text.specs.Forms.{CellSuffix, whole, rest, at, single, IsOnePart, begins_name, is_name, part_text}
 use Rattle.state_text.specs.Lines.{lines}
 use Rattle.state_text.specs.Meaning.{cells, form_says, said, single_says}
 use Rattle.state_text.specs.Parsing.{form}
-use Rattle.state_text.specs.Reading.{Found, entry_found, is_given, read_from}
+use Rattle.state_text.specs.Reading.{GivenCells, entry_found, is_given, read_from}
 use Rattle.state_text.specs.Writing.{cell_line, field_lines, lines_as, listed_lines, map_lines, rest_line}
 use Rattle.state_text.proofs.Bytes.{AllPlain, AllPlain-append, apart, begins_more, line_first, word_plain}
 use Rattle.state_text.proofs.Computed.{computed, key_word, name_parts}
@@ -59,7 +59,7 @@ module _ (i : ℕ) (name : List ℕ) where
   printed_listed keys w r [] = []
   printed_listed keys w r (c ∷ cs) = if c.1.v == r then printed_listed keys w r cs else (record { field = i; name = name; keys = keys; key = At c.0; width = w; value = c.1.v } ∷ printed_listed keys w r cs)
 
-  abbrev pub printed_map : Option MapTy → Cell → List (ℕ × Cell) → List Printed
+  abbrev pub printed_map : Option MapType → Cell → List (ℕ × Cell) → List Printed
   printed_map None r cs = []
   printed_map (Some d) r cs = printed_rest d.key d.width d.default r.v ++ printed_listed d.key d.width r.v cs
 
@@ -83,13 +83,13 @@ module _ (spec : Spec) where
     | inr t ↦ rw (t, e) (ap (λ (l : List ℕ). cell_line (f.0 ++ key_part spec keys (At c.0)) w c.1.v ++ l) (text_listed i f keys w r cs e))
   ]
 
-  text_rest : (i : ℕ) (f : Field) (d : MapTy) (v : ℕ) → rest_line spec f d v ≡ text_of spec (printed_rest i f.0 d.key d.width d.default v)
+  text_rest : (i : ℕ) (f : Field) (d : MapType) (v : ℕ) → rest_line spec f d v ≡ text_of spec (printed_rest i f.0 d.key d.width d.default v)
   text_rest i f d v = elim (cases_Bool (v == d.default)) [
     | inl t ↦ rw t refl
     | inr t ↦ rw t (sym (append-nil (cell_line (f.0 ++ key_part spec d.key Rest) d.width v)))
   ]
 
-  text_map : (i : ℕ) (f : Field) (o : Option MapTy) (r : Cell) (cs : List (ℕ × Cell)) → ((d : MapTy) → o ≡ Some d → keys_of spec f.1 ≡ d.key) → map_lines spec f o r cs ≡ text_of spec (printed_map i f.0 o r cs)
+  text_map : (i : ℕ) (f : Field) (o : Option MapType) (r : Cell) (cs : List (ℕ × Cell)) → ((d : MapType) → o ≡ Some d → keys_of spec f.1 ≡ d.key) → map_lines spec f o r cs ≡ text_of spec (printed_map i f.0 o r cs)
   text_map i f None r cs e = refl
   text_map i f (Some d) r cs e =
       rw (text_of-append spec (printed_rest i f.0 d.key d.width d.default r.v) (printed_listed i f.0 d.key d.width r.v cs), text_rest i f d r.v, text_listed i f d.key d.width r.v cs (e d refl)) refl
@@ -114,7 +114,7 @@ module _ (spec : Spec) where
 -- ---- reading one
 
 -- the part that a key is written as
-abbrev pub part_at : Spec → Ty → KeyAt → Part
+abbrev pub part_at : Spec → Ty → KeyAt → CellSuffix
 part_at spec ty Whole = whole
 part_at spec ty Rest = rest
 part_at spec ty (At k) = at (key_text spec ty k)
@@ -163,7 +163,7 @@ not_passed spec [] p = absurd (let bad : false ≡ true = p in cc)
 not_passed spec (b ∷ line) p = rw (apart (λ c. begins_name (c ∷ line)) b 35 p refl) refl
 
 -- what a line of a cell says
-pub line_says : (spec : Spec) (name : List ℕ) (part : Part) (w v : ℕ) → is_name name ≡ true → IsOnePart part → 1 ≤ w → w ≤ 64 → v < 2 ^ w
+pub line_says : (spec : Spec) (name : List ℕ) (part : CellSuffix) (w v : ℕ) → is_name name ≡ true → IsOnePart part → 1 ≤ w → w ≤ 64 → v < 2 ^ w
     → said spec (line_of (name ++ part_text part) w v) ≡ single_says spec (place_of spec name) part (One v)
 line_says spec name part w v named one some narrow small =
     let value = hex_digits (digits_of w) v in
@@ -234,13 +234,13 @@ abbrev pub lines_from : ℕ → List Printed → List Line
 lines_from n [] = []
 lines_from n (p ∷ ps) = record { field = p.field; key = p.key; given = One p.value; line = n } ∷ lines_from (n + 1) ps
 
-pub read_on : (spec : Spec) (ps : List Printed) (n f r : ℕ) (found : Found) → AllReadable spec ps → Ascends f r ps → IsFresh f r found.lines
+pub read_on : (spec : Spec) (ps : List Printed) (n f r : ℕ) (found : GivenCells) → AllReadable spec ps → Ascends f r ps → IsFresh f r found.lines
     → read_from spec n found (lines (text_of spec ps)) ≡ entry_found (record { counter = found.counter; lines = found.lines ++ lines_from n ps })
 read_on spec [] n f r found readable ascends fresh = rw (append-nil found.lines) refl
 read_on spec (p ∷ ps) n f r found readable ascends fresh =
     let l : Line = record { field = p.field; key = p.key; given = One p.value; line = n } in
     let splits = line_splits (cell_name spec p) p.width p.value (text_of spec ps) in
     let first = line_first (line_of (cell_name spec p) p.width p.value) (text_of spec ps) (printed_plain spec p readable.0) in
-    let on : Found = record { counter = found.counter; lines = found.lines ++ l ∷ [] } in
+    let on : GivenCells = record { counter = found.counter; lines = found.lines ++ l ∷ [] } in
     let more = read_on spec ps (n + 1) p.field (suc (rank p.key)) on readable.1 ascends.1 (fresh_more found.lines l f r fresh ascends.0) in
     rw (splits, first, printed_says spec p readable.0, fresh p.field p.key ascends.0) (more ∙ ap (λ (ls : List Line). entry_found (record { counter = found.counter; lines = ls })) (append_assoc found.lines (l ∷ []) (lines_from (n + 1) ps)))

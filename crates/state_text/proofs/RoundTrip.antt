@@ -5,14 +5,14 @@ use Rattle.std.proofs.lemmas.Bool.Decides.{nat_tests}
 use Rattle.std.proofs.lemmas.Fmt.{decimal_by_steps}
 use Rattle.std.specs.Fmt.{decimal}
 use Rattle.std.specs.List.{list_all}
-use Rattle.spec_types.specs.Specification.{Spec}
-use Rattle.tsl_values.specs.declared.entry.Given.TheVariants.{One}
-use Rattle.tsl_values.specs.States.{State}
-use Rattle.tsl_values.specs.Types.{environment_of, have_types}
-use Rattle.tsl_values.specs.Values.{vals}
-use Rattle.meaning.specs.Entries.{entry_fields, one_state_of}
-use Rattle.cell_text.specs.Digits.{hex_digits}
-use Rattle.cell_text.specs.Places.{Field, place_at, place_from, place_of, state_fields}
+use Rattle.spec_ir.specs.Specification.{Spec}
+use Rattle.semantics_values.specs.declared.entry.GivenNumber.TheVariants.{One}
+use Rattle.semantics_values.specs.States.{State}
+use Rattle.semantics_values.specs.Types.{environment_of, have_types}
+use Rattle.semantics_values.specs.Values.{vals}
+use Rattle.semantics.specs.Entries.{entry_fields, one_state_of}
+use Rattle.state_cell_text.specs.Digits.{hex_digits}
+use Rattle.state_cell_text.specs.Places.{Field, place_at, place_from, place_of, state_fields}
 use Rattle.state_text.specs.declared.stop.Stop.{Stop}
 use Rattle.state_text.specs.declared.stop.Stop.TheVariants.{Bound, Left, Undecodable, Turns}
 use Rattle.state_text.specs.Forms.{is_name, whole}
@@ -20,7 +20,7 @@ use Rattle.state_text.specs.Laws.{AreCellTypes, HasFields, IsEntryOf, IsStateOf,
 use Rattle.state_text.specs.Lines.{lines}
 use Rattle.state_text.specs.Meaning.{counter, said}
 use Rattle.state_text.specs.OneState.{types_behind}
-use Rattle.state_text.specs.Reading.{Entry, Found, none_found, read, read_from}
+use Rattle.state_text.specs.Reading.{Entry, GivenCells, none_found, read, read_from}
 use Rattle.state_text.specs.Stops.{stop_line, stop_name, stop_place, stopped_text, word_digits}
 use Rattle.state_text.specs.Writing.{all_lines, state_text}
 use Rattle.state_text.proofs.Bytes.{AllPlain, AllPlain-append, line_first, word_plain}
@@ -54,7 +54,7 @@ read_state spec s n (f ∷ fields) is some few names types small typed =
     let found : ArePlaced spec (place_of spec) 0 (f ∷ fields) = subst (λ (all : List Field). ArePlaced spec (place_from spec 0 all) 0 (f ∷ fields)) (sym is) (placed spec 0 (f ∷ fields) parts.1) in
     let ps = printed spec 1 fields s.parts in
     let first = line_first (line_of f.0 32 s.pc) (text_of spec ps) (line_plain f.0 32 s.pc (word_plain f.0 (name_parts f.0 named.0).word)) in
-    let at_counter : Found = record { counter = Some (One s.pc); lines = [] } in
+    let at_counter : GivenCells = record { counter = Some (One s.pc); lines = [] } in
     let rest = read_on spec ps (n + 1) 0 0 at_counter (readable spec 1 fields s.parts found.1 named.1 types typed (omega arith) (omega (arith, few))) (ascends spec 1 0 0 fields s.parts (omega arith) typed) (λ g key h. refl) in
     let e : Entry = record { pc = s.pc; lines = lines_from (n + 1) ps } in
     let text = text_is spec 1 fields s.parts in

@@ -7,10 +7,10 @@ use Rattle.std.specs.Ordering.{is_eq}
 use Rattle.std.specs.BTreeMap.{is_at}
 use Rattle.std.specs.BTreeSet.{BTreeSet, contains}
 use Rattle.std.proofs.Math.Bool.{and-false as and_false}
-use Rattle.tsl_values.specs.declared.entry.KeyAt.{KeyAt}
-use Rattle.tsl_values.specs.declared.entry.KeyAt.TheVariants.{At}
-use Rattle.tsl_values.specs.declared.entry.Line.{Line}
-use Rattle.meaning.specs.Entries.{is_key}
+use Rattle.semantics_values.specs.declared.entry.KeyAt.{KeyAt}
+use Rattle.semantics_values.specs.declared.entry.KeyAt.TheVariants.{At}
+use Rattle.semantics_values.specs.declared.entry.Line.{Line}
+use Rattle.semantics.specs.Entries.{is_key}
 use Rattle.state_text.specs.Found.{pair_cmp}
 use Rattle.state_text.specs.Meaning.{run_cells}
 use Rattle.state_text.specs.Reading.{any_given, is_given}

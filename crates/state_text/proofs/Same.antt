@@ -2,25 +2,25 @@
 use Rattle.std.proofs.Common.{◌≡◌, if◌then◌else◌, ◌+◌, ◌<◌, ◌≤◌, ◌^◌, ◌==◌, ℕ, suc, true, false, List, [], ◌∷◌, ◌++◌, length, map, Option, Some, None, refl, sym, subst, ap, ◌∙◌, inl, inr, arith, nat_lt, nat_le, slice_get, append_assoc}
 use Rattle.std.proofs.lemmas.Bool.{and_parts, cases_Bool, eqb-true as is_number}
 use Rattle.std.proofs.lemmas.Bool.Decides.{nat_tests}
-use Rattle.spec_types.specs.declared.ty.Ty.{Ty}
-use Rattle.spec_types.specs.declared.ty.Ty.TheVariants.{Bool as Flag, Word, Data as DataTy, Map as MapOf}
-use Rattle.spec_types.specs.declared.declared.MapTy.{MapTy}
-use Rattle.spec_types.specs.Environment.{Environment}
-use Rattle.spec_types.specs.Specification.{Spec}
-use Rattle.tsl_values.specs.declared.entry.Given.TheVariants.{One}
-use Rattle.tsl_values.specs.declared.entry.KeyAt.{KeyAt}
-use Rattle.tsl_values.specs.declared.entry.KeyAt.TheVariants.{Whole, Rest}
-use Rattle.tsl_values.specs.declared.entry.Line.{Line}
-use Rattle.tsl_values.specs.declared.value.Cell.{Cell}
-use Rattle.tsl_values.specs.Types.{environment_of, has_type, have_types, key_count, keys_ascend, map_fits}
-use Rattle.tsl_values.specs.Values.{Val, cell_at, flag, word, made, map as map_of, put_cell, vals}
-use Rattle.meaning.specs.Entries.{entry_cell, entry_field, entry_fields, entry_map, given_at, named_cells}
-use Rattle.cell_text.specs.Places.{Field}
+use Rattle.spec_ir.specs.declared.ty.Ty.{Ty}
+use Rattle.spec_ir.specs.declared.ty.Ty.TheVariants.{Bool as Flag, Word, Data as DataTy, Map as MapOf}
+use Rattle.spec_ir.specs.declared.declared.MapType.{MapType}
+use Rattle.spec_ir.specs.Environment.{Environment}
+use Rattle.spec_ir.specs.Specification.{Spec}
+use Rattle.semantics_values.specs.declared.entry.GivenNumber.TheVariants.{One}
+use Rattle.semantics_values.specs.declared.entry.KeyAt.{KeyAt}
+use Rattle.semantics_values.specs.declared.entry.KeyAt.TheVariants.{Whole, Rest}
+use Rattle.semantics_values.specs.declared.entry.Line.{Line}
+use Rattle.semantics_values.specs.declared.value.Cell.{Cell}
+use Rattle.semantics_values.specs.Types.{environment_of, has_type, have_types, key_count, keys_ascend, map_fits}
+use Rattle.semantics_values.specs.Values.{Val, cell_at, flag, word, made, map as map_of, put_cell, vals}
+use Rattle.semantics.specs.Entries.{entry_cell, entry_field, entry_fields, entry_map, given_at, named_cells}
+use Rattle.state_cell_text.specs.Places.{Field}
 use Rattle.state_text.specs.Laws.{AreCellTypes, IsCellType, SameValue, SameValues}
 use Rattle.state_text.specs.OneState.{first_open}
 use Rattle.state_text.proofs.Cells.{map_parts}
 use Rattle.state_text.proofs.Printed.{Printed, lines_from, printed, printed_as, printed_listed, printed_map, printed_rest}
-use Rattle.tsl_match.proofs.Truth.{equal_itself as same_number}
+use Rattle.spec_match_compiler.proofs.Truth.{equal_itself as same_number}
 
 -- ---- lines of other fields
 
@@ -60,7 +60,7 @@ NoField-append i (x ∷ xs) ys p q = (p.0, NoField-append i xs ys p.1 q)
 field_is : (env : Environment) (xs mine ys : List Line) (i : ℕ) (ty : Ty) → NoField i xs → NoField i ys → entry_field env (xs ++ (mine ++ ys)) i ty ≡ entry_field env mine i ty
 field_is env xs mine ys i (Word w) p q = rw (given_skip i Whole xs (mine ++ ys) p, given_end i Whole mine ys q) refl
 field_is env xs mine ys i (MapOf m) p q = go (slice_get env.maps m) where
-  go : (o : Option MapTy) → entry_map env (xs ++ (mine ++ ys)) i m o ≡ entry_map env mine i m o
+  go : (o : Option MapType) → entry_map env (xs ++ (mine ++ ys)) i m o ≡ entry_map env mine i m o
   go None = refl
   go (Some d) = rw (given_skip i Rest xs (mine ++ ys) p, given_end i Rest mine ys q, named_skip i xs (mine ++ ys) p, named_end i mine ys q) refl
 field_is env xs mine ys i Flag p q = refl
@@ -143,7 +143,7 @@ module _ (i : ℕ) (name : List ℕ) where
     | inr e ↦ rw (e, same_number i) (no_rest (n + 1) keys w r cs)
   ]
 
-  same_some : (env : Environment) (m n : ℕ) (d : MapTy) (x : Cell) (cs : List (ℕ × Cell)) → keys_ascend 0 cs ≡ true
+  same_some : (env : Environment) (m n : ℕ) (d : MapType) (x : Cell) (cs : List (ℕ × Cell)) → keys_ascend 0 cs ≡ true
       → SameValue (map_of m x cs) (entry_map env (lines_from n (printed_rest i name d.key d.width d.default x.v ++ printed_listed i name d.key d.width x.v cs)) i m (Some d))
   same_some env m n d x cs h = elim (cases_Bool (x.v == d.default)) [
     | inl e ↦
@@ -152,7 +152,7 @@ module _ (i : ℕ) (name : List ℕ) where
     | inr e ↦ rw (e, same_number i, named_listed (n + 1) d.key d.width x.v 0 cs h) (refl, refl, λ k. same_cells x 0 k cs h)
   ]
 
-  same_map : (spec : Spec) (m n : ℕ) (o : Option MapTy) (x : Cell) (cs : List (ℕ × Cell)) → map_fits (environment_of spec) o x cs ≡ true
+  same_map : (spec : Spec) (m n : ℕ) (o : Option MapType) (x : Cell) (cs : List (ℕ × Cell)) → map_fits (environment_of spec) o x cs ≡ true
       → SameValue (map_of m x cs) (entry_map (environment_of spec) (lines_from n (printed_map i name o x cs)) i m o)
   same_map spec m n None x cs fits = absurd (let bad : false ≡ true = fits in cc)
   same_map spec m n (Some d) x cs fits = same_some (environment_of spec) m n d x cs (map_parts d (key_count (environment_of spec) d.key) x cs fits).1
@@ -209,7 +209,7 @@ of_listed i name keys w r (c ∷ cs) = elim (cases_Bool (c.1.v == r)) [
 of_rest : (i : ℕ) (name : List ℕ) (keys : Ty) (w d v : ℕ) → AllOf i (printed_rest i name keys w d v)
 of_rest i name keys w d v = elim (cases_Bool (v == d)) [ inl e ↦ rw e tt | inr e ↦ rw e (refl, tt) ]
 
-of_map : (i : ℕ) (name : List ℕ) (o : Option MapTy) (x : Cell) (cs : List (ℕ × Cell)) → AllOf i (printed_map i name o x cs)
+of_map : (i : ℕ) (name : List ℕ) (o : Option MapType) (x : Cell) (cs : List (ℕ × Cell)) → AllOf i (printed_map i name o x cs)
 of_map i name None x cs = tt
 of_map i name (Some d) x cs = AllOf-append i (printed_rest i name d.key d.width d.default x.v) (printed_listed i name d.key d.width x.v cs) (of_rest i name d.key d.width d.default x.v) (of_listed i name d.key d.width x.v cs)
 

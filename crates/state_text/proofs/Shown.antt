@@ -8,13 +8,13 @@ use Rattle.std.specs.Char.{is_ascii_alphabetic}
 use Rattle.std.specs.List.{prefix_len, list_all}
 use Rattle.hex.specs.Hex.{decode_of}
 use Rattle.hex.specs.declared.error.FromHexError.{FromHexError}
-use Rattle.tsl_values.specs.declared.entry.Given.{Given}
-use Rattle.tsl_values.specs.declared.entry.Given.TheVariants.{One, Any, Range}
-use Rattle.cell_text.specs.Digits.{hex_number}
-use Rattle.state_text.specs.Forms.{Form, single, run, Part, whole, rest, at, from, HasForm, IsOnePart, IsRun, IsValue, begins_name, is_mark, is_name, is_word_byte, part_text}
-use Rattle.state_text.specs.Parsing.{Cut, after_cell, begins_dots, behind_dot, behind_key, behind_star, closed, counted, cut, form, formed, is_no_dot, is_space, keyed, one_or, range, range_of, run_of, value_of}
+use Rattle.semantics_values.specs.declared.entry.GivenNumber.{GivenNumber}
+use Rattle.semantics_values.specs.declared.entry.GivenNumber.TheVariants.{One, Any, Range}
+use Rattle.state_cell_text.specs.Digits.{hex_number}
+use Rattle.state_text.specs.Forms.{Form, single, run, CellSuffix, whole, rest, at, from, HasForm, IsOnePart, IsRun, IsValue, begins_name, is_mark, is_name, is_word_byte, part_text}
+use Rattle.state_text.specs.Parsing.{Cut, after_cell, begins_dots, behind_dot, behind_key, behind_star, cut_closing, counted, cut, form, formed, is_no_dot, is_space, cut_name, one_or, range, range_of, run_of, value_of}
 use Rattle.state_text.proofs.Computed.{IsPart}
-use Rattle.spec_types.proofs.Entered.{same_name as same_text}
+use Rattle.spec_ir.proofs.Entered.{same_name as same_text}
 
 take_passes : (test : ℕ → Bool) (xs : List ℕ) → list_all test (take (prefix_len test xs) xs) ≡ true
 take_passes test [] = refl
@@ -64,7 +64,7 @@ star_shown name [] (b ∷ after) c h = elim (cases_Bool (b == 93)) [
   | inr e ↦ absurd (none-some c (rw e at h))
 ]
 
-closed_shown : (name key bytes : List ℕ) (c : Cut) → list_all is_word_byte key ≡ true → closed name key bytes ≡ Some c → IsCut (91 ∷ (key ++ bytes)) name c
+closed_shown : (name key bytes : List ℕ) (c : Cut) → list_all is_word_byte key ≡ true → cut_closing name key bytes ≡ Some c → IsCut (91 ∷ (key ++ bytes)) name c
 closed_shown name key [] c word h = absurd (none-some c h)
 closed_shown name key (b ∷ bytes) c word h = elim (cases_Bool (b == 93)) [
   | inl e ↦ rw (same_byte b 93 e) (key_shown name key bytes c word (rw e at h))
@@ -77,7 +77,7 @@ closed_shown name key (b ∷ bytes) c word h = elim (cases_Bool (b == 93)) [
   ]
 ]
 
-keyed_shown : (name bytes : List ℕ) (c : Cut) → keyed name bytes ≡ Some c → IsCut bytes name c
+keyed_shown : (name bytes : List ℕ) (c : Cut) → cut_name name bytes ≡ Some c → IsCut bytes name c
 keyed_shown name [] c h = subst (IsCut [] name) (same_Some (record { name = name; part = whole; after = [] }) c h) (refl, refl, tt)
 keyed_shown name (b ∷ bytes) c h = elim (cases_Bool (b == 91)) [
   | inl e ↦
@@ -129,7 +129,7 @@ drop_past zero xs = refl
 drop_past (suc n) [] = let e : suc n + 2 ≡ suc (suc (suc n)) = omega arith in rw e refl
 drop_past (suc n) (x ∷ xs) = let e : suc n + 2 ≡ suc (n + 2) = omega arith in rw e (drop_past n xs)
 
-range_of_shown : (text : List ℕ) (given : Given) (n : ℕ) (x y : Option ℕ) → begins_dots (drop n text) ≡ true → hex_number 16 (take n text) ≡ x → hex_number 16 (drop (n + 2) text) ≡ y
+range_of_shown : (text : List ℕ) (given : GivenNumber) (n : ℕ) (x y : Option ℕ) → begins_dots (drop n text) ≡ true → hex_number 16 (take n text) ≡ x → hex_number 16 (drop (n + 2) text) ≡ y
     → range_of x y ≡ Some given → IsValue given text
 range_of_shown text given n None y d ex ey h = absurd (none-some given h)
 range_of_shown text given n (Some lo) None d ex ey h = absurd (none-some given h)
@@ -142,17 +142,17 @@ range_of_shown text given n (Some lo) (Some hi) d ex ey h = elim (cases_Bool (na
   | inr e ↦ absurd (none-some given (rw e at h))
 ]
 
-range_shown : (text : List ℕ) (given : Given) → range text ≡ Some given → IsValue given text
+range_shown : (text : List ℕ) (given : GivenNumber) → range text ≡ Some given → IsValue given text
 range_shown text given h = elim (cases_Bool (begins_dots (drop (prefix_len is_no_dot text) text))) [
   | inl e ↦ range_of_shown text given (prefix_len is_no_dot text) (hex_number 16 (take (prefix_len is_no_dot text) text)) (hex_number 16 (drop (prefix_len is_no_dot text + 2) text)) e refl refl (rw e at h)
   | inr e ↦ absurd (none-some given (rw e at h))
 ]
 
-one_shown : (text : List ℕ) (given : Given) (n : Option ℕ) → hex_number 16 text ≡ n → one_or n (range text) ≡ Some given → IsValue given text
+one_shown : (text : List ℕ) (given : GivenNumber) (n : Option ℕ) → hex_number 16 text ≡ n → one_or n (range text) ≡ Some given → IsValue given text
 one_shown text given None e h = range_shown text given h
 one_shown text given (Some v) e h = subst (λ g. IsValue g text) (same_Some (One v) given h) e
 
-value_shown : (text : List ℕ) (given : Given) → value_of text ≡ Some given → IsValue given text
+value_shown : (text : List ℕ) (given : GivenNumber) → value_of text ≡ Some given → IsValue given text
 value_shown text given h = elim (cases_Bool (bytes_eq text (codes "any"))) [
   | inl e ↦ subst (λ g. IsValue g text) (same_Some Any given (rw e at h)) (same_text text (codes "any") e)
   | inr e ↦ one_shown text given (hex_number 16 text) refl (rw e at h)
@@ -179,15 +179,15 @@ some_of g None f h = absurd (none-some f h)
 some_of g (Some a) f h = (a, refl, same_Some (g a) f h)
 
 -- a line of this cell and the spaces behind it
-abbrev IsLine : List ℕ → List ℕ → Part → List ℕ → Type 0
+abbrev IsLine : List ℕ → List ℕ → CellSuffix → List ℕ → Type 0
 IsLine line name part value = (n : ℕ) × (line ≡ name ++ (part_text part ++ (32 ∷ (replicate n 32 ++ value))))
 
-single_shown : (line name : List ℕ) (part : Part) (value : List ℕ) (f : Form) → IsOnePart part → IsLine line name part value → is_name name ≡ true → option_map (single name part) (value_of value) ≡ Some f → HasForm line f
+single_shown : (line name : List ℕ) (part : CellSuffix) (value : List ℕ) (f : Form) → IsOnePart part → IsLine line name part value → is_name name ≡ true → option_map (single name part) (value_of value) ≡ Some f → HasForm line f
 single_shown line name part value f one is named h =
     let found = some_of (single name part) (value_of value) f h in
     subst (HasForm line) found.2 (value, is, named, one, value_shown value found.0 found.1)
 
-formed_shown : (line name : List ℕ) (part : Part) (value : List ℕ) (f : Form) → IsPart part → IsLine line name part value → is_name name ≡ true → formed name part value ≡ Some f → HasForm line f
+formed_shown : (line name : List ℕ) (part : CellSuffix) (value : List ℕ) (f : Form) → IsPart part → IsLine line name part value → is_name name ≡ true → formed name part value ≡ Some f → HasForm line f
 formed_shown line name whole value f p is named h = single_shown line name whole value f tt is named h
 formed_shown line name rest value f p is named h = single_shown line name rest value f tt is named h
 formed_shown line name (at key) value f p is named h = single_shown line name (at key) value f p is named h

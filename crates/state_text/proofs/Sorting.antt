@@ -5,9 +5,9 @@ use Rattle.std.proofs.lemmas.Bool.{cases_Bool}
 use Rattle.std.proofs.lemmas.Bool.Decides.{nat_tests}
 use Rattle.std.specs.BTreeMap.{insert_entry}
 use Rattle.std.specs.Ordering.{nat_cmp}
-use Rattle.tsl_values.specs.declared.entry.Line.{Line}
-use Rattle.tsl_values.specs.declared.value.Cell.{Cell}
-use Rattle.tsl_values.specs.Values.{put_cell}
+use Rattle.semantics_values.specs.declared.entry.Line.{Line}
+use Rattle.semantics_values.specs.declared.value.Cell.{Cell}
+use Rattle.semantics_values.specs.Values.{put_cell}
 
 -- a sorted map's entries are put as cells are
 pub insert_is_put : (es : List (ℕ × Cell)) (k : ℕ) (v : Cell) → insert_entry nat_cmp es k v ≡ put_cell k v es

@@ -1,11 +1,11 @@
 -- The parts of a line as plain data.
-use Rattle.state_text.specs.declared.cut.Part.{Part as PartOf}
-use Rattle.state_text.specs.declared.cut.Part.TheVariants as code
+use Rattle.state_text.specs.declared.cut.CellSuffix.{CellSuffix as PartOf}
+use Rattle.state_text.specs.declared.cut.CellSuffix.TheVariants as code
 use Rattle.state_text.specs.declared.cut.Cut.{Cut as CutOf}
-use Rattle.state_text.specs.Forms.{Part, whole, rest, at, from}
+use Rattle.state_text.specs.Forms.{CellSuffix, whole, rest, at, from}
 use Rattle.state_text.specs.Parsing.{Cut}
 
-abbrev pub part_of : PartOf → Part
+abbrev pub part_of : PartOf → CellSuffix
 part_of code.Whole = whole
 part_of code.Rest = rest
 part_of (code.At key) = at key.now

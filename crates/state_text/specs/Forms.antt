@@ -3,9 +3,9 @@ use Rattle.std.specs.Prelude.{◌≡◌, ℕ, ◌≤◌, Bool, true, false, List
 use Rattle.std.specs.List.{list_all}
 use Rattle.std.specs.Char.{is_ascii_alphabetic, is_ascii_alphanumeric}
 use Rattle.hex.specs.Hex.{decode_of}
-use Rattle.tsl_values.specs.declared.entry.Given.{Given}
-use Rattle.tsl_values.specs.declared.entry.Given.TheVariants.{One, Any, Range}
-use Rattle.cell_text.specs.Digits.{hex_number}
+use Rattle.semantics_values.specs.declared.entry.GivenNumber.{GivenNumber}
+use Rattle.semantics_values.specs.declared.entry.GivenNumber.TheVariants.{One, Any, Range}
+use Rattle.state_cell_text.specs.Digits.{hex_number}
 
 -- letters, digits and `_`
 abbrev pub is_word_byte : ℕ → Bool
@@ -31,20 +31,20 @@ is_key [] = false
 is_key (b ∷ bytes) = list_all is_word_byte (b ∷ bytes)
 
 -- what is written of a cell behind its name: nothing, `[*]`, `[KEY]` or `[KEY..]`
-pub data Part : Type 0 where
-  whole : Part
-  rest : Part
-  at : List ℕ → Part
-  from : List ℕ → Part
+pub data CellSuffix : Type 0 where
+  whole : CellSuffix
+  rest : CellSuffix
+  at : List ℕ → CellSuffix
+  from : List ℕ → CellSuffix
 
-abbrev pub part_text : Part → List ℕ
+abbrev pub part_text : CellSuffix → List ℕ
 part_text whole = []
 part_text rest = codes "[*]"
 part_text (at key) = 91 ∷ (key ++ codes "]")
 part_text (from key) = 91 ∷ (key ++ codes "..]")
 
 -- A part of one cell, or of the rest of a map.
-abbrev pub IsOnePart : Part → Type 0
+abbrev pub IsOnePart : CellSuffix → Type 0
 IsOnePart whole = Unit {0}
 IsOnePart rest = Unit {0}
 IsOnePart (at key) = is_key key ≡ true
@@ -52,11 +52,11 @@ IsOnePart (from key) = ⊥
 
 -- What a line has: a name and a part with what is given, or a name and the first key of a run with its bytes.
 pub data Form : Type 0 where
-  single : List ℕ → Part → Given → Form
+  single : List ℕ → CellSuffix → GivenNumber → Form
   run : List ℕ → List ℕ → List ℕ → Form
 
 -- A text of a value: 1 to 16 hex digits, `any`, or `LO..HI` with LO at most HI.
-abbrev pub IsValue : Given → List ℕ → Type 0
+abbrev pub IsValue : GivenNumber → List ℕ → Type 0
 IsValue (One v) text = hex_number 16 text ≡ Some v
 IsValue Any text = text ≡ codes "any"
 IsValue (Range lo hi) text = (a : List ℕ) × (b : List ℕ) × (text ≡ a ++ (codes ".." ++ b)) × (hex_number 16 a ≡ Some lo) × (hex_number 16 b ≡ Some hi) × (lo ≤ hi)
@@ -66,7 +66,7 @@ abbrev pub IsRun : List ℕ → List ℕ → Type 0
 IsRun bytes text = (decode_of text ≡ Ok bytes) × (1 ≤ length bytes) × (length bytes ≤ 4096)
 
 -- A line that is a cell, one or more spaces, and a value.
-abbrev pub IsCellLine : List ℕ → Part → List ℕ → List ℕ → Type 0
+abbrev pub IsCellLine : List ℕ → CellSuffix → List ℕ → List ℕ → Type 0
 IsCellLine name part value line = (n : ℕ) × (line ≡ name ++ (part_text part ++ (32 ∷ (replicate n 32 ++ value))))
 
 -- A line of this form.

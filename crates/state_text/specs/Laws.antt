@@ -1,17 +1,17 @@
 -- What holds of each entry and each state.
 use Rattle.std.specs.Prelude.{◌≡◌, ℕ, ◌<◌, ◌≤◌, ◌^◌, Bool, true, not, ◌&&◌, bytes_eq, length, map, List, [], ◌∷◌, Option, Some, None, Ok, slice_get}
 use Rattle.std.specs.List.{list_all, list_any}
-use Rattle.spec_types.specs.declared.ty.Ty.{Ty}
-use Rattle.spec_types.specs.declared.ty.Ty.TheVariants.{Word, Data as DataTy, Map as MapOf}
-use Rattle.spec_types.specs.declared.declared.MapTy.{MapTy}
-use Rattle.spec_types.specs.Specification.{Spec}
-use Rattle.spec_types.specs.Texts.{cases_of}
-use Rattle.spec_types.specs.WellFormed.{is_width}
-use Rattle.tsl_values.specs.States.{State}
-use Rattle.tsl_values.specs.Types.{environment_of, have_types}
-use Rattle.tsl_values.specs.Values.{Val, word, map as map_of, vals, cell_at}
-use Rattle.cell_text.specs.Places.{state_fields}
-use Rattle.meaning.specs.Entries.{IsEntryState}
+use Rattle.spec_ir.specs.declared.ty.Ty.{Ty}
+use Rattle.spec_ir.specs.declared.ty.Ty.TheVariants.{Word, Data as DataTy, Map as MapOf}
+use Rattle.spec_ir.specs.declared.declared.MapType.{MapType}
+use Rattle.spec_ir.specs.Specification.{Spec}
+use Rattle.spec_ir.specs.Texts.{cases_of}
+use Rattle.spec_ir.specs.WellFormed.{is_width}
+use Rattle.semantics_values.specs.States.{State}
+use Rattle.semantics_values.specs.Types.{environment_of, have_types}
+use Rattle.semantics_values.specs.Values.{Val, word, map as map_of, vals, cell_at}
+use Rattle.state_cell_text.specs.Places.{state_fields}
+use Rattle.semantics.specs.Entries.{IsEntryState}
 use Rattle.state_text.specs.declared.stop.Stop.{Stop}
 use Rattle.state_text.specs.Forms.{Form, HasForm, is_name}
 use Rattle.state_text.specs.OneState.{one_state, types_behind}
@@ -42,7 +42,7 @@ module _ (spec : Spec) where
   IsKeyType (DataTy t) = are_names (map (λ c. c.name) (cases_of (slice_get spec.datas t))) ≡ true
   IsKeyType _ = ⊥
 
-  abbrev pub IsMapType : Option MapTy → Type 0
+  abbrev pub IsMapType : Option MapType → Type 0
   IsMapType None = ⊥
   IsMapType (Some d) = (is_width d.width ≡ true) × IsKeyType d.key × (d.default < 2 ^ d.width)
 

@@ -1,17 +1,17 @@
 -- The one state that an entry describes, if it gives each cell one number.
 use Rattle.std.specs.Prelude.{◌≡◌, ◌⊎◌, ℕ, List, [], ◌∷◌, Option, Some, None, is_some, ◌==◌, Result, Ok, Err, map, slice_get, if◌then◌else◌}
-use Rattle.spec_types.specs.declared.ty.Ty.{Ty}
-use Rattle.spec_types.specs.Specification.{Spec}
-use Rattle.tsl_values.specs.declared.entry.KeyAt.{KeyAt}
-use Rattle.tsl_values.specs.declared.entry.Line.{Line}
-use Rattle.tsl_values.specs.declared.value.Cell.{Cell}
-use Rattle.tsl_values.specs.declared.value.State.{State as StateOf}
-use Rattle.tsl_values.specs.States.{State}
-use Rattle.tsl_values.specs.Types.{environment_of}
-use Rattle.tsl_values.specs.Views.{state}
-use Rattle.meaning.specs.Entries.{one_state_of, with_line}
-use Rattle.cell_text.specs.Keys.{cell_text}
-use Rattle.cell_text.specs.Places.{Field, state_fields}
+use Rattle.spec_ir.specs.declared.ty.Ty.{Ty}
+use Rattle.spec_ir.specs.Specification.{Spec}
+use Rattle.semantics_values.specs.declared.entry.KeyAt.{KeyAt}
+use Rattle.semantics_values.specs.declared.entry.Line.{Line}
+use Rattle.semantics_values.specs.declared.value.Cell.{Cell}
+use Rattle.semantics_values.specs.declared.value.State.{State as StateOf}
+use Rattle.semantics_values.specs.States.{State}
+use Rattle.semantics_values.specs.Types.{environment_of}
+use Rattle.semantics_values.specs.Views.{state}
+use Rattle.semantics.specs.Entries.{one_state_of, with_line}
+use Rattle.state_cell_text.specs.Keys.{cell_text}
+use Rattle.state_cell_text.specs.Places.{Field, state_fields}
 use Rattle.state_text.specs.declared.entry_error.EntryError.{EntryError}
 use Rattle.state_text.specs.declared.entry_error.EntryError.TheVariants.{NotOne, NoMemory}
 use Rattle.state_text.specs.Reading.{Entry, single_number}

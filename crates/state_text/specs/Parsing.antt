@@ -3,20 +3,20 @@ use Rattle.std.specs.Prelude.{ℕ, ◌+◌, Bool, false, List, [], ◌∷◌, Op
 use Rattle.std.specs.List.{prefix_len}
 use Rattle.hex.specs.Hex.{decode_of}
 use Rattle.hex.specs.declared.error.FromHexError.{FromHexError}
-use Rattle.tsl_values.specs.declared.entry.Given.{Given}
-use Rattle.tsl_values.specs.declared.entry.Given.TheVariants.{One, Any, Range}
-use Rattle.cell_text.specs.Digits.{hex_number}
-use Rattle.state_text.specs.Forms.{Form, single, run, Part, whole, rest, at, from, begins_name, is_mark, is_word_byte}
+use Rattle.semantics_values.specs.declared.entry.GivenNumber.{GivenNumber}
+use Rattle.semantics_values.specs.declared.entry.GivenNumber.TheVariants.{One, Any, Range}
+use Rattle.state_cell_text.specs.Digits.{hex_number}
+use Rattle.state_text.specs.Forms.{Form, single, run, CellSuffix, whole, rest, at, from, begins_name, is_mark, is_word_byte}
 
 -- ---- the cell
 
 -- a name, what is written behind it of the cell, and what follows
 pub record Cut : Type 0 where
   pub name : List ℕ
-  pub part : Part
+  pub part : CellSuffix
   pub after : List ℕ
 
-abbrev pub cut_at : List ℕ → Part → List ℕ → Option Cut
+abbrev pub cut_at : List ℕ → CellSuffix → List ℕ → Option Cut
 cut_at name part after = Some (record { name = name; part = part; after = after })
 
 -- behind `[KEY]`
@@ -38,19 +38,19 @@ behind_star name [] [] = None
 behind_star name [] (b ∷ after) = if b == 93 then cut_at name rest after else None
 
 -- behind `[` and the text of a key
-abbrev pub closed : List ℕ → List ℕ → List ℕ → Option Cut
-closed name key [] = None
-closed name key (b ∷ bytes) = if b == 93 then behind_key name key bytes else (if b == 46 then behind_dot name key bytes else (if b == 42 then behind_star name key bytes else None))
+abbrev pub cut_closing : List ℕ → List ℕ → List ℕ → Option Cut
+cut_closing name key [] = None
+cut_closing name key (b ∷ bytes) = if b == 93 then behind_key name key bytes else (if b == 46 then behind_dot name key bytes else (if b == 42 then behind_star name key bytes else None))
 
 -- behind a name
-abbrev pub keyed : List ℕ → List ℕ → Option Cut
-keyed name [] = cut_at name whole []
-keyed name (b ∷ bytes) = if b == 91
-    then closed name (take (prefix_len is_word_byte bytes) bytes) (drop (prefix_len is_word_byte bytes) bytes)
+abbrev pub cut_name : List ℕ → List ℕ → Option Cut
+cut_name name [] = cut_at name whole []
+cut_name name (b ∷ bytes) = if b == 91
+    then cut_closing name (take (prefix_len is_word_byte bytes) bytes) (drop (prefix_len is_word_byte bytes) bytes)
     else cut_at name whole (b ∷ bytes)
 
 abbrev pub named : List ℕ → List ℕ → Option Cut
-named name bytes = if is_mark name then None else keyed name bytes
+named name bytes = if is_mark name then None else cut_name name bytes
 
 -- the cell that a line begins with
 abbrev pub cut : List ℕ → Option Cut
@@ -66,23 +66,23 @@ begins_dots [] = false
 begins_dots (a ∷ []) = false
 begins_dots (a ∷ b ∷ bytes) = a == 46 && b == 46
 
-abbrev pub range_of : Option ℕ → Option ℕ → Option Given
+abbrev pub range_of : Option ℕ → Option ℕ → Option GivenNumber
 range_of None hi = None
 range_of (Some lo) None = None
 range_of (Some lo) (Some hi) = if nat_le lo hi then Some (Range lo hi) else None
 
 -- `LO..HI`
-abbrev pub range : List ℕ → Option Given
+abbrev pub range : List ℕ → Option GivenNumber
 range bytes = if begins_dots (drop (prefix_len is_no_dot bytes) bytes)
     then range_of (hex_number 16 (take (prefix_len is_no_dot bytes) bytes)) (hex_number 16 (drop (prefix_len is_no_dot bytes + 2) bytes))
     else None
 
-abbrev pub one_or : Option ℕ → Option Given → Option Given
+abbrev pub one_or : Option ℕ → Option GivenNumber → Option GivenNumber
 one_or None other = other
 one_or (Some v) other = Some (One v)
 
 -- 1 to 16 hex digits, `any`, or `LO..HI`
-abbrev pub value_of : List ℕ → Option Given
+abbrev pub value_of : List ℕ → Option GivenNumber
 value_of bytes = if bytes_eq bytes (codes "any") then Some Any else one_or (hex_number 16 bytes) (range bytes)
 
 abbrev pub counted : Result (List ℕ) FromHexError → Option (List ℕ)
@@ -95,7 +95,7 @@ run_of text = counted (decode_of text)
 
 -- ---- the line
 
-abbrev pub formed : List ℕ → Part → List ℕ → Option Form
+abbrev pub formed : List ℕ → CellSuffix → List ℕ → Option Form
 formed name (from key) value = option_map (run name key) (run_of value)
 formed name part value = option_map (single name part) (value_of value)
 

@@ -1,9 +1,9 @@
 -- Why a run stopped, as a line.
 use Rattle.std.specs.Prelude.{ℕ, List, [], ◌∷◌, ◌++◌, codes}
 use Rattle.std.specs.Fmt.{decimal}
-use Rattle.spec_types.specs.Specification.{Spec}
-use Rattle.tsl_values.specs.States.{State}
-use Rattle.cell_text.specs.Digits.{hex_digits}
+use Rattle.spec_ir.specs.Specification.{Spec}
+use Rattle.semantics_values.specs.States.{State}
+use Rattle.state_cell_text.specs.Digits.{hex_digits}
 use Rattle.state_text.specs.declared.stop.Stop.{Stop}
 use Rattle.state_text.specs.declared.stop.Stop.TheVariants.{Bound, Left, Undecodable, Turns}
 use Rattle.state_text.specs.Writing.{state_text}

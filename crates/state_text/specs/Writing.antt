@@ -1,16 +1,16 @@
 -- The text of a state.
 use Rattle.std.specs.Prelude.{ℕ, List, [], ◌∷◌, ◌++◌, Option, Some, None, ◌==◌, slice_get, if◌then◌else◌}
-use Rattle.spec_types.specs.declared.ty.Ty.{Ty}
-use Rattle.spec_types.specs.declared.ty.Ty.TheVariants.{Word, Map as MapOf}
-use Rattle.spec_types.specs.declared.declared.MapTy.{MapTy}
-use Rattle.spec_types.specs.Specification.{Spec}
-use Rattle.tsl_values.specs.declared.value.Cell.{Cell}
-use Rattle.tsl_values.specs.declared.entry.KeyAt.TheVariants.{Whole, Rest, At}
-use Rattle.tsl_values.specs.States.{State}
-use Rattle.tsl_values.specs.Values.{Val, word, map as map_of}
-use Rattle.cell_text.specs.Digits.{digits_of, hex_digits}
-use Rattle.cell_text.specs.Keys.{cell_text}
-use Rattle.cell_text.specs.Places.{Field, state_fields}
+use Rattle.spec_ir.specs.declared.ty.Ty.{Ty}
+use Rattle.spec_ir.specs.declared.ty.Ty.TheVariants.{Word, Map as MapOf}
+use Rattle.spec_ir.specs.declared.declared.MapType.{MapType}
+use Rattle.spec_ir.specs.Specification.{Spec}
+use Rattle.semantics_values.specs.declared.value.Cell.{Cell}
+use Rattle.semantics_values.specs.declared.entry.KeyAt.TheVariants.{Whole, Rest, At}
+use Rattle.semantics_values.specs.States.{State}
+use Rattle.semantics_values.specs.Values.{Val, word, map as map_of}
+use Rattle.state_cell_text.specs.Digits.{digits_of, hex_digits}
+use Rattle.state_cell_text.specs.Keys.{cell_text}
+use Rattle.state_cell_text.specs.Places.{Field, state_fields}
 
 -- a cell and a number of w bits, as a line
 abbrev pub cell_line : List ℕ → ℕ → ℕ → List ℕ
@@ -18,7 +18,7 @@ cell_line cell w v = cell ++ (32 ∷ (hex_digits (digits_of w) v ++ (10 ∷ []))
 
 module _ (spec : Spec) where
   -- the rest of a map, if it isn't the default
-  abbrev pub rest_line : Field → MapTy → ℕ → List ℕ
+  abbrev pub rest_line : Field → MapType → ℕ → List ℕ
   rest_line f d rest = if rest == d.default then [] else cell_line (cell_text spec f Rest) d.width rest
 
   -- a listed cell of a map of w bits, if it differs from the rest
@@ -29,7 +29,7 @@ module _ (spec : Spec) where
   listed_lines f w rest [] = []
   listed_lines f w rest (c ∷ cells) = listed_line f w rest c ++ listed_lines f w rest cells
 
-  abbrev pub map_lines : Field → Option MapTy → Cell → List (ℕ × Cell) → List ℕ
+  abbrev pub map_lines : Field → Option MapType → Cell → List (ℕ × Cell) → List ℕ
   map_lines f None rest cells = []
   map_lines f (Some d) rest cells = rest_line f d rest.v ++ listed_lines f d.width rest.v cells
 

@@ -8,7 +8,7 @@ ghost use Rattle.state_text.specs.Parsing as defined;
 
 /// What is written of a cell behind its name: nothing, `[*]`, `[KEY]`, or `[KEY..]` for a run from a key on.
 #[derive(Clone, Copy, Debug)]
-pub(crate) enum Part<'a> {
+pub(crate) enum CellSuffix<'a> {
     Whole,
     Rest,
     At(&'a [u8]),
@@ -19,7 +19,7 @@ pub(crate) enum Part<'a> {
 #[derive(Clone, Copy, Debug)]
 pub(crate) struct Cut<'a> {
     pub name: &'a [u8],
-    pub part: Part<'a>,
+    pub part: CellSuffix<'a>,
     pub after: &'a [u8],
 }
 
@@ -66,7 +66,7 @@ fn behind_key<'a>(name: &'a [u8], key: &'a [u8], after: &'a [u8]) -> Option<Cut<
         [] => None,
         [_, ..] => Some(Cut {
             name,
-            part: Part::At(key),
+            part: CellSuffix::At(key),
             after,
         }),
     }
@@ -85,7 +85,7 @@ fn behind_dot<'a>(name: &'a [u8], key: &'a [u8], bytes: &'a [u8]) -> Option<Cut<
                 if *a == b'.' && *b == b']' {
                     Some(Cut {
                         name,
-                        part: Part::From(key),
+                        part: CellSuffix::From(key),
                         after,
                     })
                 } else {
@@ -108,7 +108,7 @@ fn behind_star<'a>(name: &'a [u8], key: &'a [u8], bytes: &'a [u8]) -> Option<Cut
                 if *byte == b']' {
                     Some(Cut {
                         name,
-                        part: Part::Rest,
+                        part: CellSuffix::Rest,
                         after,
                     })
                 } else {
@@ -120,8 +120,8 @@ fn behind_star<'a>(name: &'a [u8], key: &'a [u8], bytes: &'a [u8]) -> Option<Cut
 }
 
 /// The cell, behind `[` and the text of a key.
-fn closed<'a>(name: &'a [u8], key: &'a [u8], bytes: &'a [u8]) -> Option<Cut<'a>>
-    ensures { option_map cut_of result ≡ defined.closed name.now key.now bytes.now }
+fn cut_closing<'a>(name: &'a [u8], key: &'a [u8], bytes: &'a [u8]) -> Option<Cut<'a>>
+    ensures { option_map cut_of result ≡ defined.cut_closing name.now key.now bytes.now }
 {
     match bytes {
         [] => None,
@@ -135,23 +135,23 @@ fn closed<'a>(name: &'a [u8], key: &'a [u8], bytes: &'a [u8]) -> Option<Cut<'a>>
 }
 
 /// The cell, behind its name.
-fn keyed<'a>(name: &'a [u8], bytes: &'a [u8]) -> Option<Cut<'a>>
-    ensures { option_map cut_of result ≡ defined.keyed name.now bytes.now }
+fn cut_name<'a>(name: &'a [u8], bytes: &'a [u8]) -> Option<Cut<'a>>
+    ensures { option_map cut_of result ≡ defined.cut_name name.now bytes.now }
 {
     match bytes {
         [] => Some(Cut {
             name,
-            part: Part::Whole,
+            part: CellSuffix::Whole,
             after: bytes,
         }),
         [byte, rest @ ..] => {
             if *byte == b'[' {
                 let len = word_len(rest);
-                closed(name, &rest[..len], &rest[len..])
+                cut_closing(name, &rest[..len], &rest[len..])
             } else {
                 Some(Cut {
                     name,
-                    part: Part::Whole,
+                    part: CellSuffix::Whole,
                     after: bytes,
                 })
             }
@@ -171,5 +171,5 @@ pub(crate) fn cut_line(line: &[u8]) -> Option<Cut>
     if is_mark(name) {
         return None;
     }
-    keyed(name, &line[len..])
+    cut_name(name, &line[len..])
 }

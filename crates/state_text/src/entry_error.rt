@@ -3,9 +3,9 @@
 ghost use Rattle.std.specs.Prelude.{◌≡◌};
 ghost use Rattle.state_text.specs.Reading.{error_at};
 
-use crate::fault::Fault;
+use crate::fault::EntryFault;
 use std::alloc::{AllocError, AllocFailed};
-use tsl_lexer::Text;
+use syntax_lexer::Text;
 
 /// The first fault of an entry. `n` is the number of the first faulty line, from 1.
 #[derive(Debug, Drop)]
@@ -26,15 +26,15 @@ pub enum EntryError {
     NoMemory,
 }
 
-impl Fault {
+impl EntryFault {
     /// The error of a text whose first faulty line is number `n`.
     pub(crate) fn at(self, n: u32) -> EntryError
         ensures { result ≡ error_at n self }
     {
         match self {
-            Fault::Form => EntryError::BadLine { n },
-            Fault::Unknown => EntryError::UnknownCell { n },
-            Fault::TooBig => EntryError::TooBig { n },
+            EntryFault::Form => EntryError::BadLine { n },
+            EntryFault::Unknown => EntryError::UnknownCell { n },
+            EntryFault::TooBig => EntryError::TooBig { n },
         }
     }
 }

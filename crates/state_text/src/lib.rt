@@ -20,7 +20,7 @@ mod cut;
 mod entry_error;
 mod fault;
 mod fault_lines;
-mod found;
+mod given_cells;
 pub mod laws;
 mod lines;
 mod reader;

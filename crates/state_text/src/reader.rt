@@ -1,25 +1,25 @@
 //! Reading entries.
 
 ghost use Rattle.std.specs.Prelude.{◌≡◌, ◌<◌, ◌^◌, ◌-◌, length};
-ghost use Rattle.spec_types.specs.Views.{specification};
+ghost use Rattle.spec_ir.specs.Views.{specification};
 ghost use Rattle.state_text.specs.Found.{IsSmall, found_of};
 ghost use Rattle.state_text.specs.Reading as defined;
 
 use crate::entry_error::EntryError;
-use crate::found::{Found, none_found, with_line};
+use crate::given_cells::{GivenCells, none_found, with_line};
 use crate::lines::first_line;
-use crate::says::said;
+use crate::says::read_line;
 use crate::values::single_number;
-use spec_types::Spec;
+use semantics_values::Entry;
+use spec_ir::Spec;
 use std::alloc::Global;
-use tsl_values::Entry;
 
 /// The entry of what lines give.
-fn entry_found(found: Found) -> Result<Entry, EntryError>
+fn entry_found(found: GivenCells) -> Result<Entry, EntryError>
     requires { IsSmall found.counter }
     ensures { defined.Agrees result (defined.entry_found (found_of found)) }
 {
-    let Found {
+    let GivenCells {
         counter,
         lines,
         keys: _keys,
@@ -46,7 +46,7 @@ pub fn read_entry(alloc: Global, spec: &Spec, bytes: &[u8]) -> Result<Entry, Ent
     let mut n = 1u32;
     while !rest.is_empty() {
         let (line, after) = first_line(rest);
-        with_line(&mut found, n, &said(alloc, spec, line)?)?;
+        with_line(&mut found, n, &read_line(alloc, spec, line)?)?;
         rest = after;
         n += 1;
     }

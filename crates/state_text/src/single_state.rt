@@ -3,23 +3,23 @@
 ghost use Rattle.std.specs.Prelude.{◌≡◌, ◌++◌, IfOk, OnOk, map, slice_get};
 ghost use Rattle.std.specs.Option.{option_copied};
 ghost use Rattle.std.specs.String.{string_bytes};
-ghost use Rattle.spec_types.specs.Views.{specification};
-ghost use Rattle.tsl_values.specs.Types.{environment_of};
-ghost use Rattle.tsl_values.specs.Views.{val};
-ghost use Rattle.meaning.specs.Entries as entries;
-ghost use Rattle.cell_text.specs.Places.{state_fields};
+ghost use Rattle.spec_ir.specs.Views.{specification};
+ghost use Rattle.semantics_values.specs.Types.{environment_of};
+ghost use Rattle.semantics_values.specs.Views.{val};
+ghost use Rattle.semantics.specs.Entries as entries;
+ghost use Rattle.state_cell_text.specs.Places.{state_fields};
 ghost use Rattle.state_text.specs.OneState as defined;
 ghost use Rattle.state_text.specs.Reading.{entry_of};
 
 use crate::entry_error::EntryError;
-use crate::found::is_key;
+use crate::given_cells::is_key;
 use crate::values::single_number;
-use cell_text::{push_cell, state_fields};
-use spec_types::{MapTy, Spec, Ty};
+use semantics_values::{Cell, Entry, GivenNumber, KeyAt, Line, MapValue, Stamp, State, Value};
+use spec_ir::{MapType, Spec, Ty};
+use state_cell_text::{push_cell, state_fields};
 use std::alloc::{AllocError, Global};
 use std::collections::BTreeMap;
-use tsl_lexer::Text;
-use tsl_values::{Cell, Entry, Given, KeyAt, Line, MapValue, Stamp, State, Value};
+use syntax_lexer::Text;
 
 /// The first line that does not give one number.
 fn first_open(lines: &[Line]) -> Option<Line>
@@ -60,19 +60,19 @@ fn cell_of(alloc: Global, spec: &Spec, line: Line) -> Result<Text, AllocError>
 }
 
 /// The number that is given: where there is none, 0; of a range, the first.
-fn one_number(given: Given) -> u64
+fn one_number(given: GivenNumber) -> u64
     ensures { result ≡ entries.one_number given }
 {
     match given {
-        Given::One(v) => v,
-        Given::Any => 0,
-        Given::Range { lo, hi: _hi } => lo,
+        GivenNumber::One(v) => v,
+        GivenNumber::Any => 0,
+        GivenNumber::Range { lo, hi: _hi } => lo,
     }
 }
 
 /// The number that lines give a part of a field, or else another.
 fn number_at(lines: &[Line], field: usize, key: KeyAt, other: u64) -> u64
-    ensures { result ≡ entries.one_number (entries.given_or (entries.given_at lines.now field key) (Given.One other)) }
+    ensures { result ≡ entries.one_number (entries.given_or (entries.given_at lines.now field key) (GivenNumber.One other)) }
 {
     for line in lines {
         if line.field as usize == field && is_key(line.key, key) {
@@ -108,11 +108,14 @@ fn named_cells(alloc: Global, lines: &[Line], field: usize) -> Result<Vec<(u64, 
     for i in 0..lines.len() {
         put_line(&mut cells, lines[lines.len() - 1 - i], field)?;
     }
-    listed(alloc, &cells)
+    listed_entries(alloc, &cells)
 }
 
 /// The entries of a map in their order.
-fn listed(alloc: Global, cells: &BTreeMap<u64, Cell>) -> Result<Vec<(u64, Cell)>, AllocError>
+fn listed_entries(
+    alloc: Global,
+    cells: &BTreeMap<u64, Cell>,
+) -> Result<Vec<(u64, Cell)>, AllocError>
     ensures { IfOk result (λ r. r.items ≡ cells.now.entries) }
 {
     let mut out = Vec::new(alloc);
@@ -133,7 +136,7 @@ fn entry_cell(v: u64) -> Cell
 }
 
 /// A map type, by its number.
-fn map_type(spec: &Spec, number: u32) -> Option<&MapTy>
+fn map_type(spec: &Spec, number: u32) -> Option<&MapType>
     ensures { option_copied result ≡ slice_get (specification spec.now).maps number }
 {
     spec.maps.get(number as usize)

@@ -2,15 +2,15 @@
 
 ghost use Rattle.std.specs.Prelude.{◌≡◌, ◌++◌, IfOk, OnOk, codes};
 ghost use Rattle.std.specs.String.{string_bytes};
-ghost use Rattle.spec_types.specs.Views.{specification};
-ghost use Rattle.tsl_values.specs.Views as values;
+ghost use Rattle.spec_ir.specs.Views.{specification};
+ghost use Rattle.semantics_values.specs.Views as values;
 ghost use Rattle.state_text.specs.Stops as defined;
 
 use crate::writer::push_state;
-use cell_text::push_hex;
-use spec_types::Spec;
+use semantics_values::State;
+use spec_ir::Spec;
+use state_cell_text::push_hex;
 use std::alloc::{AllocError, Global};
-use tsl_values::State;
 
 /// Why a run stopped: all steps that were asked for are done; the program counter left the code; the word at an
 /// address meets no row; or a function had no turn left at an address.

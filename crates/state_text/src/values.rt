@@ -6,10 +6,10 @@ ghost use Rattle.state_text.specs.Meaning.{given_fits};
 ghost use Rattle.state_text.specs.Parsing as defined;
 ghost use Rattle.state_text.specs.Reading as reading;
 
-use cell_text::{fits, hex_number, same};
 use hex::FromHexError;
+use semantics_values::GivenNumber;
+use state_cell_text::{fits, hex_number, same};
 use std::alloc::{AllocError, Global};
-use tsl_values::Given;
 
 /// The number of bytes before the first dot.
 fn dot_at(bytes: &[u8]) -> usize
@@ -30,7 +30,7 @@ fn begins_dots(bytes: &[u8]) -> bool
 }
 
 /// `LO..HI`.
-fn range(bytes: &[u8]) -> Option<Given>
+fn range(bytes: &[u8]) -> Option<GivenNumber>
     ensures { result ≡ defined.range bytes.now }
 {
     let at = dot_at(bytes);
@@ -40,21 +40,21 @@ fn range(bytes: &[u8]) -> Option<Given>
     let lo = hex_number(16, &bytes[..at])?;
     let hi = hex_number(16, &bytes[at + 2..])?;
     if lo <= hi {
-        Some(Given::Range { lo, hi })
+        Some(GivenNumber::Range { lo, hi })
     } else {
         None
     }
 }
 
 /// 1 to 16 hex digits, `any`, or `LO..HI`.
-pub(crate) fn value_of(bytes: &[u8]) -> Option<Given>
+pub(crate) fn value_of(bytes: &[u8]) -> Option<GivenNumber>
     ensures { result ≡ defined.value_of bytes.now }
 {
     if same(bytes, b"any".as_slice()) {
-        return Some(Given::Any);
+        return Some(GivenNumber::Any);
     }
     match hex_number(16, bytes) {
-        Some(v) => Some(Given::One(v)),
+        Some(v) => Some(GivenNumber::One(v)),
         None => range(bytes),
     }
 }
@@ -77,23 +77,23 @@ pub(crate) fn run_of(alloc: Global, text: &[u8]) -> Result<Option<Vec<u8>>, Allo
 }
 
 /// Whether the numbers of a value have at most w bits.
-pub(crate) fn given_fits(given: Given, w: u32) -> bool
+pub(crate) fn given_fits(given: GivenNumber, w: u32) -> bool
     ensures { result ≡ given_fits given w }
 {
     match given {
-        Given::One(v) => fits(v, w),
-        Given::Any => true,
-        Given::Range { lo: _lo, hi } => fits(hi, w),
+        GivenNumber::One(v) => fits(v, w),
+        GivenNumber::Any => true,
+        GivenNumber::Range { lo: _lo, hi } => fits(hi, w),
     }
 }
 
 /// The one number that is given, if it is one.
-pub(crate) fn single_number(given: Given) -> Option<u64>
+pub(crate) fn single_number(given: GivenNumber) -> Option<u64>
     ensures { result ≡ reading.single_number given }
 {
     match given {
-        Given::One(v) => Some(v),
-        Given::Any => None,
-        Given::Range { lo, hi } => { if lo == hi { Some(lo) } else { None } }
+        GivenNumber::One(v) => Some(v),
+        GivenNumber::Any => None,
+        GivenNumber::Range { lo, hi } => { if lo == hi { Some(lo) } else { None } }
     }
 }

@@ -2,17 +2,17 @@
 
 ghost use Rattle.std.specs.Prelude.{◌≡◌, ◌++◌, [], IfOk, OnOk, map, slice_get};
 ghost use Rattle.std.specs.String.{string_bytes};
-ghost use Rattle.spec_types.specs.Views.{specification};
-ghost use Rattle.tsl_values.specs.Views as values;
-ghost use Rattle.tsl_values.specs.Views.{val};
-ghost use Rattle.cell_text.specs.Keys.{cell_text};
+ghost use Rattle.spec_ir.specs.Views.{specification};
+ghost use Rattle.semantics_values.specs.Views as values;
+ghost use Rattle.semantics_values.specs.Views.{val};
+ghost use Rattle.state_cell_text.specs.Keys.{cell_text};
 ghost use Rattle.state_text.specs.Writing as defined;
 
-use cell_text::{push_cell, push_hex, state_fields};
-use spec_types::{MapTy, Spec, Ty};
+use semantics_values::{Cell, KeyAt, MapValue, State, Value};
+use spec_ir::{MapType, Spec, Ty};
+use state_cell_text::{push_cell, push_hex, state_fields};
 use std::alloc::{AllocError, Global};
-use tsl_lexer::Text;
-use tsl_values::{Cell, KeyAt, MapValue, State, Value};
+use syntax_lexer::Text;
 
 /// Appends a space, a number of w bits and a line end.
 fn push_number(out: &mut String, w: u32, v: u64) -> Result<(), AllocError>
@@ -62,7 +62,7 @@ fn push_rest(
     out: &mut String,
     spec: &Spec,
     field: &(Text, Ty),
-    ty: &MapTy,
+    ty: &MapType,
     rest: u64,
 ) -> Result<(), AllocError>
     ensures { OnOk result (string_bytes out.new ≡ string_bytes out.old ++ defined.rest_line (specification spec.now) field.now ty.now rest) }

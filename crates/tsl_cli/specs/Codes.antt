@@ -2,12 +2,12 @@
 use Rattle.std.specs.Prelude.{ℕ, Result, Ok, Err}
 use Rattle.std.specs.declared.io.ErrorKind.{ErrorKind}
 use Rattle.std.specs.declared.io.ErrorKind.TheVariants.{OutOfMemory}
-use Rattle.run_steps.specs.declared.status.Status.{Status}
-use Rattle.help_words.specs.declared.help_error.HelpError.{HelpError}
-use Rattle.help_words.specs.declared.help_error.HelpError.TheVariants as help
-use Rattle.run_steps.specs.declared.status.Status.TheVariants as status
-use Rattle.run_steps.specs.declared.status.Status.TheVariants.{NoMemory}
-use Rattle.run_steps.specs.Statuses.{exit_status}
+use Rattle.program_common.specs.declared.status.Status.{Status}
+use Rattle.program_help.specs.declared.help_error.HelpError.{HelpError}
+use Rattle.program_help.specs.declared.help_error.HelpError.TheVariants as help
+use Rattle.program_common.specs.declared.status.Status.TheVariants as status
+use Rattle.program_common.specs.declared.status.Status.TheVariants.{NoMemory}
+use Rattle.program_common.specs.Statuses.{exit_status}
 
 -- the status of a run; where there was no memory for the words, the same as of a run without memory; else that a word is no text
 abbrev pub code_of : Result Status ErrorKind → ℕ

@@ -2,9 +2,9 @@
 
 ghost use Rattle.std.specs.Prelude.{◌≡◌};
 
-use refusal_help::OpenBlocks;
+use program_advice::OpenBlocks;
 use std::alloc::Global;
-use tsl_io::{Failed, Sink};
+use support_io::{Failed, Sink};
 
 /// How many bytes are kept at most.
 const MOST_KEPT: usize = 4096;

@@ -1,6 +1,6 @@
-//! The program: it answers what its words ask for. All that it does is in `tsl_run`; here are the words, the files, standard
+//! The program: it answers what its words ask for. All that it does is in `program_run`; here are the words, the files, standard
 //! output and the exit status, which is proved to be that of the run (`exit_code`). Words that ask for help or the version are looked at
-//! before: `help_words` answers them, and they ask for nothing else. Behind a run `diagnostics` says on standard error what to do.
+//! before: `program_help` answers them, and they ask for nothing else. Behind a run `program_diagnostics` says on standard error what to do.
 #![tactic(auto)]
 
 ghost use Rattle.std.specs.Prelude.{◌≡◌, ◌<◌};
@@ -9,19 +9,19 @@ ghost use Rattle.tsl_cli.specs.Codes.{code_of, status_of_help};
 mod front_sink;
 mod own_runs;
 
-use diagnostics::{EndedRun, tell};
 use front_sink::FrontSink;
-use help_words::{HelpError, tell_help};
 use own_runs::OwnRuns;
+use program_diagnostics::{EndedRun, tell};
+use program_help::{HelpError, tell_help};
+use program_run::{Status, run};
 use std::io::{Eprint, ErrorKind, Print};
 use std::marker::Brand;
 use std::process::ExitCode;
 use std::rt::{Env, Files};
 use std::sync::ledger::{Blank, Ledger};
 use std::{env, io};
-use step_counter::Steps;
-use tsl_io::{FileInputs, StdSink};
-use tsl_run::{Status, run};
+use support_io::{FileInputs, StdSink};
+use support_step_counter::Steps;
 
 /// The exit status where an argument is no text.
 const NOT_TEXT: u8 = 70;
@@ -54,7 +54,7 @@ fn status_of_help(told: Result<(), HelpError>) -> Status
 }
 
 /// Help or the version, where the words ask for it; else the run of the words.
-fn answered<R: Files + Print + Eprint + AllocGlobal, L: Ledger>(
+fn answer_words<R: Files + Print + Eprint + AllocGlobal, L: Ledger>(
     rt: &R,
     words: &[String],
     blank: Blank,
@@ -65,12 +65,12 @@ fn answered<R: Files + Print + Eprint + AllocGlobal, L: Ledger>(
 {
     match tell_help(rt.alloc(), words, &mut StdSink::new(rt)) {
         Some(told) => status_of_help(told),
-        None => ended::<R, L>(rt, words, blank),
+        None => run_words::<R, L>(rt, words, blank),
     }
 }
 
 /// The run of the words over files, into standard output. A counter of transfers is on the ledger of this blank; it takes no code.
-fn ended<R: Files + Print + Eprint + AllocGlobal, L: Ledger>(
+fn run_words<R: Files + Print + Eprint + AllocGlobal, L: Ledger>(
     rt: &R,
     words: &[String],
     blank: Blank,
@@ -100,7 +100,7 @@ fn ended<R: Files + Print + Eprint + AllocGlobal, L: Ledger>(
 
 fn main(rt: HostRuntime) -> ExitCode {
     let ended = match arguments(&rt) {
-        Ok(words) => Ok(answered::<HostRuntime, Brand>(&rt, &words, Blank::new(1))),
+        Ok(words) => Ok(answer_words::<HostRuntime, Brand>(&rt, &words, Blank::new(1))),
         Err(error) => Err(error.kind()),
     };
     ExitCode::from(exit_code(ended))

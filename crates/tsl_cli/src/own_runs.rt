@@ -1,8 +1,8 @@
 //! Runs of the program that what is said of another run asks for.
 
-use diagnostics::MemoryRuns;
+use program_diagnostics::MemoryRuns;
+use program_run::{Status, run_in_memory};
 use std::alloc::Global;
-use tsl_run::{Status, run_in_memory};
 
 /// The runs of this program.
 #[derive(Clone, Copy)]

@@ -1,4 +1,4 @@
 use Rattle.tsl_cli.proofs.main.Given as goal
 
-abbrev pub ghosts-answered : goal.ghosts-answered
-ghosts-answered a = record { name = a.blank.name; parts = a.blank.parts }
+abbrev pub ghosts-answer_words : goal.ghosts-answer_words
+ghosts-answer_words a = record { name = a.blank.name; parts = a.blank.parts }

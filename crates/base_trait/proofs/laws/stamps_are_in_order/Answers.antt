@@ -3,7 +3,7 @@ use Rattle.std.specs.Prelude.{◌==◌, nat_lt}
 use Rattle.std.specs.Ordering.{is_lt}
 use Rattle.std.specs.declared.cmp.Ordering.{Ordering}
 use Rattle.std.specs.declared.cmp.Ordering.TheVariants.{Less, Equal, Greater}
-use Rattle.base_trait.specs.declared.uses.Stamped.TheVariants.{Entry, At}
+use Rattle.base_trait.specs.declared.uses.Stamp.TheVariants.{Entry, At}
 use Rattle.base_trait.proofs.laws.stamps_are_in_order.Goals as goal
 
 by_tests : (less same : Bool) → is_lt (cond less Less (cond same Equal Greater)) ≡ less

@@ -1,5 +1,5 @@
-use Rattle.spec_types.specs.Views.{specification}
-use Rattle.tsl_values.specs.Types.{environment_of}
+use Rattle.spec_ir.specs.Views.{specification}
+use Rattle.semantics_values.specs.Types.{environment_of}
 use Rattle.concrete_calls.proofs.Typed.{fits_at}
 use Rattle.concrete_calls.proofs.arguments.standing.Goals as goal
 

@@ -1,10 +1,10 @@
 use Rattle.std.proofs.Common.{◌≡◌, map, take}
-use Rattle.concrete_base.specs.Meaning.{concrete}
-use Rattle.spec_types.specs.Views.{specification}
-use Rattle.tsl_values.specs.Types.{environment_of}
-use Rattle.tsl_values.specs.Views.{val}
-use Rattle.value_types.specs.OfValues.{of_value}
-use Rattle.abs_value.specs.View.{abs}
+use Rattle.base_concrete.specs.Meaning.{concrete}
+use Rattle.spec_ir.specs.Views.{specification}
+use Rattle.semantics_values.specs.Types.{environment_of}
+use Rattle.semantics_values.specs.Views.{val}
+use Rattle.abstract_value_types.specs.OfValues.{of_value}
+use Rattle.abstract_value.specs.View.{abs}
 use Rattle.concrete_values.specs.Laws.{room}
 use Rattle.concrete_calls.proofs.arguments.standing.Given as goal
 

@@ -1,10 +1,10 @@
 use Rattle.std.proofs.Common.{map, ap, sym, ◌∙◌}
 use Rattle.std.proofs.lemmas.List.{take_all}
 use Rattle.std.proofs.lemmas.Result.{IfOk-weaker}
-use Rattle.tsl_values.specs.Values.{vals}
-use Rattle.value_laws.specs.Abs.{cases}
-use Rattle.abs_value.specs.View.{abs, case_of}
-use Rattle.abs_value.proofs.Views.{abs_Data}
+use Rattle.semantics_values.specs.Values.{vals}
+use Rattle.abstract_value_laws.specs.Abs.{cases}
+use Rattle.abstract_value.specs.View.{abs, case_of}
+use Rattle.abstract_value.proofs.Views.{abs_Data}
 use Rattle.concrete_values.specs.Values.{case_in, value_in}
 use Rattle.concrete_values.proofs.Views.{values_there}
 use Rattle.concrete_values.proofs.values.+value_in.Goals as goal

@@ -1,7 +1,7 @@
 use Rattle.std.proofs.Common.{◌≡◌, ◌+◌, ◌*◌, drop, map, take}
-use Rattle.tsl_values.specs.Views.{val}
-use Rattle.value_laws.specs.Abs.{cases}
-use Rattle.abs_value.specs.View.{abs, case_of}
+use Rattle.semantics_values.specs.Views.{val}
+use Rattle.abstract_value_laws.specs.Abs.{cases}
+use Rattle.abstract_value.specs.View.{abs, case_of}
 use Rattle.concrete_values.specs.Values.{case_in, value_in}
 use Rattle.concrete_values.proofs.values.+value_in.Given as goal
 

@@ -1,7 +1,7 @@
 use Rattle.std.proofs.Common.{ℕ, List, map, drop}
-use Rattle.value_laws.specs.Abs.{Abs}
-use Rattle.abs_value.specs.View.{abs}
-use Rattle.reinterpretation.specs.Answers.{Answer}
+use Rattle.abstract_value_laws.specs.Abs.{Abs}
+use Rattle.abstract_value.specs.View.{abs}
+use Rattle.abstract_semantics.specs.Answers.{Answer}
 use Rattle.eval_memo.specs.Memos.{AreTrue, Holds, IsNew, entries, remembered}
 use Rattle.eval_memo.proofs.memo.find.Given as goal
 

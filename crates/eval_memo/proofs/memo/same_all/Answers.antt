@@ -1,8 +1,8 @@
 use Rattle.std.proofs.Common.{◌≡◌, ◌+◌, ◌<◌, ◌∷◌, false, length, map, drop, rules, arith}
-use Rattle.abs_value.specs.View.{abs}
+use Rattle.abstract_value.specs.View.{abs}
 use Rattle.eval_memo.proofs.Items.{same_next, same_stops}
 use Rattle.eval_memo.proofs.memo.same_all.Goals as goal
-use Rattle.tsl_match.proofs.Loops.{drop_here}
+use Rattle.spec_match_compiler.proofs.Loops.{drop_here}
 
 pub returns-then-not-same : goal.returns-then-not-same
 returns-then-not-same g c =

@@ -1,5 +1,5 @@
 use Rattle.std.proofs.Common.{◌≡◌, ◌↔◌, map, drop}
-use Rattle.abs_value.specs.View.{abs}
+use Rattle.abstract_value.specs.View.{abs}
 use Rattle.eval_memo.proofs.memo.same_all.Given as goal
 
 -- both are one exactly where what is left is

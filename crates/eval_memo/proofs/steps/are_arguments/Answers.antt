@@ -2,12 +2,12 @@ use Rattle.std.proofs.Common.{◌≡◌, ◌∙◌, ◌<◌, length, map, option
 use Rattle.std.proofs.Math.ListN.{get_or}
 use Rattle.std.proofs.lemmas.Option.{slice_get-map, slice_get_read}
 use Rattle.std.proofs.lemmas.List.{length-map}
-use Rattle.spec_types.specs.Views.{fun_of, specification}
-use Rattle.tsl_values.specs.Types.{environment_of}
-use Rattle.value_laws.specs.Abs.{parts}
-use Rattle.value_types.specs.Types.{have_types}
-use Rattle.abs_value.specs.View.{abs}
-use Rattle.reinterpretation.specs.Terms.{params_in, params_of}
+use Rattle.spec_ir.specs.Views.{fun_of, specification}
+use Rattle.semantics_values.specs.Types.{environment_of}
+use Rattle.abstract_value_laws.specs.Abs.{parts}
+use Rattle.abstract_value_types.specs.Types.{have_types}
+use Rattle.abstract_value.specs.View.{abs}
+use Rattle.abstract_semantics.specs.Terms.{params_in, params_of}
 use Rattle.eval_memo.proofs.steps.are_arguments.Goals as goal
 
 pub returns : goal.returns

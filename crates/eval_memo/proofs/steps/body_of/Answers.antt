@@ -2,7 +2,7 @@ use Rattle.std.proofs.Common.{◌≡◌, ◌∙◌, ◌<◌, length, option_map,
 use Rattle.std.proofs.lemmas.List.{length-map}
 use Rattle.std.proofs.Math.ListN.{get_or}
 use Rattle.std.proofs.lemmas.Option.{slice_get-map, slice_get_read}
-use Rattle.spec_types.specs.Views.{core, specification}
+use Rattle.spec_ir.specs.Views.{core, specification}
 use Rattle.eval_memo.proofs.steps.body_of.Goals as goal
 
 pub returns : goal.returns

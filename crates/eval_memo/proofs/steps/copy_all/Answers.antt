@@ -1,7 +1,7 @@
 use Rattle.std.proofs.Common.{◌≡◌, ◌∙◌, ◌+◌, ◌<◌, ◌++◌, ◌∷◌, [], length, map, drop, sym, ap, rules}
-use Rattle.abs_value.specs.View.{abs}
+use Rattle.abstract_value.specs.View.{abs}
 use Rattle.eval_memo.proofs.steps.copy_all.Goals as goal
-use Rattle.tsl_match.proofs.Loops.{drop_here, pushed}
+use Rattle.spec_match_compiler.proofs.Loops.{drop_here, pushed}
 
 pub loop-x-preserved : goal.loop-x-preserved
 loop-x-preserved g c =

@@ -1,5 +1,5 @@
 use Rattle.std.proofs.Common.{◌≡◌, ◌++◌, map, drop}
-use Rattle.abs_value.specs.View.{abs}
+use Rattle.abstract_value.specs.View.{abs}
 use Rattle.eval_memo.proofs.steps.copy_all.Given as goal
 
 -- what is copied, and what is left

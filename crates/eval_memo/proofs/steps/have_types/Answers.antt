@@ -1,12 +1,12 @@
 use Rattle.std.proofs.Common.{◌≡◌, ◌<◌, length, map, sym, arith}
-use Rattle.spec_types.specs.Views.{specification}
-use Rattle.tsl_values.specs.Types.{environment_of}
-use Rattle.value_laws.specs.Abs.{parts}
-use Rattle.value_types.specs.Types.{have_types}
-use Rattle.abs_value.specs.View.{abs}
-use Rattle.abs_value.proofs.Both.{off, on, uneven}
+use Rattle.spec_ir.specs.Views.{specification}
+use Rattle.semantics_values.specs.Types.{environment_of}
+use Rattle.abstract_value_laws.specs.Abs.{parts}
+use Rattle.abstract_value_types.specs.Types.{have_types}
+use Rattle.abstract_value.specs.View.{abs}
+use Rattle.abstract_value.proofs.Both.{off, on, uneven}
 use Rattle.eval_memo.proofs.steps.have_types.Goals as goal
-use Rattle.group_turns.proofs.Items.{types_both as args_both}
+use Rattle.eval_group_turns.proofs.Items.{types_both as args_both}
 
 pub returns-then-args-params : goal.returns-then-args-params
 returns-then-args-params g c = uneven (args_both (environment_of (specification c.args.spec.now))) c.args.args.now c.args.params.now c.if-args-params.true

@@ -1,9 +1,9 @@
 use Rattle.std.proofs.Common.{◌≡◌, map, drop}
-use Rattle.spec_types.specs.Views.{specification}
-use Rattle.tsl_values.specs.Types.{environment_of}
-use Rattle.value_laws.specs.Abs.{parts}
-use Rattle.value_types.specs.Types.{have_types}
-use Rattle.abs_value.specs.View.{abs}
+use Rattle.spec_ir.specs.Views.{specification}
+use Rattle.semantics_values.specs.Types.{environment_of}
+use Rattle.abstract_value_laws.specs.Abs.{parts}
+use Rattle.abstract_value_types.specs.Types.{have_types}
+use Rattle.abstract_value.specs.View.{abs}
 use Rattle.eval_memo.proofs.steps.have_types.Given as goal
 
 -- all have their types exactly where what is left has

@@ -1,12 +1,12 @@
 use Rattle.std.proofs.Common.{◌≡◌, Some, map, rules}
-use Rattle.value_laws.specs.Fits.{Fits}
-use Rattle.abs_value.specs.View.{abs}
+use Rattle.abstract_value_laws.specs.Fits.{Fits}
+use Rattle.abstract_value.specs.View.{abs}
 use Rattle.eval_values.specs.Operands.{two}
 use Rattle.eval_values.proofs.OperandsFit.{two_fit}
 use Rattle.eval_values.proofs.values.read_on.Goals as goal
 
-pub accessed-requires : goal.accessed-requires
-accessed-requires g c =
+pub access_map-requires : goal.access_map-requires
+access_map-requires g c =
     let here : Some (abs c.in-Some.x.now, abs c.in-Some.key.now) ≡ two (map abs c.args.done.now) = search rules in
     let fit = two_fit (Fits g.B.Base.algebra c.args.setting.now.ctx.now g.B.Base.CAP) (λ v. abs v) c.args.done.now (abs c.in-Some.x.now) (abs c.in-Some.key.now) c.requires.done here in
     record { map = fit.0; key = fit.1 }

@@ -1,6 +1,6 @@
 use Rattle.std.proofs.Common.{◌≡◌, Some, map, rules}
-use Rattle.value_laws.specs.Fits.{Fits}
-use Rattle.abs_value.specs.View.{abs}
+use Rattle.abstract_value_laws.specs.Fits.{Fits}
+use Rattle.abstract_value.specs.View.{abs}
 use Rattle.eval_values.specs.Operands.{one}
 use Rattle.eval_values.proofs.OperandsFit.{one_fits}
 use Rattle.eval_values.proofs.values.unary_on.Goals as goal

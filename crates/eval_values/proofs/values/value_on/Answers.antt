@@ -1,9 +1,9 @@
 use Rattle.std.proofs.Common.{◌≡◌, ◌∙◌, map, ap, sym, subst}
 use Rattle.std.specs.Prelude.{IfOk, Result, option_and_then, option_map}
-use Rattle.spec_types.specs.CoreTerms.{Core}
-use Rattle.spec_types.specs.Views.{core}
-use Rattle.abs_value.specs.View.{abs}
-use Rattle.reinterpretation.specs.Steps.{binary, resized, unary}
+use Rattle.spec_ir.specs.CoreTerms.{Core}
+use Rattle.spec_ir.specs.Views.{core}
+use Rattle.abstract_value.specs.View.{abs}
+use Rattle.abstract_semantics.specs.Steps.{binary, resized, unary}
 use Rattle.eval_values.specs.Values.{value_on}
 use Rattle.eval_values.specs.Operands.{one, two}
 use Rattle.eval_values.proofs.CoreForms.{core_Bin, core_Cast, core_Make, core_Put, core_Un, core_Var, core_Word}
@@ -62,7 +62,7 @@ returns-in-Make-clause-value g c =
     let s = c.args.setting.now in
     let is = ap core c.in-Make.is ∙ core_Make c.in-Make.ty c.in-Make.case c.in-Make._args in
     let on = λ (t : Core). value_on b g.B.Base.CAP s (map abs c.args.env.now) t (map abs c.args.done.items) in
-    at_form c.made_of.result (option_map abs) on _ _ is c.made_of.ensures.value
+    at_form c.make_value.result (option_map abs) on _ _ is c.make_value.ensures.value
 
 pub returns-in-Put-clause-value : goal.returns-in-Put-clause-value
 returns-in-Put-clause-value g c =

@@ -1,7 +1,7 @@
 use Rattle.std.proofs.Common.{◌≡◌, ◌++◌, [], ◌∷◌, false, map, rules, ap, ◌∙◌}
-use Rattle.spec_types.specs.Terms.{terms, arms, match_on, call, get, put}
-use Rattle.spec_types.specs.Views.{term}
-use Rattle.tsl_match.specs.Views.{pat}
+use Rattle.spec_ir.specs.Terms.{terms, arms, match_on, call, get, put}
+use Rattle.spec_ir.specs.Views.{term}
+use Rattle.spec_match_compiler.specs.Views.{pat}
 use Rattle.spec_calls.specs.Calls.{calls, arm_calls, call_of}
 use Rattle.spec_calls.proofs.Seen.{match_seen, call_seen, get_seen, put_seen, behind}
 use Rattle.spec_calls.proofs.call.+calls.Goals as goal

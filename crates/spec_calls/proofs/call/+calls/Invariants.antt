@@ -1,9 +1,9 @@
 use denote.Param.Weighed.{most}
 use Rattle.std.proofs.Common.{◌≡◌, ◌++◌, ◌+◌, ◌*◌, max, map, drop}
-use Rattle.spec_types.specs.declared.term.Term.{size-Term}
-use Rattle.spec_types.specs.Terms.{arms, terms}
-use Rattle.spec_types.specs.Views.{term}
-use Rattle.tsl_match.specs.Views.{pat}
+use Rattle.spec_ir.specs.declared.term.Term.{size-Term}
+use Rattle.spec_ir.specs.Terms.{arms, terms}
+use Rattle.spec_ir.specs.Views.{term}
+use Rattle.spec_match_compiler.specs.Views.{pat}
 use Rattle.spec_calls.specs.Calls.{all_calls, arm_calls}
 use Rattle.spec_calls.proofs.call.+calls.Given as goal
 

@@ -1,4 +1,4 @@
-use Rattle.reachability.specs.Table.{table}
+use Rattle.support_reachability.specs.Table.{table}
 use Rattle.spec_calls.specs.Told.{AreTold}
 use Rattle.spec_calls.proofs.group.all_groups.Given as goal
 

@@ -1,5 +1,5 @@
 use Rattle.std.proofs.Common.{◌≡◌, ◌++◌, true, length, map, drop}
-use Rattle.spec_types.specs.Views.{term}
+use Rattle.spec_ir.specs.Views.{term}
 use Rattle.spec_calls.specs.Calls as spec
 use Rattle.spec_calls.proofs.group.calls_of_all.Given as goal
 

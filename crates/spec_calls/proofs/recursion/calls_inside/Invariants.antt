@@ -1,5 +1,5 @@
 use Rattle.std.proofs.Common.{◌≡◌, drop}
-use Rattle.reachability.specs.Table.{table}
+use Rattle.support_reachability.specs.Table.{table}
 use Rattle.spec_calls.specs.Told.{calls_inside}
 use Rattle.spec_calls.proofs.recursion.calls_inside.Given as goal
 

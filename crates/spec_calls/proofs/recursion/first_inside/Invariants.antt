@@ -1,5 +1,5 @@
 use Rattle.std.proofs.Common.{◌≡◌, map, drop}
-use Rattle.reachability.specs.Table.{table}
+use Rattle.support_reachability.specs.Table.{table}
 use Rattle.spec_calls.specs.Told.{first_inside}
 use Rattle.spec_calls.proofs.recursion.first_inside.Given as goal
 

@@ -1,8 +1,8 @@
 use Rattle.std.proofs.Common.{◌≡◌, ◌<◌, Some, None, true, length, map, option_map, rules, arith, ap, ◌∙◌, refl}
 use Rattle.std.proofs.lemmas.List.{length-map}
 use Rattle.std.proofs.lemmas.Option.{slice_get-map, slice_get_read}
-use Rattle.reachability.specs.Table.{IsTableOf, table}
-use Rattle.spec_types.specs.Views.{term}
+use Rattle.support_reachability.specs.Table.{IsTableOf, table}
+use Rattle.spec_ir.specs.Views.{term}
 use Rattle.spec_calls.specs.Calls.{calls, call_graph}
 use Rattle.spec_calls.specs.Told.{first_inside}
 use Rattle.spec_calls.proofs.Told.{graph_of, accepted, refused, are_groups, is_fault, on_ok, if_ok}

@@ -1,5 +1,5 @@
 use Rattle.std.proofs.Common.{◌≡◌, ◌++◌, map, drop}
-use Rattle.tsl_parser.specs.View.{constructor}
+use Rattle.syntax_parser.specs.View.{constructor}
 use Rattle.spec_names.specs.Names.{cases_fault, case_names}
 use Rattle.spec_names.proofs.items.check_cases.Given as goal
 

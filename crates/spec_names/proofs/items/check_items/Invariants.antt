@@ -1,5 +1,5 @@
 use Rattle.std.proofs.Common.{◌≡◌, map, drop}
-use Rattle.tsl_parser.specs.View.{item}
+use Rattle.syntax_parser.specs.View.{item}
 use Rattle.spec_names.specs.Names.{items_fault}
 use Rattle.spec_names.specs.Views.{seen}
 use Rattle.spec_names.proofs.items.check_items.Given as goal

@@ -1,5 +1,5 @@
 use Rattle.std.proofs.Common.{◌≡◌, map, drop}
-use Rattle.tsl_parser.specs.View.{row}
+use Rattle.syntax_parser.specs.View.{row}
 use Rattle.spec_names.specs.Names.{rows_fault}
 use Rattle.spec_names.proofs.items.check_rows.Given as goal
 

@@ -1,9 +1,9 @@
 use Rattle.std.proofs.Common.{◌≡◌, ◌+◌, max, arith, ap}
 use denote.Param.Weighed.{most}
-use Rattle.tsl_parser.specs.declared.tree.Arm.{size-Arm}
-use Rattle.tsl_parser.specs.declared.tree.Expr.{size-Expr}
-use Rattle.tsl_parser.specs.declared.tree.Expr.TheVariants.{Match}
-use Rattle.tsl_parser.specs.declared.tree.Expr.TheViews.{sized-Match}
+use Rattle.syntax_parser.specs.declared.tree.Arm.{size-Arm}
+use Rattle.syntax_parser.specs.declared.tree.Expr.{size-Expr}
+use Rattle.syntax_parser.specs.declared.tree.Expr.TheVariants.{Match}
+use Rattle.syntax_parser.specs.declared.tree.Expr.TheViews.{sized-Match}
 use Rattle.spec_names.proofs.patterns.+patterns.Goals as goal
 
 pub check_patterns-check_arms-requires : goal.check_patterns-check_arms-requires

@@ -1,9 +1,9 @@
 use denote.Param.Weighed.{most}
 use Rattle.std.proofs.Common.{◌≡◌, ◌+◌, ◌*◌, map, drop}
-use Rattle.tsl_parser.specs.declared.tree.Arm.{size-Arm}
-use Rattle.tsl_parser.specs.declared.tree.Expr.{size-Expr}
-use Rattle.tsl_parser.specs.Tree.{arms, terms}
-use Rattle.tsl_parser.specs.View.{arm, term}
+use Rattle.syntax_parser.specs.declared.tree.Arm.{size-Arm}
+use Rattle.syntax_parser.specs.declared.tree.Expr.{size-Expr}
+use Rattle.syntax_parser.specs.Tree.{arms, terms}
+use Rattle.syntax_parser.specs.View.{arm, term}
 use Rattle.spec_names.specs.Names.{all_patterns_fault, arm_patterns_fault}
 use Rattle.spec_names.proofs.patterns.+patterns.Given as goal
 

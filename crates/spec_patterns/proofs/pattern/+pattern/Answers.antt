@@ -1,11 +1,11 @@
 use Rattle.std.proofs.Common.{◌≡◌, ◌∙◌, ◌+◌, List, get_or, [], ◌∷◌, ◌++◌, map, drop, arith, rules, refl, sym, ap, None, append_assoc}
 use Rattle.std.proofs.lemmas.List.{map-append, drop_all, drop_more as drop_from}
-use Rattle.tsl_parser.specs.Tree.{patterns}
-use Rattle.tsl_parser.specs.View.{pattern}
-use Rattle.tsl_match.specs.Views.{pat}
-use Rattle.tsl_match.proofs.Loops.{drop_here}
-use Rattle.spec_types.specs.declared.ty.Ty.TheVariants.{Bool as Flag}
-use Rattle.spec_types.specs.Answers.{◌then◌}
+use Rattle.syntax_parser.specs.Tree.{patterns}
+use Rattle.syntax_parser.specs.View.{pattern}
+use Rattle.spec_match_compiler.specs.Views.{pat}
+use Rattle.spec_match_compiler.proofs.Loops.{drop_here}
+use Rattle.spec_ir.specs.declared.ty.Ty.TheVariants.{Bool as Flag}
+use Rattle.spec_ir.specs.Answers.{◌then◌}
 use Rattle.spec_patterns.specs.Patterns.{pattern_fault, part_faults, part_variables, parts_of, pattern_of, variables}
 use Rattle.spec_patterns.proofs.Lists.{pats_onto, pats_onto_more, pats_onto_none}
 use Rattle.spec_patterns.proofs.pattern.+pattern.Goals as goal

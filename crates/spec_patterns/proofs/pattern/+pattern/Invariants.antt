@@ -1,9 +1,9 @@
 use denote.Param.Weighed.{most}
 use Rattle.std.proofs.Common.{◌≡◌, ◌+◌, ◌*◌, ◌++◌, map, drop}
-use Rattle.tsl_parser.specs.declared.tree.Pat.{size-Pat}
-use Rattle.tsl_parser.specs.Tree.{patterns}
-use Rattle.tsl_parser.specs.View.{pattern}
-use Rattle.tsl_match.specs.Views.{pat}
+use Rattle.syntax_parser.specs.declared.tree.Pat.{size-Pat}
+use Rattle.syntax_parser.specs.Tree.{patterns}
+use Rattle.syntax_parser.specs.View.{pattern}
+use Rattle.spec_match_compiler.specs.Views.{pat}
 use Rattle.spec_patterns.specs.Patterns.{part_faults, part_variables, parts_of}
 use Rattle.spec_patterns.proofs.Lists.{pats_onto}
 use Rattle.spec_patterns.proofs.pattern.+pattern.Given as goal

@@ -1,4 +1,4 @@
-use Rattle.tsl_parser.specs.View.{pattern}
+use Rattle.syntax_parser.specs.View.{pattern}
 use Rattle.spec_typing.proofs.Types.{pattern_enters}
 use Rattle.spec_typing.proofs.scopes.enter_pattern.Goals as goal
 

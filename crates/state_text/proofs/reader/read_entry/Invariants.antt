@@ -1,5 +1,5 @@
 use Rattle.std.proofs.Common.{◌≡◌, ◌+◌, ◌≤◌, length}
-use Rattle.spec_types.specs.Views.{specification}
+use Rattle.spec_ir.specs.Views.{specification}
 use Rattle.state_text.specs.Found.{IsKept, found_of}
 use Rattle.state_text.specs.Lines.{lines}
 use Rattle.state_text.specs.Reading.{read, read_from}

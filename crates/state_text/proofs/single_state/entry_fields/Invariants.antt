@@ -1,8 +1,8 @@
 use Rattle.std.proofs.Common.{◌≡◌, ◌++◌, drop, map}
-use Rattle.spec_types.specs.Views.{specification}
-use Rattle.tsl_values.specs.Types.{environment_of}
-use Rattle.tsl_values.specs.Views.{val}
-use Rattle.meaning.specs.Entries.{entry_fields}
+use Rattle.spec_ir.specs.Views.{specification}
+use Rattle.semantics_values.specs.Types.{environment_of}
+use Rattle.semantics_values.specs.Views.{val}
+use Rattle.semantics.specs.Entries.{entry_fields}
 use Rattle.state_text.specs.OneState.{types_behind}
 use Rattle.state_text.proofs.single_state.entry_fields.Given as goal
 

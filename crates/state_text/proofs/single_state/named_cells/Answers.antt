@@ -1,8 +1,8 @@
 use Rattle.std.proofs.Common.{◌≡◌, ◌-◌, drop, length, refl, arith}
-use Rattle.tsl_values.specs.declared.entry.Given.TheVariants.{One}
-use Rattle.tsl_values.specs.declared.entry.KeyAt.TheVariants.{Whole}
-use Rattle.tsl_values.specs.declared.entry.Line.{Line}
-use Rattle.meaning.specs.Entries.{named_cells}
+use Rattle.semantics_values.specs.declared.entry.GivenNumber.TheVariants.{One}
+use Rattle.semantics_values.specs.declared.entry.KeyAt.TheVariants.{Whole}
+use Rattle.semantics_values.specs.declared.entry.Line.{Line}
+use Rattle.semantics.specs.Entries.{named_cells}
 use Rattle.state_text.proofs.Sorting.{last_lines}
 use Rattle.state_text.proofs.single_state.named_cells.Goals as goal
 

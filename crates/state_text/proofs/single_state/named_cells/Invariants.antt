@@ -1,5 +1,5 @@
 use Rattle.std.proofs.Common.{◌≡◌, ◌-◌, drop, length}
-use Rattle.meaning.specs.Entries.{named_cells}
+use Rattle.semantics.specs.Entries.{named_cells}
 use Rattle.state_text.proofs.single_state.named_cells.Given as goal
 
 abbrev pub invariant-loop-i : goal.invariant-loop-i

@@ -1,5 +1,5 @@
 use Rattle.std.proofs.Common.{◌≡◌, drop}
-use Rattle.meaning.specs.Entries.{given_at}
+use Rattle.semantics.specs.Entries.{given_at}
 use Rattle.state_text.proofs.single_state.number_at.Given as goal
 
 abbrev pub invariant-loop-line : goal.invariant-loop-line

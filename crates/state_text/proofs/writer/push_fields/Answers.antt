@@ -1,6 +1,6 @@
 use Rattle.std.proofs.Common.{◌∙◌, ◌≤◌, length, min, sym, arith, append-nil}
 use Rattle.std.specs.String.{string_bytes}
-use Rattle.spec_types.specs.Views.{specification}
+use Rattle.spec_ir.specs.Views.{specification}
 use Rattle.state_text.proofs.Fields.{fields_done}
 use Rattle.state_text.proofs.writer.push_fields.Goals as goal
 

@@ -1,7 +1,7 @@
 use Rattle.std.proofs.Common.{◌≡◌, ◌++◌, drop, map}
 use Rattle.std.specs.String.{string_bytes}
-use Rattle.spec_types.specs.Views.{specification}
-use Rattle.tsl_values.specs.Views.{val}
+use Rattle.spec_ir.specs.Views.{specification}
+use Rattle.semantics_values.specs.Views.{val}
 use Rattle.state_text.specs.Writing.{field_lines}
 use Rattle.state_text.proofs.writer.push_fields.Given as goal
 

@@ -1,6 +1,6 @@
 use Rattle.std.proofs.Common.{◌≡◌, ◌++◌, drop}
 use Rattle.std.specs.String.{string_bytes}
-use Rattle.spec_types.specs.Views.{specification}
+use Rattle.spec_ir.specs.Views.{specification}
 use Rattle.state_text.specs.Writing.{listed_lines}
 use Rattle.state_text.proofs.writer.push_listed.Given as goal
 

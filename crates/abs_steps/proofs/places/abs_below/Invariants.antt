@@ -1,7 +1,0 @@
-use Rattle.std.proofs.Common.{◌≡◌, drop}
-use Rattle.abs_value.specs.View.{abs}
-use Rattle.reinterpretation.specs.Choices as choices
-use Rattle.abs_steps.proofs.places.abs_below.Given as goal
-
-abbrev pub invariant-loop-step : goal.invariant-loop-step
-invariant-loop-step g l = choices.abs_at l.steps (abs l.x) ≡ choices.abs_at (drop l.step-index l.steps) (abs l.there)

@@ -1,8 +1,0 @@
-//! The law that ties checking to the meaning, stated in specs/Laws.antt. Nothing runs.
-
-ghost use Rattle.accepted_specs.specs.Laws.{CheckedAreAccepted};
-
-/// What `check` answers is an accepted specification.
-pub fn checked_are_accepted()
-    ensures { CheckedAreAccepted }
-{}

@@ -1,5 +1,0 @@
-use Rattle.affine_base.proofs.Differences.{differences_tell as lemma}
-use Rattle.affine_base.proofs.laws.differences_tell.Goals as goal
-
-pub returns : goal.returns
-returns c = lemma

@@ -1,5 +1,0 @@
-use Rattle.affine_base.proofs.Exact.{exact_results as lemma}
-use Rattle.affine_base.proofs.laws.exact_results.Goals as goal
-
-pub returns : goal.returns
-returns c = lemma

@@ -1,5 +1,0 @@
-use Rattle.affine_base.proofs.Exact.{linear_values as lemma}
-use Rattle.affine_base.proofs.laws.linear_values.Goals as goal
-
-pub returns : goal.returns
-returns c = lemma

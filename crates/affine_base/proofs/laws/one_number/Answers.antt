@@ -1,5 +1,0 @@
-use Rattle.affine_base.proofs.Exact.{one_number as lemma}
-use Rattle.affine_base.proofs.laws.one_number.Goals as goal
-
-pub returns : goal.returns
-returns c = lemma

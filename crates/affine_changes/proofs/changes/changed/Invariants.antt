@@ -1,9 +1,0 @@
-use Rattle.std.specs.Prelude.{All}
-use Rattle.value_laws.specs.Fits.{Fits}
-use Rattle.affine_base.specs.Meaning.{affine}
-use Rattle.abs_value.specs.View.{abs}
-use Rattle.affine_changes.proofs.changes.changed.Given as goal
-
-abbrev pub invariant-loop-change : goal.invariant-loop-change
-invariant-loop-change l =
-    (goal.iterator-loop-change).can_next l.change-iterator × (goal.iterator-loop-change).is_finite l.change-iterator × All (λ v. Fits affine l.ctx 256 (abs v)) l.values.items

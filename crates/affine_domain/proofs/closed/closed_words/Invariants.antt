@@ -1,8 +1,0 @@
-use Rattle.std.proofs.Common.{◌≡◌, map, take}
-use Rattle.value_laws.specs.Abs.{parts}
-use Rattle.affine_calls.specs.Closed.{word_at}
-use Rattle.abs_value.specs.View.{abs}
-use Rattle.affine_domain.proofs.closed.closed_words.Given as goal
-
-abbrev pub invariant-loop-cell : goal.invariant-loop-cell
-invariant-loop-cell l = l.words.items ≡ map (word_at (parts (map abs l.values))) (take l.cell-index l.cell-items)

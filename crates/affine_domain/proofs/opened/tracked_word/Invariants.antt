@@ -1,6 +1,0 @@
-use Rattle.std.proofs.Common.{◌≡◌, drop}
-use Rattle.affine_calls.specs.Opened.{tracked_word}
-use Rattle.affine_domain.proofs.opened.tracked_word.Given as goal
-
-abbrev pub invariant-loop-i : goal.invariant-loop-i
-invariant-loop-i l = tracked_word l.cells l.words l.n l.key ≡ tracked_word (drop l.i l.cells) (drop l.i l.words) l.n l.key

@@ -1,7 +1,0 @@
-use Rattle.std.proofs.Common.{◌≡◌, ◌++◌, map}
-use Rattle.std.specs.List.{range_with_len}
-use Rattle.tsl_values.specs.declared.entry.KeyAt.TheVariants.{At}
-use Rattle.affine_domain.proofs.tracked.push_keys.Given as goal
-
-abbrev pub invariant-loop-k : goal.invariant-loop-k
-invariant-loop-k l = l.cells.items ≡ l.initial.cells.items ++ map (λ key. (l.n, key)) (map (λ j. At j) (range_with_len 0 l.k))

@@ -1,8 +1,0 @@
-use Rattle.std.proofs.Common.{◌++◌, ap, subst}
-use Rattle.affine_laws.specs.Elements.{SameMembers}
-use Rattle.affine_elements.proofs.joins.copy.Goals as goal
-
-pub returns-clause-members : goal.returns-clause-members
-returns-clause-members c =
-    subst (λ l. SameMembers c.args.k c.add_rows.new.into.rows (l ++ c.args.x.now.rows)) (ap (λ s. s.rows) c.in_ok-rows.ensures)
-    (subst (λ k. SameMembers k c.add_rows.new.into.rows (c.in_ok-rows.rows.rows ++ c.args.x.now.rows)) c.requires.cells c.add_rows.ensures.members)

@@ -1,5 +1,0 @@
-use Rattle.affine_laws.proofs.Opened.{one_is_opened as lemma}
-use Rattle.affine_laws.proofs.laws.one_is_opened.Goals as goal
-
-pub returns : goal.returns
-returns c = lemma

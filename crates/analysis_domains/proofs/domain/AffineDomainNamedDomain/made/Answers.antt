@@ -1,5 +1,0 @@
-use Rattle.std.proofs.lemmas.Result.{IfOk-weaker}
-use Rattle.analysis_domains.proofs.domain.AffineDomainNamedDomain.made.Goals as goal
-
-pub returns-clause-context : goal.returns-clause-context
-returns-clause-context c = IfOk-weaker c.new.result _ _ (λ r e. tt) c.new.ensures.made

@@ -1,6 +1,0 @@
-use Rattle.std.proofs.Common.{◌∙◌}
-use Rattle.std.proofs.lemmas.Result.{IfOk-weaker}
-use Rattle.analysis_domains.proofs.domain.StateDomainNamedDomain.made.Goals as goal
-
-pub returns-clause-context : goal.returns-clause-context
-returns-clause-context g c = IfOk-weaker c.new.result _ _ (λ r e. e ∙ c.context.ensures) c.new.ensures.context

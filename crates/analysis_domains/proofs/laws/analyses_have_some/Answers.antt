@@ -1,5 +1,0 @@
-use Rattle.analysis_domains.proofs.Bases.{analyses_have_some}
-use Rattle.analysis_domains.proofs.laws.analyses_have_some.Goals as goal
-
-pub returns : goal.returns
-returns c = analyses_have_some

@@ -1,5 +1,0 @@
-use Rattle.analysis_domains.proofs.Bases.{open_analyses_are_one}
-use Rattle.analysis_domains.proofs.laws.open_analyses_are_one.Goals as goal
-
-pub returns : goal.returns
-returns c = open_analyses_are_one

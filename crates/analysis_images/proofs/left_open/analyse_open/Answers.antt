@@ -1,0 +1,21 @@
+use Rattle.std.specs.BTreeMap.{get}
+use Rattle.std.specs.Ordering.{nat_cmp}
+use Rattle.fixpoint_theory.specs.Views.{listings}
+use Rattle.analysis_transfer.specs.Analysis.{calls_of, problem}
+use Rattle.analysis_transfer.specs.Instance.{is_analysed}
+use Rattle.analysis_transfer_laws.proofs.OpenRuns.{open_is_true}
+use Rattle.analysis_images.proofs.Truth.{from_both}
+use Rattle.analysis_images.proofs.left_open.analyse_open.Goals as goal
+
+pub returns-clause-runs : goal.returns-clause-runs
+returns-clause-runs g c =
+    let it = c.args.analysis.now in
+    let base = g.D.B.Base.algebra in
+    let elements = g.D.Domain.elements it.domain.now in
+    let meaning = g.D.Domain.meaning it.domain.now in
+    let cap = g.D.B.Base.CAP in
+    from_both c.analyse.result
+    (λ r closed sound. open_is_true base g.met.D.B.Base.laws cap elements meaning (problem it) (calls_of base cap meaning (problem it))
+    (is_analysed base g.met.D.B.Base.laws cap elements meaning (g.D.Domain.is_for it.domain.now) it (g.met.D.Domain.laws it.domain.now (problem it).spec c.requires.ready.made) c.requires.ready)
+    (listings g.D.Domain.view r.report.table) (get nat_cmp r.endings) closed sound)
+    c.analyse.ensures.closed c.analyse.ensures.sound

@@ -1,0 +1,24 @@
+use Rattle.std.specs.BTreeMap.{get}
+use Rattle.std.specs.Ordering.{nat_cmp}
+use Rattle.fixpoint_theory.specs.Views.{listings}
+use Rattle.analysis_transfer.specs.Analysis.{calls_of, problem}
+use Rattle.analysis_transfer.specs.Instance.{is_analysed}
+use Rattle.analysis_transfer_laws.proofs.OpenRuns.{open_is_true}
+use Rattle.analysis_images.proofs.Truth.{from_both}
+use Rattle.analysis_images.proofs.left_open.check_open.Goals as goal
+
+pub check-requires-clause-same : goal.check-requires-clause-same
+check-requires-clause-same g c = g.met.D.B.Base.same_words
+
+pub returns-clause-runs : goal.returns-clause-runs
+returns-clause-runs g c =
+    let it = c.args.analysis.now in
+    let base = g.D.B.Base.algebra in
+    let elements = g.D.Domain.elements it.domain.now in
+    let meaning = g.D.Domain.meaning it.domain.now in
+    let cap = g.D.B.Base.CAP in
+    from_both c.check.result
+    (λ v accepted sound same. open_is_true base g.met.D.B.Base.laws cap elements meaning (problem it) (calls_of base cap meaning (problem it))
+    (is_analysed base g.met.D.B.Base.laws cap elements meaning (g.D.Domain.is_for it.domain.now) it (g.met.D.Domain.laws it.domain.now (problem it).spec c.requires.ready.made) c.requires.ready)
+    (listings g.D.Domain.view c.args.table.now) (get nat_cmp c.args.endings.now) (accepted.0 same) (sound same))
+    c.check.ensures.accepted c.check.ensures.sound

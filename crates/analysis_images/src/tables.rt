@@ -1,0 +1,65 @@
+//! Tables of an image.
+
+ghost use Rattle.std.specs.Prelude.{◌≡◌, ◌+◌, ◌*◌, ◌≤◌, ◌↔◌, IfOk, vec_len, length};
+ghost use Rattle.std.specs.BTreeMap.{btree_map_len};
+ghost use Rattle.fixpoint_theory.specs.Analysis.{height_of};
+ghost use Rattle.fixpoint_theory.specs.Runs.{IsSoundTable};
+ghost use Rattle.fixpoint_theory.specs.Table.{FitsImage, IsClosed, TableFits};
+ghost use Rattle.fixpoint_theory.specs.Verdicts.{verdict_of};
+ghost use Rattle.fixpoint_theory.specs.Views.{listings};
+ghost use Rattle.analysis_transfer_laws.specs.Runs.{IsTrueOfRuns};
+ghost use Rattle.analysis_transfer.specs.Analysis.{problem};
+ghost use Rattle.fixpoint_worklist.specs.Answers.{IsAnswer};
+
+use analysis_transfer::ImageAnalysis;
+use base_trait::Base;
+use domain_trait::Domain;
+use fixpoint_theory::{Analyser, Table, Verdict};
+use fixpoint_worklist::{AnalyseError, Report};
+use std::alloc::{AllocError as NoMemory, Global};
+use std::sync::ledger::Ledger;
+use support_step_counter::Steps;
+
+/// The table of an image's analysis, with its trace.
+///
+/// The table is true of the runs of the machine from every state that the entry describes: the element at each address describes
+/// every state that the meaning puts there, and each use list holds every definition that a read sees.
+pub fn analyse<'a, D: Domain, L: Ledger>(
+    alloc: Global,
+    analysis: &ImageAnalysis<'a, D>,
+    steps: &mut Steps<L>,
+) -> Result<Report<D::Element>, AnalyseError<<D::B as Base>::Word>>
+    requires ready { ⟦<ImageAnalysis<'a, D> as Analyser>⟧.IsReady analysis.now }
+    ensures value { IsAnswer (⟦<ImageAnalysis<'a, D> as Analyser>⟧.analysis analysis.now) D.view result }
+    ensures closed { IfOk result (λ r. IsClosed (⟦<ImageAnalysis<'a, D> as Analyser>⟧.analysis analysis.now) (listings D.view r.table)) }
+    ensures sound { IfOk result (λ r. IsSoundTable (⟦<ImageAnalysis<'a, D> as Analyser>⟧.analysis analysis.now) (⟦<ImageAnalysis<'a, D> as Analyser>⟧.machine analysis.now) (listings D.view r.table)) }
+    ensures runs { IfOk result (λ r. IsTrueOfRuns D.B.algebra (D.elements analysis.now.domain.now) (problem analysis.now) (listings D.view r.table)) }
+    ensures fits { IfOk result (λ r. TableFits (⟦<ImageAnalysis<'a, D> as Analyser>⟧.analysis analysis.now) (listings D.view r.table)) }
+    ensures image { IfOk result (λ r. FitsImage (⟦<ImageAnalysis<'a, D> as Analyser>⟧.analysis analysis.now) (listings D.view r.table)) }
+    ensures one { IfOk result (λ r. steps.new ≡ steps.old + (vec_len r.trace + btree_map_len r.table.blocks)) }
+    ensures most { steps.new ≤ steps.old + (length (problem analysis.now).addresses * (height_of (⟦<ImageAnalysis<'a, D> as Analyser>⟧.analysis analysis.now) + (problem analysis.now).joins + 1) + length (problem analysis.now).addresses) }
+{
+    fixpoint_worklist::analyse(alloc, analysis, steps)
+}
+
+/// The verdict on a table of an image, made here or elsewhere.
+///
+/// An accepted table is true of the runs of the machine from every state that the entry describes: the element at each address
+/// describes every state that the meaning puts there, and each use list holds every definition that a read sees.
+pub fn check<'a, D: Domain, L: Ledger>(
+    alloc: Global,
+    analysis: &ImageAnalysis<'a, D>,
+    table: &Table<D::Element>,
+    steps: &mut Steps<L>,
+) -> Result<Verdict<<D::B as Base>::Word>, NoMemory>
+    requires ready { ⟦<ImageAnalysis<'a, D> as Analyser>⟧.IsReady analysis.now }
+    requires table { TableFits (⟦<ImageAnalysis<'a, D> as Analyser>⟧.analysis analysis.now) (listings D.view table.now) }
+    ensures value { IfOk result (λ v. v ≡ verdict_of (⟦<ImageAnalysis<'a, D> as Analyser>⟧.analysis analysis.now) (listings D.view table.now)) }
+    ensures accepted { IfOk result (λ v. (v ≡ Verdict.Accepted) ↔ IsClosed (⟦<ImageAnalysis<'a, D> as Analyser>⟧.analysis analysis.now) (listings D.view table.now)) }
+    ensures sound { IfOk result (λ v. v ≡ Verdict.Accepted → IsSoundTable (⟦<ImageAnalysis<'a, D> as Analyser>⟧.analysis analysis.now) (⟦<ImageAnalysis<'a, D> as Analyser>⟧.machine analysis.now) (listings D.view table.now)) }
+    ensures runs { IfOk result (λ v. v ≡ Verdict.Accepted → IsTrueOfRuns D.B.algebra (D.elements analysis.now.domain.now) (problem analysis.now) (listings D.view table.now)) }
+    ensures one { IfOk result (λ v. v ≡ Verdict.Accepted → steps.new ≡ steps.old + btree_map_len table.now.blocks) }
+    ensures most { steps.new ≤ steps.old + btree_map_len table.now.blocks }
+{
+    fixpoint_table_check::check(alloc, analysis, table, steps)
+}

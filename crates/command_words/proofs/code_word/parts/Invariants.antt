@@ -1,9 +1,0 @@
-use Rattle.std.proofs.Common.{◌≡◌, ◌++◌, drop, map}
-use Rattle.std.specs.Option.{option_map}
-use Rattle.command_words.specs.Code.{parts_after, parts_in}
-use Rattle.command_words.specs.Views.{borrowed, part_of}
-use Rattle.command_words.proofs.code_word.parts.Given as goal
-
--- the parts before, and then those of the pieces that are left
-abbrev pub invariant-loop-piece : goal.invariant-loop-piece
-invariant-loop-piece l = parts_after (option_map part_of l.fn.first) (borrowed l.others) ≡ option_map (λ rest. map part_of l.parts.items ++ rest) (parts_in (borrowed (drop l.piece-index l.others)))

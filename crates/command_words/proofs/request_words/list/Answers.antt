@@ -1,8 +1,0 @@
-use Rattle.std.proofs.Common.{[]}
-use Rattle.command_words.specs.Views as seen
-use Rattle.command_words.proofs.Askings.{list_is}
-use Rattle.command_words.proofs.request_words.list.Goals as goal
-
-pub returns : goal.returns
-returns c =
-    list_is (seen.given_of c.args.given.now) c.as_slice.result.now _ (record { ref_ptr = (0, 0); now = [] }) c.as_slice.ensures.value _ _ c.in-len2.len_at_least c.in-len2.len_below c.of.ensures c.in_ok-code.ensures

@@ -1,5 +1,0 @@
-use Rattle.core_meaning.proofs.SameRuns.{cores_mean_the_same}
-use Rattle.core_meaning.proofs.laws.cores_mean_the_same.Goals as goal
-
-pub returns : goal.returns
-returns c = cores_mean_the_same

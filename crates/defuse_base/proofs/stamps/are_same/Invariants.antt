@@ -1,6 +1,0 @@
-use Rattle.std.proofs.Common.{◌≡◌, drop}
-use Rattle.defuse_base.specs.Instance.{same_notes}
-use Rattle.defuse_base.proofs.stamps.are_same.Given as goal
-
-abbrev pub invariant-loop-i : goal.invariant-loop-i
-invariant-loop-i l = same_notes l.xs l.ys ≡ same_notes (drop l.i l.xs) (drop l.i l.ys)

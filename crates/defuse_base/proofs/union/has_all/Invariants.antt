@@ -1,6 +1,0 @@
-use Rattle.std.proofs.Common.{◌≡◌, drop}
-use Rattle.defuse_base.specs.Notes.{has_all}
-use Rattle.defuse_base.proofs.union.has_all.Given as goal
-
-abbrev pub invariant-loop-x : goal.invariant-loop-x
-invariant-loop-x l = has_all l.items l.others ≡ has_all l.items (drop l.x-index l.others)

@@ -1,0 +1,5 @@
+use Rattle.domain_product_laws.proofs.Kept.{zip_describes}
+use Rattle.domain_product_laws.proofs.laws.zip_describes.Goals as goal
+
+pub returns : goal.returns
+returns g c = zip_describes g.A.Base.algebra g.B.Base.algebra g.met.A.Base.laws g.met.B.Base.laws

@@ -1,0 +1,5 @@
+use Rattle.domain_product_laws.proofs.Kept.{zip_map_fits}
+use Rattle.domain_product_laws.proofs.laws.zip_map_fits.Goals as goal
+
+pub returns : goal.returns
+returns g c = zip_map_fits g.A.Base.algebra g.B.Base.algebra g.met.A.Base.laws g.met.B.Base.laws

@@ -1,5 +1,0 @@
-use Rattle.element_readers.proofs.Told.{relations_are_read}
-use Rattle.element_readers.proofs.laws.relations_are_read.Goals as goal
-
-pub returns : goal.returns
-returns c = relations_are_read

@@ -1,5 +1,0 @@
-use Rattle.entry_laws.proofs.Accepted.{accepted_have_cells}
-use Rattle.entry_laws.proofs.laws.accepted_have_cells.Goals as goal
-
-pub returns : goal.returns
-returns c = accepted_have_cells

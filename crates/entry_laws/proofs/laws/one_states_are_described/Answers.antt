@@ -1,5 +1,0 @@
-use Rattle.entry_laws.proofs.OneStates.{one_states_are_described}
-use Rattle.entry_laws.proofs.laws.one_states_are_described.Goals as goal
-
-pub returns : goal.returns
-returns c = one_states_are_described

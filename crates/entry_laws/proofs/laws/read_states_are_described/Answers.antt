@@ -1,5 +1,0 @@
-use Rattle.entry_laws.proofs.Accepted.{read_states_are_described}
-use Rattle.entry_laws.proofs.laws.read_states_are_described.Goals as goal
-
-pub returns : goal.returns
-returns c = read_states_are_described

@@ -1,0 +1,59 @@
+use Rattle.std.proofs.Common.{◌≡◌, ◌∙◌, ◌+◌, ◌-◌, suc, cond, true, ◌++◌, ◌∷◌, [], Some, None, map, option_map, sym, ap, subst, rules, arith}
+use Rattle.std.proofs.lemmas.List.{map-append}
+use Rattle.semantics_values.specs.Types.{environment_of}
+use Rattle.abstract_value_laws.specs.Abs.{parts}
+use Rattle.abstract_value_types.specs.Types.{have_types}
+use Rattle.abstract_value.specs.View.{abs}
+use Rattle.support_group_arguments.specs.Groups.{only}
+use Rattle.support_group_arguments.proofs.Groups.{only_is}
+use Rattle.abstract_semantics.specs.Terms.{asks, params_of}
+use Rattle.eval_memo.specs.Ready.{AreGroupArgs, ArgsOf}
+use Rattle.eval_memo.specs.Settings.{spec_of}
+use Rattle.eval_activation.specs.Views.{all_abs, group_args}
+use Rattle.eval_memo.proofs.Arguments.{parts_fit}
+use Rattle.eval_activation.proofs.turn_yield.call_in_group.Goals as goal
+use Rattle.spec_match_compiler.proofs.Loops.{pushed}
+
+pub loop-i-preserved : goal.loop-i-preserved
+loop-i-preserved g c =
+    let f = c.args.fun in
+    let i = c.loop-i._i in
+    let x = all_abs c.args.args in
+    let more : f - i ≡ suc (f - (i + 1)) = let e = c.loop-i-test.true in omega arith in
+    let out : c.push.new.self.items ≡ c.loop-i.next.items ++ None ∷ [] = search rules in
+    rw more at c.loop-i.invariant ∙ sym (pushed (option_map all_abs) c.loop-i.next.items None (only (f - (i + 1)) x)) ∙ ap (λ z. map (option_map all_abs) z ++ only (f - (i + 1)) x) (sym out)
+
+pub returns-clause-value : goal.returns-clause-value
+returns-clause-value g c =
+    let spec = spec_of c.args.setting.now in
+    let f = c.args.fun in
+    let x = all_abs c.args.args in
+    let typed : have_types (environment_of spec) (parts (map abs c.args.args.items)) (params_of spec f) ≡ true = search rules in
+    let none : f - c.loop-i._i ≡ 0 = omega arith in
+    let whole = rw none at c.loop-i.invariant in
+    let out : c.push-2.new.self.items ≡ c.loop-i.next.items ++ Some c.args.args ∷ [] = search rules in
+    let group : group_args c.push-2.new.self ≡ only f x = rw (out, map-append) (sym whole) in
+    ap (λ z. Some (record { out = None; next = Some z })) group ∙ sym (ap (λ b. cond b (Some (asks f (map abs c.args.args.items))) None) typed)
+
+pub returns-clause-fits : goal.returns-clause-fits
+returns-clause-fits g c =
+    let b = g.B.Base.algebra in
+    let cap = g.B.Base.CAP in
+    let s = c.args.setting.now in
+    let spec = spec_of s in
+    let f = c.args.fun in
+    let x = all_abs c.args.args in
+    let typed : have_types (environment_of spec) (parts (map abs c.args.args.items)) (params_of spec f) ≡ true = search rules in
+    let none : f - c.loop-i._i ≡ 0 = omega arith in
+    let whole = rw none at c.loop-i.invariant in
+    let out : c.push-2.new.self.items ≡ c.loop-i.next.items ++ Some c.args.args ∷ [] = search rules in
+    let group : group_args c.push-2.new.self ≡ only f x = rw (out, map-append) (sym whole) in
+    record {
+      out = tt;
+      next = subst (AreGroupArgs b cap s c.args.group) (sym group)
+          (only_is (ArgsOf b cap s c.args.group) f x (record {
+            there = c.requires.there;
+            of_group = c.requires.of_group;
+            are = record { typed = typed; fit = parts_fit b s.ctx.now cap abs c.args.args.items c.requires.args };
+          }));
+    }

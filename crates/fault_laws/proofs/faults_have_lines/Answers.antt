@@ -1,5 +1,0 @@
-use Rattle.fault_laws.proofs.Faults.{faults_have_lines}
-use Rattle.fault_laws.proofs.faults_have_lines.Goals as goal
-
-pub returns : goal.returns
-returns c = faults_have_lines

@@ -1,5 +1,0 @@
-use Rattle.fixed_point.proofs.Verdicts.{accepted_are_closed}
-use Rattle.fixed_point.proofs.laws.accepted_are_closed.Goals as goal
-
-pub returns : goal.returns
-returns g c = accepted_are_closed (g.A.Analyser.analysis c.args.analyser.now) (g.met.A.Analyser.laws c.args.analyser.now c.requires.ready)

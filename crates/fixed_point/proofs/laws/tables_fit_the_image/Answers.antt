@@ -1,5 +1,0 @@
-use Rattle.fixed_point.proofs.Tables.{tables_fit_the_image}
-use Rattle.fixed_point.proofs.laws.tables_fit_the_image.Goals as goal
-
-pub returns : goal.returns
-returns g c = tables_fit_the_image (g.A.Analyser.analysis c.args.analyser.now) (g.met.A.Analyser.laws c.args.analyser.now c.requires.ready)

@@ -1,0 +1,5 @@
+use Rattle.fixpoint_open_tables.proofs.Soundness.{open_tables_are_sound}
+use Rattle.fixpoint_open_tables.proofs.laws.open_tables_are_sound.Goals as goal
+
+pub returns : goal.returns
+returns g c = open_tables_are_sound (g.A.Analyser.analysis c.args.analyser.now) (g.A.Analyser.machine c.args.analyser.now) (g.met.A.Analyser.laws c.args.analyser.now c.requires.ready)

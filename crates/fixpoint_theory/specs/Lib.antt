@@ -1,0 +1,11 @@
+pub mod Analysis
+pub mod Code
+pub mod Elements
+pub mod Laws
+pub mod Outcome
+pub mod Pairs
+pub mod WorklistState
+pub mod Runs
+pub mod Table
+pub mod Verdicts
+pub mod Views

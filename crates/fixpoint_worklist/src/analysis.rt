@@ -1,0 +1,70 @@
+//! Worklist analysis.
+
+ghost use Rattle.std.specs.Prelude.{◌≡◌, ◌+◌, ◌*◌, ◌≤◌, ℕ, List, IfOk, OnOk, vec_len, length};
+ghost use Rattle.std.specs.BTreeMap.{btree_map_len};
+ghost use Rattle.base_trait.specs.Uses.{Seen};
+ghost use Rattle.fixpoint_theory.specs.Analysis.{Analysis, height_of};
+ghost use Rattle.fixpoint_theory.specs.Elements.{Elements};
+ghost use Rattle.fixpoint_theory.specs.WorklistState.{begin};
+ghost use Rattle.fixpoint_theory.specs.Runs.{IsSoundTable};
+ghost use Rattle.fixpoint_theory.specs.Table.{FitsImage, IsClosed, TableFits};
+ghost use Rattle.fixpoint_theory.specs.Views.{listings};
+ghost use Rattle.fixpoint_worklist.specs.Fitting.{AllFit};
+ghost use Rattle.fixpoint_worklist.specs.Answers.{IsAnswer};
+ghost use Rattle.fixpoint_worklist.specs.Likeness.{AllLike};
+ghost use Rattle.fixpoint_worklist.specs.Views.{IsReached, worklist_state_in};
+
+use crate::arrive::arrive;
+use crate::blocks::blocks_of;
+use crate::report::{AnalyseError, Report};
+use crate::run::run;
+use crate::worklist::{Worklist, empty_worklist};
+use fixpoint_theory::{Analyser, Described, Table};
+use std::alloc::{AllocError as NoMemory, Global};
+use std::sync::ledger::Ledger;
+use support_step_counter::Steps;
+
+/// The entry's element arrives at the entry's counter.
+fn arrive_at_entry<A: Analyser>(
+    analyser: &A,
+    alloc: Global,
+) -> Result<Worklist<A::Element>, NoMemory>
+    requires ready { A.IsReady analyser.now }
+    ensures value { IfOk result (λ w. AllLike (A.analysis analyser.now) (worklist_state_in A.view w) (begin (A.analysis analyser.now))) }
+    ensures fine { IfOk result (λ w. AllFit (A.analysis analyser.now) (worklist_state_in A.view w)) }
+    ensures reached { IfOk result IsReached }
+{
+    let mut work = empty_worklist(analyser, alloc);
+    let entry = analyser.entry(alloc)?;
+    arrive(analyser, alloc, &mut work, &entry, analyser.start())?;
+    Ok(work)
+}
+
+/// Transfers the least pending address until none is pending, and then each reached address once more. What the table
+/// says holds of every run of the machine.
+pub fn analyse<A: Described, L: Ledger>(
+    alloc: Global,
+    analyser: &A,
+    steps: &mut Steps<L>,
+) -> Result<Report<A::Element>, AnalyseError<A::Shown>>
+    requires ready { A.IsReady analyser.now }
+    ensures value { IsAnswer (A.analysis analyser.now) A.view result }
+    ensures closed { IfOk result (λ r. IsClosed (A.analysis analyser.now) (listings A.view r.table)) }
+    ensures sound { IfOk result (λ r. IsSoundTable (A.analysis analyser.now) (A.machine analyser.now) (listings A.view r.table)) }
+    ensures fits { IfOk result (λ r. TableFits (A.analysis analyser.now) (listings A.view r.table)) }
+    ensures image { IfOk result (λ r. FitsImage (A.analysis analyser.now) (listings A.view r.table)) }
+    ensures one { IfOk result (λ r. steps.new ≡ steps.old + (vec_len r.trace + btree_map_len r.table.blocks)) }
+    ensures most { steps.new ≤ steps.old + (length (A.analysis analyser.now).code * (height_of (A.analysis analyser.now) + (A.analysis analyser.now).joins + 1) + length (A.analysis analyser.now).code) }
+{
+    let mut work = arrive_at_entry(analyser, alloc)?;
+    let trace = run(analyser, alloc, &mut work, steps)?;
+    let Worklist {
+        places,
+        pending: _pending,
+    } = work;
+    let blocks = blocks_of(analyser, alloc, places, steps)?;
+    Ok(Report {
+        table: Table { blocks },
+        trace,
+    })
+}

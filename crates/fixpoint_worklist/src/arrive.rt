@@ -1,0 +1,98 @@
+//! Arrivals of elements at addresses.
+
+ghost use Rattle.std.specs.Prelude.{◌≡◌, ◌+◌, ◌<◌, ℕ, List, Some, None, true, false, min, fold, nat_lt, IsTrue, IfOk, IfSome, OnOk, if◌then◌else◌};
+ghost use Rattle.fixpoint_theory.specs.Analysis.{Analysis};
+ghost use Rattle.fixpoint_theory.specs.Code.{is_code};
+ghost use Rattle.fixpoint_theory.specs.Elements.{Elements};
+ghost use Rattle.fixpoint_theory.specs.WorklistState.{arrive, arrive_all, grown};
+ghost use Rattle.fixpoint_worklist.specs.Fitting.{AllFit};
+ghost use Rattle.fixpoint_worklist.specs.Likeness.{AllLike};
+ghost use Rattle.fixpoint_worklist.specs.Views.{IsReached, worklist_state_in};
+
+use crate::place::Place;
+use crate::worklist::{Worklist, place_at, put_pending};
+use fixpoint_theory::Analyser;
+use std::alloc::{AllocError as NoMemory, Global};
+
+/// What an element becomes that does not absorb a new one: its first changes join, later ones widen.
+fn grow<A: Analyser>(
+    analyser: &A,
+    alloc: Global,
+    old: &Place<A::Element>,
+    new: &A::Element,
+) -> Result<Place<A::Element>, NoMemory>
+    requires ready { A.IsReady analyser.now }
+    requires old_fits { (A.analysis analyser.now).elements.fits (A.view old.now.elem) }
+    requires new_fits { (A.analysis analyser.now).elements.fits (A.view new.now) }
+    ensures value { IfOk result (λ r. (A.analysis analyser.now).elements.same (A.view r.elem) (grown (A.analysis analyser.now) old.now.changes (A.view old.now.elem) (A.view new.now))) }
+    ensures fits { IfOk result (λ r. (A.analysis analyser.now).elements.fits (A.view r.elem)) }
+    ensures changes { IfOk result (λ r. min r.changes (A.analysis analyser.now).joins ≡ min (old.now.changes + 1) (A.analysis analyser.now).joins) }
+{
+    if old.changes < analyser.joins() {
+        Ok(Place {
+            elem: analyser.join(alloc, &old.elem, new)?,
+            changes: old.changes + 1,
+        })
+    } else {
+        Ok(Place {
+            elem: analyser.widen(alloc, &old.elem, new)?,
+            changes: old.changes,
+        })
+    }
+}
+
+/// A new element arrives at an address.
+pub(crate) fn arrive<A: Analyser>(
+    analyser: &A,
+    alloc: Global,
+    work: &mut Worklist<A::Element>,
+    new: &A::Element,
+    at: u32,
+) -> Result<(), NoMemory>
+    requires ready { A.IsReady analyser.now }
+    requires reached { IsReached work.old }
+    requires fine { AllFit (A.analysis analyser.now) (worklist_state_in A.view work.old) }
+    requires fits { (A.analysis analyser.now).elements.fits (A.view new.now) }
+    ensures value { OnOk result (AllLike (A.analysis analyser.now) (worklist_state_in A.view work.new) (arrive (A.analysis analyser.now) (A.view new.now) (worklist_state_in A.view work.old) at)) }
+    ensures fine { OnOk result (AllFit (A.analysis analyser.now) (worklist_state_in A.view work.new)) }
+    ensures reached { OnOk result (IsReached work.new) }
+{
+    if !analyser.is_code(at) {
+        return Ok(());
+    }
+    match place_at(analyser, work, at) {
+        None => {
+            let elem = analyser.copy(alloc, new)?;
+            put_pending(analyser, work, at, Place { elem, changes: 1 })
+        }
+        Some(old) => {
+            if analyser.absorbs(&old.elem, new) {
+                return Ok(());
+            }
+            let place = grow(analyser, alloc, old, new)?;
+            put_pending(analyser, work, at, place)
+        }
+    }
+}
+
+/// A new element arrives at each of these addresses that is a code address.
+pub(crate) fn arrive_at_all<A: Analyser>(
+    analyser: &A,
+    alloc: Global,
+    work: &mut Worklist<A::Element>,
+    new: &A::Element,
+    targets: &[u32],
+) -> Result<(), NoMemory>
+    requires ready { A.IsReady analyser.now }
+    requires reached { IsReached work.old }
+    requires fine { AllFit (A.analysis analyser.now) (worklist_state_in A.view work.old) }
+    requires fits { (A.analysis analyser.now).elements.fits (A.view new.now) }
+    ensures value { OnOk result (AllLike (A.analysis analyser.now) (worklist_state_in A.view work.new) (arrive_all (A.analysis analyser.now) (Some (A.view new.now)) targets.now (worklist_state_in A.view work.old))) }
+    ensures fine { OnOk result (AllFit (A.analysis analyser.now) (worklist_state_in A.view work.new)) }
+    ensures reached { OnOk result (IsReached work.new) }
+{
+    for to in targets {
+        arrive(analyser, alloc, work, new, *to)?;
+    }
+    Ok(())
+}

@@ -1,5 +1,0 @@
-use Rattle.function_calls.proofs.Written.{values_are_written}
-use Rattle.function_calls.proofs.laws.values_are_written.Goals as goal
-
-pub returns : goal.returns
-returns c = values_are_written

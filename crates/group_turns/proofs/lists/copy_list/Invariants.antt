@@ -1,6 +1,0 @@
-use Rattle.std.proofs.Common.{◌≡◌, map, take}
-use Rattle.abs_value.specs.View.{abs}
-use Rattle.group_turns.proofs.lists.copy_list.Given as goal
-
-abbrev pub invariant-loop-x : goal.invariant-loop-x
-invariant-loop-x g l = map abs l.out.items ≡ map abs (take l.x-index l.xs)

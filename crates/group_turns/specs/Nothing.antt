@@ -1,6 +1,0 @@
--- A specification that declares nothing.
-use Rattle.std.specs.Prelude.{[], None}
-use Rattle.spec_types.specs.Specification.{Spec}
-
-abbrev pub nothing : Spec
-nothing = record { datas = []; maps = []; funs = []; rows = []; machine = None }

@@ -1,8 +1,0 @@
--- Words that ask for help ask for nothing else.
-use Rattle.std.specs.Prelude.{◌≡◌, ℕ, List, IsSome, None}
-use Rattle.command_words.specs.Words.{asked}
-use Rattle.help_words.specs.Help.{told}
-
--- No words that are a request of the program ask for help.
-abbrev pub HelpIsApart : Type 0
-HelpIsApart = (words : List (List ℕ)) → IsSome (told words) → asked words ≡ None

@@ -1,9 +1,0 @@
--- The code's topics as contracts see them.
-use Rattle.help_words.specs.declared.topics.Topic as code
-use Rattle.help_words.specs.declared.topics.Topic.TheVariants as t
-use Rattle.help_words.specs.Help.{Topic, all, one, version}
-
-abbrev pub topic_of : code.Topic → Topic
-topic_of t.All = all
-topic_of (t.Of page) = one page
-topic_of t.Version = version

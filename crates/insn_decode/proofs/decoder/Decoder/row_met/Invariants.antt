@@ -1,8 +1,0 @@
-use Rattle.std.proofs.Common.{◌≡◌, drop}
-use Rattle.spec_types.specs.Views.{specification}
-use Rattle.meaning.specs.Decode.{row_met}
-use Rattle.insn_decode.specs.Tree.{picked}
-use Rattle.insn_decode.proofs.decoder.Decoder.row_met.Given as goal
-
-abbrev pub invariant-loop-number : goal.invariant-loop-number
-invariant-loop-number l = row_met l.word (specification l.spec).rows ≡ row_met l.word (picked (specification l.spec).rows (drop l.number-index l.number-items))

@@ -1,5 +1,0 @@
-use Rattle.insn_decode.proofs.Words.{overlaps_are_shared_bytes}
-use Rattle.insn_decode.proofs.laws.overlaps_are_shared_bytes.Goals as goal
-
-pub returns : goal.returns
-returns c = overlaps_are_shared_bytes

@@ -1,6 +1,0 @@
-use Rattle.std.proofs.Common.{◌≡◌, drop}
-use Rattle.meaning.specs.Decode.{agrees}
-use Rattle.insn_decode.proofs.rows.agrees.Given as goal
-
-abbrev pub invariant-loop-i : goal.invariant-loop-i
-invariant-loop-i l = agrees l.word l.parts ≡ agrees l.word (drop l.i l.parts)

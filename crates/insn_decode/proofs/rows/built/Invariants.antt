@@ -1,7 +1,0 @@
-use Rattle.std.proofs.Common.{◌≡◌, map, take}
-use Rattle.tsl_values.specs.Views.{val}
-use Rattle.meaning.specs.Decode.{argument_of, fields_in}
-use Rattle.insn_decode.proofs.rows.built.Given as goal
-
-abbrev pub invariant-loop-arg : goal.invariant-loop-arg
-invariant-loop-arg l = map val l.parts.items ≡ map (argument_of (fields_in l.word l.row.parts.items)) (take l.arg-index l.row.args.items)

@@ -1,7 +1,0 @@
-use Rattle.std.proofs.Common.{◌≡◌, drop}
-use Rattle.std.specs.Prelude.{slice_get}
-use Rattle.meaning.specs.Decode.{fields_in}
-use Rattle.insn_decode.proofs.rows.field.Given as goal
-
-abbrev pub invariant-loop-i : goal.invariant-loop-i
-invariant-loop-i l = slice_get (fields_in l.word l.parts) l.number ≡ slice_get (fields_in l.word (drop l.i l.parts)) l.left

@@ -1,7 +1,0 @@
-use Rattle.std.proofs.Common.{◌≡◌, ◌++◌, map, take, drop}
-use Rattle.insn_decode.specs.Image.{Segment, placed}
-use Rattle.insn_decode.specs.Views.{segment_of}
-use Rattle.insn_decode.proofs.segment.first_above.Given as goal
-
-abbrev pub invariant-loop-i : goal.invariant-loop-i
-invariant-loop-i l = (s : Segment) → s.base ≡ l.base → placed s (map segment_of l.segments) ≡ take l.i (map segment_of l.segments) ++ placed s (map segment_of (drop l.i l.segments))

@@ -1,4 +1,0 @@
-use Rattle.insn_decode.proofs.tree.+grow.Given as goal
-
-abbrev pub decreases-grow : goal.decreases-grow
-decreases-grow l = l.depth

@@ -1,9 +1,0 @@
-use Rattle.std.proofs.Common.{sym, subst}
-use Rattle.interval_base.specs.Instance.{word_laws}
-use Rattle.interval_base.specs.Range.{Fits}
-use Rattle.interval_base.proofs.base.IntervalBase.op2.Goals as goal
-
-pub returns-clause-fits : goal.returns-clause-fits
-returns-clause-fits c =
-    subst (Fits c.args.w) (sym c.op2.ensures)
-    (word_laws.op2_fits tt c.args.op c.args.w c.args.x.now c.args.y.now c.requires.width c.requires.left c.requires.right)

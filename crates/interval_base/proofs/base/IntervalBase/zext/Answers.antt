@@ -1,5 +1,0 @@
-use Rattle.interval_base.specs.Instance.{word_laws}
-use Rattle.interval_base.proofs.base.IntervalBase.zext.Goals as goal
-
-pub returns-clause-fits : goal.returns-clause-fits
-returns-clause-fits c = word_laws.zext_fits tt c.args.from c.args.to c.args.x.now c.requires.widths c.requires.word

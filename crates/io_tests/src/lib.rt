@@ -1,6 +1,0 @@
-//! Tests of whole reads and writes at each input and sink. They stand apart, since a crate with tests is proved a second time with
-//! them; what can be said of runs are cases of `case_runner`.
-#![tactic(auto)]
-
-#[cfg(test)]
-mod tests;

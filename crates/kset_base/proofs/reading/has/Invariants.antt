@@ -1,6 +1,0 @@
-use Rattle.std.proofs.Common.{◌≡◌, drop}
-use Rattle.kset_base.specs.Sets.{has}
-use Rattle.kset_base.proofs.reading.has.Given as goal
-
-abbrev pub invariant-loop-x : goal.invariant-loop-x
-invariant-loop-x l = has l.numbers l.n ≡ has (drop l.x-index l.numbers) l.n

@@ -1,7 +1,0 @@
-use Rattle.std.proofs.Common.{◌≡◌, drop}
-use Rattle.std.specs.List.{list_all}
-use Rattle.kset_base.specs.Sets.{has}
-use Rattle.kset_base.proofs.reading.has_all.Given as goal
-
-abbrev pub invariant-loop-x : goal.invariant-loop-x
-invariant-loop-x l = list_all (has l.numbers) l.others ≡ list_all (has l.numbers) (drop l.x-index l.others)

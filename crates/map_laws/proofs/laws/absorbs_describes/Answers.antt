@@ -1,5 +1,0 @@
-use Rattle.map_laws.proofs.Joining.{absorbs_describes}
-use Rattle.map_laws.proofs.laws.absorbs_describes.Goals as goal
-
-pub returns : goal.returns
-returns g c = absorbs_describes g.B.Base.algebra g.met.B.Base.laws

@@ -1,5 +1,0 @@
-use Rattle.map_laws.proofs.Reading.{access_describes}
-use Rattle.map_laws.proofs.laws.access_describes.Goals as goal
-
-pub returns : goal.returns
-returns g c = access_describes g.B.Base.algebra g.met.B.Base.laws

@@ -1,5 +1,0 @@
-use Rattle.map_laws.proofs.Fitting.{update_fits}
-use Rattle.map_laws.proofs.laws.update_fits.Goals as goal
-
-pub returns : goal.returns
-returns g c = update_fits g.B.Base.algebra g.met.B.Base.laws

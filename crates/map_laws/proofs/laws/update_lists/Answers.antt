@@ -1,5 +1,0 @@
-use Rattle.map_laws.proofs.Writing.{update_lists}
-use Rattle.map_laws.proofs.laws.update_lists.Goals as goal
-
-pub returns : goal.returns
-returns g c = update_lists g.B.Base.algebra g.met.B.Base.laws

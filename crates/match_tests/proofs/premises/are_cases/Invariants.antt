@@ -1,6 +1,0 @@
-use Rattle.std.proofs.Common.{◌≡◌, map, drop}
-use Rattle.match_tests.specs.Premises.{cases_fit}
-use Rattle.match_tests.proofs.premises.are_cases.Given as goal
-
-abbrev pub invariant-loop-fields : goal.invariant-loop-fields
-invariant-loop-fields l = cases_fit l.n (map (λ c. c.items) (drop l.fields-index l.cases)) ≡ cases_fit l.n (map (λ c. c.items) l.cases)

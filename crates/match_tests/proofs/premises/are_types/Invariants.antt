@@ -1,6 +1,0 @@
-use Rattle.std.proofs.Common.{◌≡◌, map, drop}
-use Rattle.match_tests.specs.Premises.{types_fit}
-use Rattle.match_tests.proofs.premises.are_types.Given as goal
-
-abbrev pub invariant-loop-n : goal.invariant-loop-n
-invariant-loop-n l = types_fit l.n (map (λ t. map (λ c. c.items) t.items) (drop l.n l.cases-items)) ≡ types_fit 0 (map (λ t. map (λ c. c.items) t.items) l.cases-items)

@@ -1,5 +1,0 @@
-use Rattle.meaning_laws.proofs.Bounds.{bounds_settle}
-use Rattle.meaning_laws.proofs.laws.bounds_settle.Goals as goal
-
-pub returns : goal.returns
-returns c = bounds_settle

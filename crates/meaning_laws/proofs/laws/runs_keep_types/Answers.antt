@@ -1,5 +1,0 @@
-use Rattle.meaning_laws.proofs.Kept.{runs_keep_types}
-use Rattle.meaning_laws.proofs.laws.runs_keep_types.Goals as goal
-
-pub returns : goal.returns
-returns c = runs_keep_types

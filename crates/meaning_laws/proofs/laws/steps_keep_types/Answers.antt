@@ -1,5 +1,0 @@
-use Rattle.meaning_laws.proofs.Kept.{steps_keep_types}
-use Rattle.meaning_laws.proofs.laws.steps_keep_types.Goals as goal
-
-pub returns : goal.returns
-returns c = steps_keep_types

@@ -1,5 +1,0 @@
-use Rattle.open_tables.proofs.Verdicts.{verdicts_are_one}
-use Rattle.open_tables.proofs.laws.verdicts_are_one.Goals as goal
-
-pub returns : goal.returns
-returns g c = verdicts_are_one (g.A.Analyser.analysis c.args.analyser.now)

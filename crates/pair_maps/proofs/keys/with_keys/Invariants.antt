@@ -1,6 +1,0 @@
-use Rattle.std.proofs.Common.{◌≡◌, ◌++◌, drop}
-use Rattle.map_laws.specs.Maps.{keys}
-use Rattle.pair_maps.proofs.keys.with_keys.Given as goal
-
-abbrev pub invariant-loop-place : goal.invariant-loop-place
-invariant-loop-place g l = l.numbers.items ++ drop l.place (keys l.m) ≡ l.initial.numbers.items ++ keys l.m

@@ -1,5 +1,0 @@
-use Rattle.pair_maps.proofs.Maps.{noted_is}
-use Rattle.pair_maps.proofs.mapped_maps.mapped_cell.Goals as goal
-
-pub returns : goal.returns
-returns g c = noted_is c.in_ok-word.word (g.P.Part.word_of c.args.word.now) (g.P.Part.note_of c.args.note.now) c.note.result c.with_note.result c.with_note.ensures c.in_ok-word.ensures c.note.ensures

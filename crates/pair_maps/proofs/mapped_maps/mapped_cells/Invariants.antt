@@ -1,6 +1,0 @@
-use Rattle.std.proofs.Common.{◌≡◌, ◌++◌, drop}
-use Rattle.pair_calls.specs.Calls.{mapped_cells}
-use Rattle.pair_maps.proofs.mapped_maps.mapped_cells.Given as goal
-
-abbrev pub invariant-loop-place : goal.invariant-loop-place
-invariant-loop-place g l = l.cells.items ++ drop l.place (mapped_cells g.P.Part.word_of g.P.Part.note_of l.m.cells) ≡ mapped_cells g.P.Part.word_of g.P.Part.note_of l.m.cells

@@ -1,8 +1,0 @@
-use Rattle.paired_base.proofs.PairParts.{beside_fits, beside_is}
-use Rattle.paired_base.proofs.base.PairedBase.constant.Goals as goal
-
-pub returns : goal.returns
-returns g c = record {
-  value = beside_is c.constant.result c.constant-2.result c.beside.result _ _ c.beside.ensures c.constant.ensures.value c.constant-2.ensures.value;
-  fits = beside_fits c.constant.result c.constant-2.result c.beside.result _ _ c.beside.ensures c.constant.ensures.fits c.constant-2.ensures.fits;
-}

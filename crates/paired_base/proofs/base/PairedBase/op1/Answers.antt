@@ -1,8 +1,0 @@
-use Rattle.paired_base.proofs.PairParts.{beside_fits, beside_is}
-use Rattle.paired_base.proofs.base.PairedBase.op1.Goals as goal
-
-pub returns : goal.returns
-returns g c = record {
-  value = beside_is c.op1.result c.op1-2.result c.beside.result _ _ c.beside.ensures c.op1.ensures.value c.op1-2.ensures.value;
-  fits = beside_fits c.op1.result c.op1-2.result c.beside.result _ _ c.beside.ensures c.op1.ensures.fits c.op1-2.ensures.fits;
-}

@@ -1,8 +1,0 @@
-use Rattle.paired_base.proofs.PairParts.{beside_fits, beside_is}
-use Rattle.paired_base.proofs.base.PairedBase.zext.Goals as goal
-
-pub returns : goal.returns
-returns g c = record {
-  value = beside_is c.zext.result c.zext-2.result c.beside.result _ _ c.beside.ensures c.zext.ensures.value c.zext-2.ensures.value;
-  fits = beside_fits c.zext.result c.zext-2.result c.beside.result _ _ c.beside.ensures c.zext.ensures.fits c.zext-2.ensures.fits;
-}

@@ -1,0 +1,51 @@
+//! The verdict on the table that a text is, in a domain.
+
+ghost use Rattle.std.specs.Prelude.{◌≡◌, ◌<◌, ◌≤◌, ◌+◌, ◌^◌, IfOk, IsTrue, length};
+ghost use Rattle.support_command_line.specs.Bases.{base_text};
+ghost use Rattle.spec_ir.specs.Views.{specification};
+ghost use Rattle.state_text.specs.Reading.{entry_of};
+ghost use Rattle.program_common.specs.Outcomes.{Gives, answer_of};
+ghost use Rattle.program_domains.specs.Checks.{accepted_line};
+ghost use Rattle.program_domain_tasks.specs.Own.{OwnJudges, OwnWork};
+ghost use Rattle.program_domains.specs.Tasks as asked;
+ghost use Rattle.program_domain_tasks.specs.Read.{IsRead, IsTextOf, problem_at};
+
+use crate::closed_table::read_closed;
+use crate::task::{AnalysisStart, Subject};
+use crate::verdict::{require_closed, verdict_in};
+use program_common::{Answer, Halt};
+use program_domains::NamedDomain;
+use std::alloc::{AllocError as NoMemory, Global};
+use std::sync::ledger::Ledger;
+use support_command_line::BaseName;
+use support_step_counter::Steps;
+
+/// What is answered for a table that is closed.
+pub fn answer_accepted(alloc: Global) -> Result<Answer, NoMemory>
+    ensures { IfOk result (λ answer. IsTextOf (λ bytes. bytes ≡ accepted_line) (answer_of answer)) }
+{
+    Ok(Answer::Text(Vec::from_slice(alloc, b"accepted\n")?))
+}
+
+/// What the check of a text comes to in a domain that was made for the specification.
+pub fn check_in_domain<'a, 'b, D: NamedDomain, L: Ledger>(
+    alloc: Global,
+    domain: &D,
+    it: &Subject<'a>,
+    start: &AnalysisStart<'a>,
+    base: BaseName,
+    bytes: &[u8],
+    steps: &mut Steps<L>,
+) -> Result<Answer, Halt<'b>>
+    requires joins { IsTrue D.B.algebra.joins }
+    requires made { IsTrue (D.is_for domain.now (specification it.now.spec.now)) }
+    requires read { IsRead (specification it.now.spec.now) start.now.machine (entry_of start.now.entry.now) }
+    requires short { length bytes.now < 2 ^ 32 }
+    ensures gives { Gives (OwnJudges (record { base = D.B.algebra; cap = D.B.CAP; elements = D.elements domain.now; meaning = D.meaning domain.now; view = D.view; IsText = D.IsText; Reads = D.Reads domain.now; word_in = D.word_in domain.now; word_text = D.word_text }) (problem_at (specification it.now.spec.now) it.now.image.now start.now) it.now.image.now (base_text base) bytes.now) answer_of result }
+    ensures work { OwnWork (record { base = D.B.algebra; cap = D.B.CAP; elements = D.elements domain.now; meaning = D.meaning domain.now; view = D.view; IsText = D.IsText; Reads = D.Reads domain.now; word_in = D.word_in domain.now; word_text = D.word_text }) it.now.image.now (base_text base) (asked.check (problem_at (specification it.now.spec.now) it.now.image.now start.now) bytes.now) steps.old steps.new }
+{
+    let table = read_closed::<D>(alloc, domain, it, base, bytes)?;
+    let verdict = verdict_in::<D, L>(alloc, domain, it, start, &table, steps)?;
+    require_closed::<D>(alloc, &verdict)?;
+    Ok(answer_accepted(alloc)?)
+}

@@ -1,0 +1,35 @@
+-- The analysis of a well-posed problem in a lawful domain keeps the laws of analyses, and its closed tables are true.
+use Rattle.std.proofs.Common.{ℕ, List, inl}
+use Rattle.support_tail_fixpoint.specs.declared.policy.Policy.TheVariants.{Widen}
+use Rattle.abstract_value_laws.specs.Abs.{Abs}
+use Rattle.abstract_semantics.specs.Answers.{Answer}
+use Rattle.abstract_calls.proofs.Right.{answers_are_right}
+use Rattle.fixpoint_theory.specs.Analysis.{AnalysisLaws}
+use Rattle.fixpoint_theory.specs.Table.{IsClosed, Listings, TableFits}
+use Rattle.analysis_transfer_laws.specs.Laws.{IsAnalysed}
+use Rattle.analysis_transfer_laws.specs.Problem.{IsWellFormedProblem, Problem}
+use Rattle.analysis_transfer_laws.specs.Runs.{IsTrueOfRuns}
+use Rattle.analysis_transfer_laws.proofs.Keeping.{transfers_keep_the_laws}
+use Rattle.analysis_transfer_laws.proofs.Runs.{closed_tables_are_true}
+use Rattle.analysis_transfer.specs.Analysis.{calls_of}
+use Rattle.program_domains.specs.Analyses.{analysis}
+use Rattle.program_domains.specs.Domains.{DomainOf}
+use Rattle.program_domains.proofs.Lawful.{IsLawful}
+
+module _ {E W N C : Type 0} (domain : DomainOf E W N C) (p : Problem) (lawful : IsLawful domain p.spec) (posed : IsWellFormedProblem p) where
+  abbrev pub calls : ℕ → ℕ → List (Abs W N) → Answer (Abs W N)
+  calls = calls_of domain.base domain.cap domain.meaning p
+
+  pub is_analysed : IsAnalysed domain.base domain.cap domain.elements domain.meaning p calls
+  is_analysed = record {
+    joins = lawful.joins;
+    posed = posed;
+    domain = lawful.keeps;
+    right = λ at. answers_are_right domain.base lawful.laws p.spec domain.meaning.context domain.cap at (Widen 64 2) posed.accepted (inl lawful.joins) tt lawful.joins;
+  }
+
+  pub keeps_the_laws : AnalysisLaws (analysis domain p)
+  keeps_the_laws = transfers_keep_the_laws domain.base lawful.laws domain.cap domain.elements domain.meaning p calls is_analysed
+
+  pub closed_is_true : (t : Listings E) → TableFits (analysis domain p) t → IsClosed (analysis domain p) t → IsTrueOfRuns domain.base domain.elements p t
+  closed_is_true t fits closed = closed_tables_are_true domain.base lawful.laws domain.cap domain.elements domain.meaning p calls t is_analysed fits closed

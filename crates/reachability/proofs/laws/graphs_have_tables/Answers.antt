@@ -1,5 +1,0 @@
-use Rattle.reachability.proofs.Tables.{some_table}
-use Rattle.reachability.proofs.laws.graphs_have_tables.Goals as goal
-
-pub returns : goal.returns
-returns c = some_table

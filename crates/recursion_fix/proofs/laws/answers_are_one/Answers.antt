@@ -1,5 +1,0 @@
-use Rattle.recursion_fix.proofs.Remains.{answers_are_one}
-use Rattle.recursion_fix.proofs.laws.answers_are_one.Goals as goal
-
-pub returns : goal.returns
-returns g c = answers_are_one

@@ -1,6 +1,0 @@
-use Rattle.std.proofs.Common.{IsTrue}
-use Rattle.recursion_fix.proofs.Parts.{leaves_are_part}
-use Rattle.recursion_fix.proofs.laws.leaves_are_part.Goals as goal
-
-pub returns : goal.returns
-returns g c = λ fits. leaves_are_part (λ x. IsTrue (fits x))

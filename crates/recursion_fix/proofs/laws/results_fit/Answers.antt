@@ -1,6 +1,0 @@
-use Rattle.std.proofs.Common.{IsTrue}
-use Rattle.recursion_fix.proofs.Parts.{results_fit}
-use Rattle.recursion_fix.proofs.laws.results_fit.Goals as goal
-
-pub returns : goal.returns
-returns g c = λ fits. results_fit (λ x. IsTrue (fits x))

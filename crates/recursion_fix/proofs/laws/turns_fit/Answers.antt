@@ -1,6 +1,0 @@
-use Rattle.std.proofs.Common.{IsTrue}
-use Rattle.recursion_fix.proofs.Fitted.{turns_fit}
-use Rattle.recursion_fix.proofs.laws.turns_fit.Goals as goal
-
-pub returns : goal.returns
-returns g c = λ fits. turns_fit (λ x. IsTrue (fits x))

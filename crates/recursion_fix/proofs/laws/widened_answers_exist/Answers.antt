@@ -1,6 +1,0 @@
-use Rattle.std.proofs.Common.{IsTrue}
-use Rattle.recursion_fix.proofs.Ending.{widened_answers_exist}
-use Rattle.recursion_fix.proofs.laws.widened_answers_exist.Goals as goal
-
-pub returns : goal.returns
-returns g c = λ fits. widened_answers_exist (λ x. IsTrue (fits x))

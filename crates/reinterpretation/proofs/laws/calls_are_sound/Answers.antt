@@ -1,5 +1,0 @@
-use Rattle.reinterpretation.proofs.SoundCalls.{calls_are_sound}
-use Rattle.reinterpretation.proofs.laws.calls_are_sound.Goals as goal
-
-pub returns : goal.returns
-returns g c = calls_are_sound g.B.Base.algebra g.met.B.Base.laws

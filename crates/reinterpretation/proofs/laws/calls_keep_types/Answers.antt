@@ -1,5 +1,0 @@
-use Rattle.reinterpretation.proofs.Plain.{calls_keep_types}
-use Rattle.reinterpretation.proofs.laws.calls_keep_types.Goals as goal
-
-pub returns : goal.returns
-returns g c = calls_keep_types g.B.Base.algebra g.met.B.Base.laws

@@ -1,5 +1,0 @@
-use Rattle.reinterpretation.proofs.Listed.{calls_list_stamps}
-use Rattle.reinterpretation.proofs.laws.calls_list_stamps.Goals as goal
-
-pub returns : goal.returns
-returns g c = calls_list_stamps g.B.Base.algebra g.met.B.Base.laws

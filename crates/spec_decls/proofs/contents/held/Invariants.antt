@@ -1,7 +1,0 @@
-use Rattle.std.proofs.Common.{◌≡◌, ◌++◌, map, drop}
-use Rattle.spec_decls.specs.Leaves as leaves
-use Rattle.spec_decls.specs.Views.{meanings}
-use Rattle.spec_decls.proofs.contents.held.Given as goal
-
-abbrev pub invariant-loop-cases : goal.invariant-loop-cases
-invariant-loop-cases l = map (λ row. row.items) l.graph.items ++ map leaves.held (meanings (drop l.cases-index l.datas)) ≡ map leaves.held (meanings l.datas)

@@ -1,6 +1,0 @@
-use Rattle.std.proofs.Common.{◌≡◌, drop}
-use Rattle.spec_decls.specs.Counts.{plain_fields}
-use Rattle.spec_decls.proofs.contents.plain_in.Given as goal
-
-abbrev pub invariant-loop-field : goal.invariant-loop-field
-invariant-loop-field l = plain_fields l.count (drop l.field-index l.fields) ≡ plain_fields l.fn.before l.fields

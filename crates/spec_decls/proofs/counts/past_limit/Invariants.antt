@@ -1,6 +1,0 @@
-use Rattle.std.proofs.Common.{◌≡◌, ◌++◌, map, drop}
-use Rattle.spec_decls.specs.Counts.{is_past}
-use Rattle.spec_decls.proofs.counts.past_limit.Given as goal
-
-abbrev pub invariant-loop-count : goal.invariant-loop-count
-invariant-loop-count l = l.large.items ++ map is_past (drop l.count-index l.counts) ≡ map is_past l.counts

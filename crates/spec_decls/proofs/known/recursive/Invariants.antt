@@ -1,9 +1,0 @@
-use Rattle.std.proofs.Common.{◌≡◌, ◌<◌, ℕ, length, get_or, false}
-use Rattle.reachability.specs.Table.{says, table}
-use Rattle.spec_decls.proofs.known.recursive.Given as goal
-
-abbrev pub invariant-loop-d : goal.invariant-loop-d
-invariant-loop-d l = record {
-  width : length l.recursive.items ≡ l.d;
-  entries : (d : ℕ) → d < l.d → get_or l.recursive.items d false ≡ says (table l.reached) d d;
-}

@@ -1,5 +1,0 @@
-use Rattle.spec_decls.proofs.States.{state_is_one}
-use Rattle.spec_decls.proofs.laws.state_is_one.Goals as goal
-
-pub returns : goal.returns
-returns c = state_is_one

@@ -1,8 +1,0 @@
-use Rattle.std.proofs.Common.{◌≡◌, ◌++◌, map, drop}
-use Rattle.tsl_parser.specs.View.{datatype}
-use Rattle.spec_decls.specs.Leaves as leaves
-use Rattle.spec_decls.specs.Views.{meanings}
-use Rattle.spec_decls.proofs.made.made.Given as goal
-
-abbrev pub invariant-loop-d : goal.invariant-loop-d
-invariant-loop-d l = meanings l.all.items ++ map (leaves.made l.names) (map (λ d. datatype d.now) (drop l.d-index l.datas)) ≡ map (leaves.made l.names) (map (λ d. datatype d.now) l.datas)

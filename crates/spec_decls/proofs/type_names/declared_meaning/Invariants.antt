@@ -1,6 +1,0 @@
-use Rattle.std.proofs.Common.{◌≡◌, map, drop}
-use Rattle.spec_decls.specs.TypeNames.{declared_named}
-use Rattle.spec_decls.proofs.type_names.declared_meaning.Given as goal
-
-abbrev pub invariant-loop-other : goal.invariant-loop-other
-invariant-loop-other l = declared_named (map (λ t. (t.0.now, t.1)) l.types) l.name ≡ declared_named (map (λ t. (t.0.now, t.1)) (drop l.other-index l.types)) l.name

@@ -1,7 +1,0 @@
-use Rattle.std.proofs.Common.{◌≡◌, ◌++◌, map, drop}
-use Rattle.tsl_parser.specs.View.{item}
-use Rattle.spec_decls.specs.TypeNames.{types_from}
-use Rattle.spec_decls.proofs.type_names.declared_types.Given as goal
-
-abbrev pub invariant-loop-item : goal.invariant-loop-item
-invariant-loop-item l = map (λ t. (t.0.now, t.1)) l.before.types.items ++ types_from l.before.datas l.before.maps (map item (drop l.item-index l.items)) ≡ types_from 0 0 (map item l.items)

@@ -1,6 +1,0 @@
-use Rattle.std.proofs.Common.{◌≡◌, ◌-◌, ◌++◌}
-use Rattle.spec_decls.specs.TypeNames.{numerals}
-use Rattle.spec_decls.proofs.type_names.widths.Given as goal
-
-abbrev pub invariant-loop-w : goal.invariant-loop-w
-invariant-loop-w l = l.texts.items ++ numerals l.w (65 - l.w) ≡ numerals 1 64

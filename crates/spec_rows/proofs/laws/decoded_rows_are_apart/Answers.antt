@@ -1,5 +1,0 @@
-use Rattle.spec_rows.proofs.Decoding.{decoded_rows_are_apart}
-use Rattle.spec_rows.proofs.laws.decoded_rows_are_apart.Goals as goal
-
-pub returns : goal.returns
-returns c = decoded_rows_are_apart

@@ -1,9 +1,0 @@
-use Rattle.std.proofs.Common.{ap₂}
-use Rattle.spec_types.specs.Views.{specification}
-use Rattle.cell_laws.proofs.Fields.{made_for}
-use Rattle.state_domain.proofs.domain.StateDomain.new.Goals as goal
-
-pub returns-clause-made : goal.returns-clause-made
-returns-clause-made g c =
-    made_for g.B.Base.algebra (record { number = c.state_number.result; fields = c.in_ok-fields_of.field-0.items }) (specification c.args.spec.now) c.requires.joins c.requires.unseen c.requires.states
-    (ap₂ (λ n fs. record { number = n; fields = fs }) c.state_number.ensures c.in_ok-fields_of.ensures)

@@ -1,9 +1,0 @@
-use Rattle.std.proofs.Common.{◌≡◌, ◌+◌, drop, map}
-use Rattle.value_laws.specs.Abs.{parts_onto}
-use Rattle.cell_laws.specs.Entry.{entry_values}
-use Rattle.abs_value.specs.View.{abs}
-use Rattle.state_domain.proofs.entry.entry_values.Given as goal
-
-abbrev pub invariant-loop-i : goal.invariant-loop-i
-invariant-loop-i g l =
-    parts_onto (map abs l.out.items) (entry_values g.B.Base.algebra l.ctx g.B.Base.CAP l.lines (l.i + 1) (drop l.i l.fields)) ≡ entry_values g.B.Base.algebra l.ctx g.B.Base.CAP l.lines 1 l.fields

@@ -1,6 +1,0 @@
-use Rattle.std.proofs.Common.{◌≡◌, ◌++◌, map, take}
-use Rattle.abs_value.specs.View.{abs}
-use Rattle.state_domain.proofs.values.copied_behind.Given as goal
-
-abbrev pub invariant-loop-value : goal.invariant-loop-value
-invariant-loop-value g l = map abs l.out.items ≡ map abs l.fn.out.items ++ map abs (take l.value-index l.values)

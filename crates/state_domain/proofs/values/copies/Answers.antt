@@ -1,6 +1,0 @@
-use Rattle.abs_value.specs.View.{abs}
-use Rattle.state_domain.proofs.Lists.{copies_alone}
-use Rattle.state_domain.proofs.values.copies.Goals as goal
-
-pub returns : goal.returns
-returns g c = copies_alone (λ v. abs v) c.in_ok-with_capacity.field-0.items c.args.values.now c.copied_behind.result c.in_ok-with_capacity.ensures.items c.copied_behind.ensures

@@ -1,7 +1,0 @@
-use Rattle.std.proofs.Common.{◌≡◌, Some}
-use Rattle.kset_base.specs.Meaning.{Fits as FitsSet}
-use Rattle.strides_base.specs.Stretch.{by_steps}
-use Rattle.strides_base.proofs.numbers.of_steps.Given as goal
-
-abbrev pub invariant-loop-i : goal.invariant-loop-i
-invariant-loop-i l = record { whole : l.set ≡ Some (by_steps l.x.lo l.x.step l.i); fits : FitsSet 16 l.w l.set }

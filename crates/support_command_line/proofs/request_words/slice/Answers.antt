@@ -1,0 +1,22 @@
+use Rattle.std.proofs.Common.{[], subst, sym}
+use Rattle.std.specs.Prelude.{Option}
+use Rattle.support_command_line.specs.Giving.{Gives}
+use Rattle.support_command_line.specs.Requests as asked
+use Rattle.support_command_line.specs.Views as seen
+use Rattle.support_command_line.proofs.Givings.{carried}
+use Rattle.support_command_line.proofs.WordsApart.{no_slice, no_slice_words, slice_of_table}
+use Rattle.support_command_line.proofs.request_words.slice.Goals as goal
+
+pub returns : goal.returns
+returns c =
+    subst (λ (found : Option asked.Request). Gives found seen.request_of c.slice_from.result)
+    (sym (slice_of_table (seen.given_of c.args.given.now) (record { ref_ptr = (0, 0); now = [] }) c.as_slice.result.now _ c.as_slice.ensures.value _ c.in-len2-up.len_at_least c.in_ok-check.ensures))
+    c.slice_from.ensures
+
+pub returns-in_err-check : goal.returns-in_err-check
+returns-in_err-check c =
+    carried _ _ seen.check_of seen.request_of c.in_err-check.field-0.0 c.from_residual.result c.in_err-check.ensures
+    (λ none. no_slice (seen.given_of c.args.given.now) (record { ref_ptr = (0, 0); now = [] }) c.as_slice.result.now _ c.as_slice.ensures.value c.in-len2-up.len_at_least none) c.from_residual.ensures.1
+
+pub returns-in_default : goal.returns-in_default
+returns-in_default c = no_slice_words (seen.given_of c.args.given.now) (record { ref_ptr = (0, 0); now = [] }) c.as_slice.result.now _ c.as_slice.ensures.value c.in_default.len_below

@@ -1,0 +1,8 @@
+use Rattle.std.proofs.Common.{◌≡◌, ◌-◌}
+use Rattle.syntax_lexer.specs.declared.token.Mark.TheVariants as m
+use Rattle.syntax_grammar.specs.ItemRules.{guard}
+use Rattle.syntax_grammar.specs.Lists.{separated, separated_from}
+use Rattle.syntax_parser.proofs.decode.guard_list.Given as goal
+
+abbrev pub invariant-loop-turn : goal.invariant-loop-turn
+invariant-loop-turn l = separated guard m.Comma l.fn.tokens ≡ separated_from guard m.Comma (l._turn-end - l._turn) l.found.items l.tokens

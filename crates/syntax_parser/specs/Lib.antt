@@ -1,0 +1,15 @@
+pub mod Nodes
+pub use Rattle.syntax_grammar.specs.Exact
+pub use Rattle.syntax_grammar.specs.FaultLines
+pub use Rattle.syntax_grammar.specs.Grammar
+pub use Rattle.syntax_grammar.specs.ItemRules
+pub use Rattle.syntax_grammar.specs.Laws
+pub use Rattle.syntax_grammar.specs.Lists
+pub use Rattle.syntax_grammar.specs.Operators
+pub use Rattle.syntax_grammar.specs.Parsing
+pub use Rattle.syntax_grammar.specs.PatternRules
+pub use Rattle.syntax_grammar.specs.State
+pub use Rattle.syntax_grammar.specs.TermRules
+pub use Rattle.syntax_grammar.specs.Tokens
+pub use Rattle.syntax_grammar.specs.Tree
+pub use Rattle.syntax_grammar.specs.View

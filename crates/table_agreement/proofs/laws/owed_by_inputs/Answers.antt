@@ -1,5 +1,0 @@
-use Rattle.table_agreement.proofs.Runs.{owed_by_inputs}
-use Rattle.table_agreement.proofs.laws.owed_by_inputs.Goals as goal
-
-pub returns : goal.returns
-returns c = owed_by_inputs

@@ -1,7 +1,0 @@
-use Rattle.std.proofs.Common.{◌≡◌, ◌++◌, drop}
-use Rattle.std.specs.String.{string_bytes}
-use Rattle.table_text.specs.Heads.{code_lines}
-use Rattle.table_text.proofs.head.push_segments.Given as goal
-
-abbrev pub invariant-loop-i : goal.invariant-loop-i
-invariant-loop-i l = string_bytes l.fn.out ++ code_lines l.image.segments ≡ string_bytes l.out ++ code_lines (drop l.i l.image.segments)

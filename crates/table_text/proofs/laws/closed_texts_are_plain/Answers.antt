@@ -1,5 +1,0 @@
-use Rattle.table_text.proofs.Plain.{closed_texts_are_plain}
-use Rattle.table_text.proofs.laws.closed_texts_are_plain.Goals as goal
-
-pub returns : goal.returns
-returns g c = closed_texts_are_plain g.T.PlainTableTexts.word_text g.T.PlainTableTexts.IsElement

@@ -1,0 +1,4 @@
+use Rattle.test_analysis_cases.proofs.analyses.begun.Given as goal
+
+abbrev pub ghosts-told : goal.ghosts-told
+ghosts-told g a = record { name = a.blank.name; parts = a.blank.parts }

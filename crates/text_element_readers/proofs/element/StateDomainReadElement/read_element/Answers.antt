@@ -1,0 +1,25 @@
+use Rattle.std.proofs.Common.{map}
+use Rattle.spec_ir.specs.Views.{specification}
+use Rattle.abstract_value_laws.specs.Abs.{parts}
+use Rattle.domain_laws.specs.States.{state_type}
+use Rattle.abstract_value.specs.View.{abs}
+use Rattle.domain_cells.specs.Views.{context_of, states_of}
+use Rattle.text_element_readers.proofs.Bodies.{cells_done, cells_fewer, cells_fit, fields_same}
+use Rattle.text_element_readers.proofs.element.StateDomainReadElement.read_element.Goals as goal
+
+pub returns-clause-reads : goal.returns-clause-reads
+returns-clause-reads g c =
+    cells_done g.B.CellBase.readings g.B.Base.CAP g.B.NamedBase.named (specification c.args.spec.now) _ c.read_cells.result (λ xs. parts (map abs xs.items)) c.read_part.result c.name.result.now c.args.lines.now c.read_part.new.lines
+    c.read_cells.new.lines c.if-not-read_part.false c.name.ensures c.read_part.ensures c.read_cells.ensures.value
+
+pub returns-clause-fits : goal.returns-clause-fits
+returns-clause-fits g c =
+    let t = states_of c.args.self.now in
+    let spec = specification c.args.spec.now in
+    cells_fit g.B.Base.algebra c.in_ok-ctx.ctx (context_of c.args.self.now) g.B.Base.CAP (state_type spec).fields t.fields c.read_cells.result (λ xs. parts (map abs xs.items)) c.in_ok-ctx.ensures.value
+    (fields_same g.B.Base.algebra t spec c.requires.made) c.read_cells.ensures.fits
+
+pub returns-clause-shorter : goal.returns-clause-shorter
+returns-clause-shorter g c =
+    cells_fewer g.B.CellBase.readings g.B.Base.CAP g.B.NamedBase.named (specification c.args.spec.now) _ c.read_cells.result (λ xs. parts (map abs xs.items)) c.read_part.result c.name.result.now c.args.lines.now c.read_part.new.lines
+    c.read_cells.new.lines c.read_part.ensures c.read_cells.ensures.value

@@ -1,0 +1,15 @@
+-- A text behind another.
+use Rattle.std.proofs.Common.{◌≡◌, ℕ, List, [], ◌++◌, if◌then◌else◌, ap, sym, subst, ◌∙◌, append_assoc}
+use Rattle.std.specs.Prelude.{OnOk, Result, Ok, Err, is_ok}
+use Rattle.text_elements.specs.Parts.{Appended}
+
+-- a part was appended behind its line
+pub appended_behind : {A F : Type 0} (r : Result A F) (Is : List ℕ → Type 0) (old mid new first second : List ℕ) → mid ≡ old ++ first → Is (first ++ second) → OnOk r (new ≡ mid ++ second) → OnOk r (Appended Is old new)
+appended_behind (Ok x) Is old mid new first second begun is put =
+    record { text = first ++ second; is = is; appended = put ∙ ap (λ (xs : List ℕ). xs ++ second) begun ∙ append_assoc old first second }
+appended_behind (Err e) Is old mid new first second begun is put = tt
+
+-- a text that was made apart is appended whole
+pub appended_whole : {A F : Type 0} (r : Result A F) (Is : List ℕ → Type 0) (old made new : List ℕ) → Appended Is [] made → new ≡ (if is_ok r then old ++ made else old) → OnOk r (Appended Is old new)
+appended_whole (Ok x) Is old made new has put = record { text = made; is = subst Is (sym has.appended) has.is; appended = put }
+appended_whole (Err e) Is old made new has put = tt

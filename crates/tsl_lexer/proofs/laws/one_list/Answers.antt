@@ -1,5 +1,0 @@
-use Rattle.tsl_lexer.proofs.Unique.{one_list}
-use Rattle.tsl_lexer.proofs.laws.one_list.Goals as goal
-
-pub returns : goal.returns
-returns c = one_list

@@ -1,7 +1,0 @@
-use Rattle.std.proofs.Common.{◌≡◌, ◌<◌, ◌++◌, List, ℕ, get_or}
-use Rattle.tsl_lexer.specs.Lexeme.{mark_text}
-use Rattle.tsl_lexer.specs.declared.token.Mark.TheVariants.{LParen}
-use Rattle.tsl_lexer.proofs.token.Mark.at_start.Given as goal
-
-abbrev pub invariant-loop-mark : goal.invariant-loop-mark
-invariant-loop-mark l = (k : ℕ) (rest : List ℕ) → k < l.mark-index → l.source ≡ mark_text (get_or l.mark-items k LParen) ++ rest → ⊥

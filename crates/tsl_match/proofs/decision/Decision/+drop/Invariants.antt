@@ -1,6 +1,0 @@
-use Rattle.std.proofs.Common.{◌≤◌}
-use Rattle.tsl_match.specs.declared.decision.Decision.{size-Decision}
-use Rattle.tsl_match.proofs.decision.Decision.+drop.Given as goal
-
-abbrev pub invariant-loop-self : goal.invariant-loop-self
-invariant-loop-self l = size-Decision l.self ≤ size-Decision l.fn.self

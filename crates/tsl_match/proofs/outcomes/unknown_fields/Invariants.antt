@@ -1,7 +1,0 @@
-use Rattle.std.proofs.Common.{◌≡◌, ◌++◌, map, drop}
-use Rattle.tsl_match.specs.Views.{knowledge}
-use Rattle.tsl_match.specs.Knowledge.{unknown}
-use Rattle.tsl_match.proofs.outcomes.unknown_fields.Given as goal
-
-abbrev pub invariant-loop-shape : goal.invariant-loop-shape
-invariant-loop-shape l = map unknown l.shapes ≡ map knowledge l.out.items ++ map unknown (drop l.shape-index l.shapes)

@@ -1,9 +1,0 @@
-use Rattle.std.proofs.Common.{◌≡◌, ◌++◌, map, drop}
-use Rattle.tsl_match.specs.Views.{knowledge}
-use Rattle.tsl_match.proofs.Changed.{changed}
-use Rattle.tsl_match.proofs.put.+put.Given as goal
-
-abbrev pub invariant-put_part-loop-i : goal.invariant-put_part-loop-i
-invariant-put_part-loop-i l =
-    map knowledge l.out.items ++ changed l.field l.at (knowledge l.there) l.i (map knowledge (drop l.i l.parts))
-    ≡ changed l.field l.at (knowledge l.there) 0 (map knowledge l.parts)

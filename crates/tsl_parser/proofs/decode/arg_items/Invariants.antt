@@ -1,8 +1,0 @@
-use Rattle.std.proofs.Common.{◌≡◌, ◌-◌}
-use Rattle.tsl_lexer.specs.declared.token.Mark.TheVariants as m
-use Rattle.tsl_syntax.specs.ItemRules.{arg}
-use Rattle.tsl_syntax.specs.Lists.{separated, separated_from}
-use Rattle.tsl_parser.proofs.decode.arg_items.Given as goal
-
-abbrev pub invariant-loop-turn : goal.invariant-loop-turn
-invariant-loop-turn l = separated arg m.Comma l.fn.tokens ≡ separated_from arg m.Comma (l._turn-end - l._turn) l.found.items l.tokens

@@ -1,5 +1,0 @@
-use Rattle.tsl_parser.proofs.Total.{total}
-use Rattle.tsl_parser.proofs.laws.one_of_three.Goals as goal
-
-pub returns : goal.returns
-returns c = total

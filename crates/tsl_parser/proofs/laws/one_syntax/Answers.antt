@@ -1,5 +1,0 @@
-use Rattle.tsl_parser.proofs.Unique.{one_syntax}
-use Rattle.tsl_parser.proofs.laws.one_syntax.Goals as goal
-
-pub returns : goal.returns
-returns c = one_syntax

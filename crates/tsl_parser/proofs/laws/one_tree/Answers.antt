@@ -1,5 +1,0 @@
-use Rattle.tsl_parser.proofs.Unique.{one_tree}
-use Rattle.tsl_parser.proofs.laws.one_tree.Goals as goal
-
-pub returns : goal.returns
-returns c = one_tree

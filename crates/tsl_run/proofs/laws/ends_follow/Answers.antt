@@ -1,5 +1,0 @@
-use Rattle.tsl_run.proofs.Ending.{ends_follow}
-use Rattle.tsl_run.proofs.laws.ends_follow.Goals as goal
-
-pub returns : goal.returns
-returns c = ends_follow

@@ -1,5 +1,0 @@
-use Rattle.tsl_run.proofs.Exact.{exact_answers}
-use Rattle.tsl_run.proofs.laws.exact_answers.Goals as goal
-
-pub returns : goal.returns
-returns c = exact_answers

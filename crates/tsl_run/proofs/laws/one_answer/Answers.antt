@@ -1,5 +1,0 @@
-use Rattle.tsl_run.proofs.Unique.{one_answer}
-use Rattle.tsl_run.proofs.laws.one_answer.Goals as goal
-
-pub returns : goal.returns
-returns c = one_answer

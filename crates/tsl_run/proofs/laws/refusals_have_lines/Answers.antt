@@ -1,5 +1,0 @@
-use Rattle.tsl_run.proofs.Lines.{refusals_have_lines}
-use Rattle.tsl_run.proofs.laws.refusals_have_lines.Goals as goal
-
-pub returns : goal.returns
-returns c = refusals_have_lines

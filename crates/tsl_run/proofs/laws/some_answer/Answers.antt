@@ -1,5 +1,0 @@
-use Rattle.tsl_run.proofs.Exists.{some_answer}
-use Rattle.tsl_run.proofs.laws.some_answer.Goals as goal
-
-pub returns : goal.returns
-returns c = some_answer

@@ -1,5 +1,0 @@
-use Rattle.tsl_types.proofs.Apart.{accepted_rows_are_apart}
-use Rattle.tsl_types.proofs.laws.accepted_rows_are_apart.Goals as goal
-
-pub returns : goal.returns
-returns c = accepted_rows_are_apart

@@ -1,6 +1,0 @@
-use Rattle.std.proofs.Common.{◌≡◌, drop}
-use Rattle.tsl_values.specs.Values.{cell_at}
-use Rattle.tsl_values.proofs.value.MapValue.cell.Given as goal
-
-abbrev pub invariant-loop-listed : goal.invariant-loop-listed
-invariant-loop-listed l = cell_at l.self.rest l.self.cells.items l.key ≡ cell_at l.self.rest (drop l.listed-index l.self.cells.items) l.key

@@ -1,5 +1,0 @@
-use Rattle.value_laws.proofs.Joining.{join_describes}
-use Rattle.value_laws.proofs.laws.join_describes.Goals as goal
-
-pub returns : goal.returns
-returns g c = join_describes g.B.Base.algebra g.met.B.Base.laws

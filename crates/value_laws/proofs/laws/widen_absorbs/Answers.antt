@@ -1,5 +1,0 @@
-use Rattle.value_laws.proofs.Widening.{widen_absorbs}
-use Rattle.value_laws.proofs.laws.widen_absorbs.Goals as goal
-
-pub returns : goal.returns
-returns g c = widen_absorbs g.B.Base.algebra g.met.B.Base.laws

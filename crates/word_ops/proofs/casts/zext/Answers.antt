@@ -1,5 +1,0 @@
-use Rattle.word_ops.proofs.Fits.{zext_of_fits}
-use Rattle.word_ops.proofs.casts.zext.Goals as goal
-
-pub returns-clause-fits : goal.returns-clause-fits
-returns-clause-fits c = zext_of_fits c.args.from c.args.to c.args.x c.requires.widens c.requires.word

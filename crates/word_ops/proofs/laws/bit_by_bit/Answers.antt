@@ -1,5 +1,0 @@
-use Rattle.word_ops.proofs.BitLaws.{bit_by_bit}
-use Rattle.word_ops.proofs.laws.bit_by_bit.Goals as goal
-
-pub returns : goal.returns
-returns c = bit_by_bit

@@ -1,5 +1,0 @@
-use Rattle.word_ops.proofs.DivisionLaws.{division_by_zero}
-use Rattle.word_ops.proofs.laws.division_by_zero.Goals as goal
-
-pub returns : goal.returns
-returns c = division_by_zero

@@ -1,5 +1,0 @@
-use Rattle.word_ops.proofs.ArithmeticLaws.{negation_undoes}
-use Rattle.word_ops.proofs.laws.negation_undoes.Goals as goal
-
-pub returns : goal.returns
-returns c = negation_undoes

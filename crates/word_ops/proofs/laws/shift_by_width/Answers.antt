@@ -1,5 +1,0 @@
-use Rattle.word_ops.proofs.ShiftLaws.{shift_by_width}
-use Rattle.word_ops.proofs.laws.shift_by_width.Goals as goal
-
-pub returns : goal.returns
-returns c = shift_by_width

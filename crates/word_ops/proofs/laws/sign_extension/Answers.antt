@@ -1,5 +1,0 @@
-use Rattle.word_ops.proofs.CastLaws.{sign_extension}
-use Rattle.word_ops.proofs.laws.sign_extension.Goals as goal
-
-pub returns : goal.returns
-returns c = sign_extension

@@ -1,5 +1,0 @@
-use Rattle.word_ops.proofs.OrderLaws.{unsigned_order}
-use Rattle.word_ops.proofs.laws.unsigned_order.Goals as goal
-
-pub returns : goal.returns
-returns c = unsigned_order

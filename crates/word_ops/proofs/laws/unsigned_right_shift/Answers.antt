@@ -1,5 +1,0 @@
-use Rattle.word_ops.proofs.ShiftLaws.{unsigned_right_shift}
-use Rattle.word_ops.proofs.laws.unsigned_right_shift.Goals as goal
-
-pub returns : goal.returns
-returns c = unsigned_right_shift

@@ -1,9 +1,0 @@
-use Rattle.value_laws.specs.Fits.{Fits}
-use Rattle.abs_value.specs.View.{abs}
-use Rattle.written_values.proofs.values.data.Given as goal
-
-abbrev pub invariant-loop-part : goal.invariant-loop-part
-invariant-loop-part g l =
-    (goal.iterator-loop-part g).can_next l.part-iterator ×
-    (goal.iterator-loop-part g).is_finite l.part-iterator ×
-    Fits g.B.Base.algebra l.ctx g.B.Base.CAP (abs l.all)
