@@ -11,9 +11,9 @@ use Rattle.semantics_values.specs.Types.{environment_of}
 use Rattle.semantics.specs.Direct.{group_of}
 use Rattle.abstract_value_laws.specs.Abs.{Abs}
 use Rattle.abstract_value_laws.specs.Calls.{join_of}
-use Rattle.abstract_value_types.specs.TypeShapes.{shape_of}
-use Rattle.abstract_value_types.proofs.Typing.{types_are_shapes}
-use Rattle.support_group_arguments.specs.Groups.{EachIs}
+use Rattle.abstract_value_laws.specs.TypeShapes.{shape_of}
+use Rattle.abstract_value_laws.proofs.Typing.{types_are_shapes}
+use Rattle.support_tail_fixpoint.specs.Groups.{EachIs}
 use Rattle.support_tail_fixpoint.specs.Answer.{Yield, gives}
 use Rattle.abstract_semantics.specs.Answers.{Answer}
 use Rattle.abstract_semantics.specs.Terms.{GroupArgs, group_turn, merge_all, params_of}
@@ -24,12 +24,12 @@ use Rattle.base_trait.specs.Uses.{Read}
 use Rattle.semantics.specs.Outcomes as o
 use Rattle.semantics.specs.Outcomes.{Outcome, ◌>>=◌ as ◌>>>>◌}
 use Rattle.semantics_values.specs.Values.{Val}
-use Rattle.abstract_value_types.proofs.Typing.{types_are_shapes}
+use Rattle.abstract_value_laws.proofs.Typing.{types_are_shapes}
 use Rattle.abstract_semantics.proofs.Meeting.{IsMet}
 use Rattle.abstract_semantics.proofs.Standing.{AllStand, Stands}
 use Rattle.std.specs.Prelude.{IsSomeAnd}
 use Rattle.semantics.specs.Tails.{Ending, again, leaf as leaf_end}
-use Rattle.semantics_core.specs.CoreDirect.{core_tail}
+use Rattle.semantics_laws.specs.CoreDirect.{core_tail}
 use Rattle.abstract_semantics.proofs.Termed.{ArgsOf, IsYield}
 use Rattle.abstract_semantics.proofs.Evaluating.{join_left, join_right}
 use Rattle.std.specs.Prelude.{Contains, All}
@@ -48,10 +48,10 @@ use Rattle.support_tail_fixpoint.proofs.Answered.{turns_are_evaluated}
 use Rattle.support_tail_fixpoint.proofs.Parts.{leaves_hold}
 use Rattle.semantics.specs.Tails.{continued}
 use Rattle.semantics_laws.specs.Accepted.{IsAccepted}
-use Rattle.semantics_core.specs.CoreDirect.{core_or_wrong, core_turns}
-use Rattle.support_group_arguments.specs.Groups.{each_absorbs}
-use Rattle.support_group_arguments.proofs.Groups.{each_absorbed, held_one, merge_each_absorbs}
-use Rattle.support_group_arguments.proofs.Somes.{both_true, left_true, right_true}
+use Rattle.semantics_laws.specs.CoreDirect.{core_or_wrong, core_turns}
+use Rattle.support_tail_fixpoint.specs.Groups.{each_absorbs}
+use Rattle.support_tail_fixpoint.proofs.Groups.{each_absorbed, held_one, merge_each_absorbs}
+use Rattle.support_tail_fixpoint.proofs.Somes.{both_true, left_true, right_true}
 use Rattle.abstract_value_laws.specs.Calls.{absorbs_of, widen_of}
 use Rattle.abstract_value_laws.specs.Shapes.{HasShape}
 use Rattle.support_tail_fixpoint.specs.Answer.{fails}

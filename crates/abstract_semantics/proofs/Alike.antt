@@ -9,10 +9,10 @@ use Rattle.spec_ir.specs.declared.ty.Ty.{Ty}
 use Rattle.spec_ir.specs.Environment.{Case, Environment}
 use Rattle.spec_ir.specs.Texts.{cases_of}
 use Rattle.std.specs.Prelude.{slice_get}
-use Rattle.semantics_core.specs.CoreTypes.{Decides, AllDecide}
+use Rattle.semantics_laws.specs.CoreTypes.{Decides, AllDecide}
 use Rattle.abstract_value_laws.specs.Abs.{Abs, Cases, no_case, absent, present}
 use Rattle.support_tail_fixpoint.specs.Answer.{fails, gives}
-use Rattle.support_group_arguments.specs.Groups.{join_some}
+use Rattle.support_tail_fixpoint.specs.Groups.{join_some}
 use Rattle.abstract_semantics.specs.Answers.{Answer, Evaluation, branch, branches, joined, joined_from, then_on, ◌>>=◌}
 use Rattle.abstract_semantics.specs.Choices.{abs_at, abs_named, arm_on, arms_present, cases_there, decided, flag_there, word_there}
 use Rattle.abstract_semantics.proofs.Kept.{IsKept}

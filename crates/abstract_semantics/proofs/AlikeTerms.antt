@@ -15,9 +15,9 @@ use Rattle.spec_ir.specs.Texts.{case_at, fields_at}
 use Rattle.spec_ir.specs.WellFormed.{IsWellFormed}
 use Rattle.semantics_values.specs.Types.{environment_of}
 use Rattle.semantics.specs.Direct.{group_of}
-use Rattle.semantics_core.specs.Places.{types_named}
-use Rattle.semantics_core.specs.CoreTypes.{HasCoreType, HaveCoreTypes, ArmHasType}
-use Rattle.semantics_core.specs.CoreCalls.{CallsBelow, AllCallBelow}
+use Rattle.semantics_laws.specs.Places.{types_named}
+use Rattle.semantics_laws.specs.CoreTypes.{HasCoreType, HaveCoreTypes, ArmHasType}
+use Rattle.semantics_laws.specs.CoreCalls.{CallsBelow, AllCallBelow}
 use Rattle.abstract_value_laws.specs.Abs.{Abs}
 use Rattle.abstract_value_laws.specs.Calls.{join_of}
 use Rattle.abstract_semantics.specs.Answers.{Answer, Evaluation, behind, ◌>>=◌}

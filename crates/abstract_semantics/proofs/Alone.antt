@@ -11,8 +11,8 @@ use Rattle.semantics.specs.Direct.{group_of}
 use Rattle.semantics_laws.specs.Accepted.{IsAccepted}
 use Rattle.semantics_laws.proofs.Turns.{FunOf, fun_of, signature_of}
 use Rattle.abstract_value_laws.specs.Abs.{Abs}
-use Rattle.support_group_arguments.specs.Groups.{only as only_of}
-use Rattle.support_group_arguments.proofs.Groups.{only_is}
+use Rattle.support_tail_fixpoint.specs.Groups.{only as only_of}
+use Rattle.support_tail_fixpoint.proofs.Groups.{only_is}
 use Rattle.support_tail_fixpoint.specs.declared.policy.Policy.{Policy}
 use Rattle.support_tail_fixpoint.specs.Activation.{HasTurn}
 use Rattle.support_tail_fixpoint.proofs.Remains.{answers_are_one}

@@ -13,14 +13,14 @@ use Rattle.spec_ir.specs.WellFormed.{IsWellFormed, is_width}
 use Rattle.semantics_values.specs.Types.{environment_of, key_count}
 use Rattle.semantics.specs.Direct.{group_at, group_of}
 use Rattle.semantics_laws.specs.Accepted.{is_key_type}
-use Rattle.semantics_core.specs.CoreTypes.{HasCoreType}
-use Rattle.semantics_core.specs.CoreCalls.{CallsInOrder}
+use Rattle.semantics_laws.specs.CoreTypes.{HasCoreType}
+use Rattle.semantics_laws.specs.CoreCalls.{CallsInOrder}
 use Rattle.abstract_value_laws.specs.Abs.{Abs}
 use Rattle.abstract_value_laws.specs.Calls.{join_of}
-use Rattle.abstract_value_types.specs.TypeShapes.{shape_of}
-use Rattle.abstract_value_types.proofs.Typing.{types_are_shapes}
-use Rattle.support_group_arguments.specs.Groups.{EachIs, only as only_of}
-use Rattle.support_group_arguments.proofs.Groups.{merge_each_kept, only_is}
+use Rattle.abstract_value_laws.specs.TypeShapes.{shape_of}
+use Rattle.abstract_value_laws.proofs.Typing.{types_are_shapes}
+use Rattle.support_tail_fixpoint.specs.Groups.{EachIs, only as only_of}
+use Rattle.support_tail_fixpoint.proofs.Groups.{merge_each_kept, only_is}
 use Rattle.support_tail_fixpoint.specs.Answer.{Yield, gives}
 use Rattle.abstract_semantics.specs.Answers.{Answer}
 use Rattle.abstract_semantics.specs.Terms.{GroupArgs, group_turn, merge_all, params_in, params_of}
@@ -43,14 +43,14 @@ use Rattle.spec_ir.specs.declared.declared.MapType.{MapType}
 use Rattle.std.specs.Prelude.{map, unwrap_or}
 use Rattle.std.proofs.Common.{option_map}
 use Rattle.std.proofs.lemmas.Option.{slice_get-map}
-use Rattle.abstract_value_types.proofs.Depths.{there}
+use Rattle.abstract_value_laws.proofs.Depths.{there}
 use Rattle.spec_ir.specs.Environment.{Data, field_types, key_of, shape_of as shape_of_type, shapes_of}
 use Rattle.spec_ir.specs.Texts.{cases_of}
 use Rattle.spec_ir.proofs.Lists.{all_at}
 use Rattle.semantics_laws.specs.Accepted.{IsAccepted, is_map}
 use Rattle.semantics_laws.proofs.Turns.{FunOf, fun_of}
-use Rattle.semantics_core.proofs.CoreTyped.{cores_have_types}
-use Rattle.semantics_core.proofs.Order.{cores_call_in_order}
+use Rattle.semantics_laws.proofs.CoreTyped.{cores_have_types}
+use Rattle.semantics_laws.proofs.Order.{cores_call_in_order}
 use Rattle.abstract_value_laws.specs.Calls.{widen_of}
 use Rattle.abstract_value_laws.proofs.Widening.{widen_fits, widen_shapes}
 use Rattle.abstract_semantics.specs.Sound.{Keeps}

@@ -13,7 +13,7 @@ use Rattle.semantics.specs.Direct.{group_of}
 use Rattle.semantics_laws.specs.Accepted.{IsAccepted}
 use Rattle.abstract_value_laws.specs.Abs.{Abs}
 use Rattle.abstract_value_laws.specs.Calls.{widen_of}
-use Rattle.support_group_arguments.specs.Groups.{EachIs, only as only_of}
+use Rattle.support_tail_fixpoint.specs.Groups.{EachIs, only as only_of}
 use Rattle.support_tail_fixpoint.specs.declared.policy.Policy.{Policy}
 use Rattle.support_tail_fixpoint.specs.Answer.{IfGives, Yield, fails, gives}
 use Rattle.support_tail_fixpoint.specs.Evaluation.{TurnsGive}

@@ -10,11 +10,11 @@ use Rattle.spec_ir.specs.declared.ty.Ty.{Ty}
 use Rattle.spec_ir.specs.declared.ty.Ty.TheVariants.{Bool as Flag, Word, Data as DataTy, Map as MapOf}
 use Rattle.spec_ir.specs.Environment.{Environment, Data, Case, field_types}
 use Rattle.spec_ir.specs.Texts.{cases_of, fields_at}
-use Rattle.semantics_core.specs.Places.{all_of, type_at, types_named}
-use Rattle.semantics_core.specs.CoreTypes.{Decides, AllDecide}
+use Rattle.semantics_laws.specs.Places.{all_of, type_at, types_named}
+use Rattle.semantics_laws.specs.CoreTypes.{Decides, AllDecide}
 use Rattle.abstract_value_laws.specs.Abs.{Abs, Cases, Parts, flag, word, made, map, no_case, absent, present, no_part, part}
 use Rattle.abstract_value_laws.specs.Fits.{Fits, CasesFit, PartsFit}
-use Rattle.abstract_value_types.specs.Types.{has_type, have_cases, have_types, of_data}
+use Rattle.abstract_value_laws.specs.Types.{has_type, have_cases, have_types, of_data}
 use Rattle.abstract_semantics.specs.Answers.{Evaluation}
 use Rattle.abstract_semantics.specs.Choices.{abs_at, abs_in, abs_part, abs_named, arm_on, arms_present, cases_there, decided, flag_there, word_there}
 use Rattle.abstract_semantics.proofs.Kept.{Keeping, AllKeeping, branch_kept, joined_kept}

@@ -20,8 +20,8 @@ use Rattle.semantics.specs.Outcomes.{Outcome}
 use Rattle.semantics.specs.Steps.{shown}
 use Rattle.semantics_values.specs.Values as v
 use Rattle.semantics_values.specs.Values.{Val, Vals}
-use Rattle.semantics_core.specs.CoreTypes.{Decides, AllDecide}
-use Rattle.semantics_core.specs.Places.{type_at}
+use Rattle.semantics_laws.specs.CoreTypes.{Decides, AllDecide}
+use Rattle.semantics_laws.specs.Places.{type_at}
 use Rattle.abstract_value_laws.specs.Abs.{Abs, Cases, flag, word, made, map, no_case, absent, present}
 use Rattle.abstract_value_laws.specs.Describes.{Describes, CaseDescribes}
 use Rattle.abstract_semantics.specs.Answers.{Evaluation, branch, joined}

@@ -17,14 +17,14 @@ use Rattle.spec_ir.specs.Texts.{case_at, fields_at}
 use Rattle.spec_ir.specs.WellFormed.{IsWellFormed}
 use Rattle.semantics_values.specs.Types.{environment_of}
 use Rattle.semantics.specs.Direct.{group_of}
-use Rattle.semantics_core.specs.Places.{types_named}
-use Rattle.semantics_core.specs.CoreTypes.{HasCoreType, HaveCoreTypes, ArmHasType}
-use Rattle.semantics_core.specs.CoreCalls.{CallsBelow, AllCallBelow}
+use Rattle.semantics_laws.specs.Places.{types_named}
+use Rattle.semantics_laws.specs.CoreTypes.{HasCoreType, HaveCoreTypes, ArmHasType}
+use Rattle.semantics_laws.specs.CoreCalls.{CallsBelow, AllCallBelow}
 use Rattle.abstract_value_laws.specs.Abs.{Abs, flag, made, map, word}
 use Rattle.abstract_value_laws.specs.Calls.{join_of}
-use Rattle.abstract_value_types.specs.OfValues.{only}
-use Rattle.abstract_value_types.specs.TypeShapes.{shape_of}
-use Rattle.abstract_value_types.proofs.Typing.{types_are_shapes}
+use Rattle.abstract_value_laws.specs.OfValues.{only}
+use Rattle.abstract_value_laws.specs.TypeShapes.{shape_of}
+use Rattle.abstract_value_laws.proofs.Typing.{types_are_shapes}
 use Rattle.support_tail_fixpoint.specs.Answer.{gives}
 use Rattle.abstract_semantics.specs.Answers.{Answer, Evaluation, behind, branch}
 use Rattle.abstract_semantics.specs.Choices.{abs_named, arm_on, flag_there}
@@ -40,18 +40,18 @@ use Rattle.base_trait.specs.Uses.{Read}
 use Rattle.abstract_semantics.specs.Sound.{IsSingle}
 use Rattle.spec_match_compiler.specs.Picks.{Choice, picks}
 use Rattle.spec_match_compiler.specs.Decisions.{Decision}
-use Rattle.semantics_core.specs.CoreTypes.{Decides}
+use Rattle.semantics_laws.specs.CoreTypes.{Decides}
 use Rattle.semantics.specs.Outcomes as o
 use Rattle.semantics.specs.Outcomes.{Outcome}
 use Rattle.semantics.specs.Steps.{is_word, shown}
 use Rattle.semantics_laws.proofs.Values.{width_to}
-use Rattle.semantics_core.specs.Places.{vals_named}
-use Rattle.semantics_core.specs.CoreDirect.{arm_picked, core_arm, core_value, core_values, with_named}
+use Rattle.semantics_laws.specs.Places.{vals_named}
+use Rattle.semantics_laws.specs.CoreDirect.{arm_picked, core_arm, core_value, core_values, with_named}
 use Rattle.spec_match_compiler.proofs.Truth.{both}
 use Rattle.semantics_values.specs.Values as v
 use Rattle.semantics_values.specs.Values.{Val, vals}
 use Rattle.abstract_value_laws.proofs.Joining.{join_describes}
-use Rattle.abstract_value_types.proofs.Typing.{types_are_shapes}
+use Rattle.abstract_value_laws.proofs.Typing.{types_are_shapes}
 use Rattle.abstract_semantics.specs.Choices.{decided}
 use Rattle.abstract_semantics.proofs.Termed.{KeysAreFine, arm_kept, join_kept, value_kept, values_kept}
 use Rattle.abstract_semantics.proofs.Meeting.{IsMet, MayFail, behind_met, bind_met, branch_met, follows_itself}

@@ -10,8 +10,8 @@ use Rattle.spec_ir.specs.Specification.{Spec, Fun}
 use Rattle.semantics_values.specs.Types.{environment_of}
 use Rattle.semantics.specs.Direct.{group_of}
 use Rattle.abstract_value_laws.specs.Abs.{Abs}
-use Rattle.support_group_arguments.specs.Groups.{EachIs, only as only_of}
-use Rattle.support_group_arguments.proofs.Groups.{only_is}
+use Rattle.support_tail_fixpoint.specs.Groups.{EachIs, only as only_of}
+use Rattle.support_tail_fixpoint.proofs.Groups.{only_is}
 use Rattle.support_tail_fixpoint.specs.Answer.{Yield, gives}
 use Rattle.abstract_semantics.specs.Answers.{Answer}
 use Rattle.abstract_semantics.specs.Terms.{GroupArgs, group_turn, params_in, params_of}
@@ -27,8 +27,8 @@ use Rattle.std.specs.Prelude.{IsSomeAnd}
 use Rattle.std.proofs.lemmas.Option.{slice_get_within}
 use Rattle.semantics.specs.Tails.{Ending, again, leaf as leaf_end}
 use Rattle.semantics_laws.proofs.Turns.{FunOf, fun_of}
-use Rattle.semantics_core.specs.CoreDirect.{core_tail}
-use Rattle.support_group_arguments.proofs.Groups.{only_holds}
+use Rattle.semantics_laws.specs.CoreDirect.{core_tail}
+use Rattle.support_tail_fixpoint.proofs.Groups.{only_holds}
 use Rattle.abstract_semantics.proofs.Termed.{ArgsOf, IsYield}
 use Rattle.std.specs.Prelude.{map as list_map}
 use Rattle.support_tail_fixpoint.specs.declared.driver_request.DriverRequest.TheVariants.{Out}
@@ -37,7 +37,7 @@ use Rattle.support_tail_fixpoint.specs.Evaluation.{IsAnswer}
 use Rattle.support_tail_fixpoint.specs.Rule.{Evaluated}
 use Rattle.semantics.specs.Tails.{continued}
 use Rattle.semantics_laws.specs.Accepted.{IsAccepted}
-use Rattle.semantics_core.specs.CoreDirect.{core_or_wrong, core_turns}
+use Rattle.semantics_laws.specs.CoreDirect.{core_or_wrong, core_turns}
 use Rattle.support_tail_fixpoint.specs.Answer.{fails}
 use Rattle.abstract_semantics.specs.Calls.{AreRight, moves}
 use Rattle.abstract_semantics.specs.Sound.{Follows, IsGood}
@@ -45,8 +45,8 @@ use Rattle.abstract_semantics.proofs.Plain.{Nothing, keeps_nothing}
 use Rattle.abstract_semantics.proofs.Called.{keys_fine, right_of, turn_gives}
 use Rattle.abstract_semantics.proofs.Turning.{AskStands, HoldsFor, LeafStands, YieldStands, group_met}
 use Rattle.semantics.specs.Direct.{run}
-use Rattle.semantics_core.specs.CoreDirect.{core_run}
-use Rattle.semantics_core.proofs.SameRuns.{cores_mean_the_same}
+use Rattle.semantics_laws.specs.CoreDirect.{core_run}
+use Rattle.semantics_laws.proofs.SameRuns.{cores_mean_the_same}
 use Rattle.abstract_value_laws.specs.Describes.{Describes}
 use Rattle.abstract_semantics.proofs.Called.{calls_kept}
 use Rattle.abstract_semantics.proofs.Plain.{are_arguments, each_nothing}

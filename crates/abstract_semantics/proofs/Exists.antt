@@ -10,7 +10,7 @@ use Rattle.semantics_laws.specs.Accepted.{IsAccepted}
 use Rattle.abstract_value_laws.specs.Abs.{parts}
 use Rattle.abstract_value_laws.specs.Shapes.{ListsStamps}
 use Rattle.abstract_value_laws.proofs.Widening.{widen_lists}
-use Rattle.support_group_arguments.specs.Groups.{EachIs, only as only_of}
+use Rattle.support_tail_fixpoint.specs.Groups.{EachIs, only as only_of}
 use Rattle.support_tail_fixpoint.specs.declared.policy.Policy.TheVariants.{Stop, Widen}
 use Rattle.support_tail_fixpoint.proofs.Ending.{stopped_answers_exist, widened_answers_exist}
 use Rattle.abstract_semantics.specs.Calls.{moves}

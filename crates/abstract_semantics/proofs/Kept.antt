@@ -4,7 +4,7 @@ use Rattle.std.specs.Prelude.{IfSome}
 use Rattle.base_trait.specs.Uses.{Seen, Read, AreCovering}
 use Rattle.base_trait.specs.declared.tri.Tri.{Tri}
 use Rattle.support_tail_fixpoint.specs.Answer.{fails, gives}
-use Rattle.support_group_arguments.specs.Groups.{join_some}
+use Rattle.support_tail_fixpoint.specs.Groups.{join_some}
 use Rattle.abstract_semantics.specs.Answers.{Answer, Evaluation, behind, branch, branches, joined, joined_from, then_on, ◌>>=◌}
 use Rattle.abstract_semantics.specs.Sound.{Keeps}
 

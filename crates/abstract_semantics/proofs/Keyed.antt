@@ -14,7 +14,7 @@ use Rattle.spec_ir.specs.Texts.{cases_of}
 use Rattle.semantics_values.specs.Types.{key_count}
 use Rattle.semantics_laws.specs.Accepted.{is_key_type}
 use Rattle.abstract_value_laws.specs.Abs.{Abs, Cases, word, made, no_case, absent, present}
-use Rattle.abstract_value_types.specs.Types.{have_cases}
+use Rattle.abstract_value_laws.specs.Types.{have_cases}
 use Rattle.abstract_semantics.specs.Keys.{all_listed, case_keys, cases_from, exact_or, keys_of}
 use Rattle.abstract_semantics.proofs.Typed.{IsOf, word_there, made_there}
 

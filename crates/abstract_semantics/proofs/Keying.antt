@@ -23,7 +23,7 @@ use Rattle.semantics_values.specs.Values as v
 use Rattle.semantics_values.specs.Values.{Val, Vals}
 use Rattle.abstract_value_laws.specs.Abs.{Abs, Cases, Parts, word, made, no_case, absent, present, no_part, part}
 use Rattle.abstract_value_laws.specs.Describes.{CaseDescribes, PartsDescribe}
-use Rattle.abstract_value_types.specs.Types.{have_cases, have_types}
+use Rattle.abstract_value_laws.specs.Types.{have_cases, have_types}
 use Rattle.abstract_semantics.specs.Keys.{all_listed, case_keys, cases_from, exact_or, keys_of, named_key}
 use Rattle.abstract_semantics.specs.Sound.{IsSingleCase, AreAbsent}
 use Rattle.abstract_semantics.proofs.Typed.{IsOf, IsWord, IsMade, word_there, made_there}

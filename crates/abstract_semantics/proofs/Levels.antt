@@ -18,9 +18,9 @@ use Rattle.semantics_laws.proofs.Turns.{signature_of}
 use Rattle.abstract_value_laws.specs.Abs.{Abs, parts}
 use Rattle.abstract_value_laws.specs.Shapes.{ListsStamps}
 use Rattle.abstract_value_laws.proofs.Widening.{widen_lists}
-use Rattle.abstract_value_types.specs.Types.{have_types}
-use Rattle.support_group_arguments.specs.Groups.{EachIs, only as only_of}
-use Rattle.support_group_arguments.proofs.Groups.{only_is}
+use Rattle.abstract_value_laws.specs.Types.{have_types}
+use Rattle.support_tail_fixpoint.specs.Groups.{EachIs, only as only_of}
+use Rattle.support_tail_fixpoint.proofs.Groups.{only_is}
 use Rattle.support_tail_fixpoint.specs.declared.policy.Policy.{Policy}
 use Rattle.support_tail_fixpoint.specs.Answer.{gives}
 use Rattle.abstract_semantics.specs.Answers.{Answer}

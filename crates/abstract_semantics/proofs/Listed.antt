@@ -17,7 +17,7 @@ use Rattle.abstract_value_laws.specs.Abs.{Abs, Cases, Parts, flag, word, made, m
 use Rattle.abstract_value_laws.specs.Shapes.{CasesList, ListsStamps, PartsList}
 use Rattle.abstract_value_laws.proofs.Joining.{join_lists}
 use Rattle.abstract_value_laws.proofs.Widening.{widen_lists}
-use Rattle.abstract_value_types.specs.OfValues.{absent_onto, case_count, one_case}
+use Rattle.abstract_value_laws.specs.OfValues.{absent_onto, case_count, one_case}
 use Rattle.support_tail_fixpoint.specs.Answer.{IfGives, fails, gives}
 use Rattle.abstract_semantics.specs.Answers.{Answer}
 use Rattle.abstract_semantics.specs.Choices.{abs_at, abs_in, abs_part}

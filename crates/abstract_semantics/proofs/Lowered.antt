@@ -13,11 +13,11 @@ use Rattle.abstract_value_laws.specs.Calls.{absorbs_of, widen_of}
 use Rattle.abstract_value_laws.specs.Shapes.{HasShape, ListsStamps, rank_of}
 use Rattle.abstract_value_laws.proofs.Ranks.{rank_height, widen_falls}
 use Rattle.abstract_value_laws.proofs.Widening.{widen_keeps}
-use Rattle.abstract_value_types.specs.TypeShapes.{shape_of}
-use Rattle.abstract_value_types.proofs.Typing.{types_are_shapes}
-use Rattle.support_group_arguments.specs.Groups.{EachIs}
-use Rattle.support_group_arguments.specs.Ranks.{RanksFall}
-use Rattle.support_group_arguments.proofs.Ranks.{group_ranks_fall}
+use Rattle.abstract_value_laws.specs.TypeShapes.{shape_of}
+use Rattle.abstract_value_laws.proofs.Typing.{types_are_shapes}
+use Rattle.support_tail_fixpoint.specs.Groups.{EachIs}
+use Rattle.support_tail_fixpoint.specs.Ranks.{RanksFall}
+use Rattle.support_tail_fixpoint.proofs.Ranks.{group_ranks_fall}
 use Rattle.support_tail_fixpoint.specs.Fitting.{WideningLowersRank}
 use Rattle.abstract_semantics.specs.Calls.{all_absorb, list_moves, moves}
 use Rattle.abstract_semantics.specs.Ranks.{args_height, args_rank, group_rank}

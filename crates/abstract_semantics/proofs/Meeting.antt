@@ -7,7 +7,7 @@ use Rattle.base_trait.specs.declared.tri.Tri.{Tri}
 use Rattle.semantics.specs.Outcomes as v
 use Rattle.semantics.specs.Outcomes.{Outcome, ◌>>=◌ as ◌>>>◌}
 use Rattle.support_tail_fixpoint.specs.Answer.{fails, gives}
-use Rattle.support_group_arguments.specs.Groups.{join_some}
+use Rattle.support_tail_fixpoint.specs.Groups.{join_some}
 use Rattle.abstract_semantics.specs.Answers.{Answer, Evaluation, behind, branch, joined, joined_from, then_on, ◌>>=◌}
 use Rattle.abstract_semantics.specs.Sound.{Keeps, Follows, IsGood, IsSound, IsExact}
 use Rattle.abstract_semantics.proofs.Kept.{IsKept, Keeping, AllKeeping, covering_right, keeps_itself, keeps_more, keeps_on}

@@ -17,7 +17,7 @@ use Rattle.semantics_laws.proofs.Turns.{signature_of}
 use Rattle.abstract_value_laws.specs.Abs.{Abs, parts}
 use Rattle.abstract_value_laws.specs.Calls.{widen_of}
 use Rattle.abstract_value_laws.specs.Fits.{PartsFit}
-use Rattle.abstract_value_types.specs.Types.{has_type, have_types}
+use Rattle.abstract_value_laws.specs.Types.{has_type, have_types}
 use Rattle.support_tail_fixpoint.specs.declared.policy.Policy.{Policy}
 use Rattle.support_tail_fixpoint.specs.declared.policy.Policy.TheVariants.{Widen}
 use Rattle.support_tail_fixpoint.specs.Answer.{IfGives, Succeeds, fails, gives}

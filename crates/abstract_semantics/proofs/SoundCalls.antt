@@ -8,8 +8,8 @@ use Rattle.spec_ir.specs.Specification.{Spec, Fun}
 use Rattle.semantics_values.specs.Types.{environment_of}
 use Rattle.semantics.specs.Direct.{group_of}
 use Rattle.abstract_value_laws.specs.Abs.{Abs, parts}
-use Rattle.support_group_arguments.specs.Groups.{only as only_of}
-use Rattle.support_group_arguments.proofs.Groups.{only_is}
+use Rattle.support_tail_fixpoint.specs.Groups.{only as only_of}
+use Rattle.support_tail_fixpoint.proofs.Groups.{only_is}
 use Rattle.support_tail_fixpoint.specs.Answer.{gives}
 use Rattle.abstract_semantics.specs.Answers.{Answer}
 use Rattle.abstract_semantics.specs.Terms.{group_turn, params_in, params_of}
@@ -23,19 +23,19 @@ use Rattle.abstract_semantics.proofs.Meeting.{IsMet}
 use Rattle.abstract_semantics.proofs.Standing.{AllStand, Stands}
 use Rattle.std.proofs.lemmas.Option.{slice_get_within}
 use Rattle.semantics_laws.proofs.Turns.{FunOf, fun_of}
-use Rattle.support_group_arguments.proofs.Groups.{only_holds}
+use Rattle.support_tail_fixpoint.proofs.Groups.{only_holds}
 use Rattle.abstract_semantics.proofs.Termed.{ArgsOf}
 use Rattle.support_tail_fixpoint.specs.declared.policy.Policy.TheVariants.{Widen}
 use Rattle.support_tail_fixpoint.specs.Evaluation.{IsAnswer}
 use Rattle.semantics_laws.specs.Accepted.{IsAccepted}
-use Rattle.semantics_core.specs.CoreDirect.{core_turns}
+use Rattle.semantics_laws.specs.CoreDirect.{core_turns}
 use Rattle.support_tail_fixpoint.specs.Answer.{fails}
 use Rattle.abstract_semantics.specs.Calls.{AreRight, moves}
 use Rattle.abstract_semantics.proofs.Plain.{Nothing, keeps_nothing}
 use Rattle.abstract_semantics.proofs.Called.{none_fails}
 use Rattle.semantics.specs.Direct.{run}
-use Rattle.semantics_core.specs.CoreDirect.{core_run}
-use Rattle.semantics_core.proofs.SameRuns.{cores_mean_the_same}
+use Rattle.semantics_laws.specs.CoreDirect.{core_run}
+use Rattle.semantics_laws.proofs.SameRuns.{cores_mean_the_same}
 use Rattle.abstract_value_laws.specs.Describes.{Describes, PartsDescribe}
 use Rattle.abstract_semantics.specs.Laws.{CallsAreSound}
 use Rattle.abstract_semantics.specs.Sound.{AreSingle}

@@ -8,7 +8,7 @@ use Rattle.spec_match_compiler.specs.Values.{Place, Value, value_at, part_at}
 use Rattle.semantics.specs.Steps.{shown, all_shown}
 use Rattle.semantics_values.specs.Values as v
 use Rattle.semantics_values.specs.Values.{Val, Vals}
-use Rattle.semantics_core.specs.Places.{val_at, val_in, vals_named}
+use Rattle.semantics_laws.specs.Places.{val_at, val_in, vals_named}
 use Rattle.abstract_value_laws.specs.Abs.{Abs, Cases, Parts, flag, word, made, map, no_case, absent, present, no_part, part}
 use Rattle.abstract_value_laws.specs.Describes.{Describes, CaseDescribes, PartsDescribe}
 use Rattle.abstract_semantics.specs.Choices.{abs_at, abs_in, abs_part, abs_named}

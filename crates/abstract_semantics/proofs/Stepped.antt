@@ -31,8 +31,8 @@ use Rattle.semantics_laws.specs.Accepted.{is_key_type}
 use Rattle.abstract_value_laws.specs.Abs.{Abs, Parts, flag, word, made, map, no_case, parts}
 use Rattle.abstract_value_laws.specs.Calls.{join_of}
 use Rattle.abstract_value_laws.specs.Fits.{CasesFit, PartsFit}
-use Rattle.abstract_value_types.specs.OfValues.{absent_onto, case_count, one_case}
-use Rattle.abstract_value_types.specs.Types.{has_type, have_cases, have_types, of_data}
+use Rattle.abstract_value_laws.specs.OfValues.{absent_onto, case_count, one_case}
+use Rattle.abstract_value_laws.specs.Types.{has_type, have_cases, have_types, of_data}
 use Rattle.support_tail_fixpoint.specs.Answer.{gives}
 use Rattle.abstract_semantics.specs.Choices.{abs_at}
 use Rattle.abstract_semantics.specs.Keys.{is_keyed, keys_of}

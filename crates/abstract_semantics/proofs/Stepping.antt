@@ -39,7 +39,7 @@ use Rattle.semantics_values.specs.Values as v
 use Rattle.semantics_values.specs.Values.{Val, Vals, cell_at, put_cell, vals}
 use Rattle.abstract_value_laws.specs.Abs.{Abs, Parts, flag, word, made, map, no_case, parts}
 use Rattle.abstract_value_laws.specs.Describes.{CaseDescribes, PartsDescribe, held_at}
-use Rattle.abstract_value_types.specs.OfValues.{absent_onto, case_count, one_case}
+use Rattle.abstract_value_laws.specs.OfValues.{absent_onto, case_count, one_case}
 use Rattle.support_tail_fixpoint.specs.Answer.{gives}
 use Rattle.abstract_semantics.specs.Keys.{is_keyed, keys_of, named_key}
 use Rattle.abstract_semantics.specs.Sound.{AreSingle, AreAbsent, IsSingle, IsSingleCase, Covered}

@@ -17,18 +17,18 @@ use Rattle.semantics_values.specs.Types.{environment_of, key_count}
 use Rattle.semantics.specs.Direct.{group_of}
 use Rattle.semantics.specs.Steps.{is_word}
 use Rattle.semantics_laws.specs.Accepted.{is_key_type}
-use Rattle.semantics_core.specs.Places.{types_named}
-use Rattle.semantics_core.specs.CoreTypes.{HasCoreType, HaveCoreTypes, ArmHasType}
-use Rattle.semantics_core.specs.CoreCalls.{CallsBelow, AllCallBelow}
+use Rattle.semantics_laws.specs.Places.{types_named}
+use Rattle.semantics_laws.specs.CoreTypes.{HasCoreType, HaveCoreTypes, ArmHasType}
+use Rattle.semantics_laws.specs.CoreCalls.{CallsBelow, AllCallBelow}
 use Rattle.abstract_value_laws.specs.Abs.{Abs}
 use Rattle.abstract_value_laws.specs.Calls.{join_of}
 use Rattle.abstract_value_laws.proofs.Joining.{join_fits, join_shapes}
-use Rattle.abstract_value_types.specs.OfValues.{only}
-use Rattle.abstract_value_types.specs.TypeShapes.{shape_of}
-use Rattle.abstract_value_types.proofs.Typing.{types_are_shapes}
-use Rattle.support_group_arguments.specs.Groups.{EachIs, merge_each}
-use Rattle.support_group_arguments.proofs.Groups.{merge_each_kept}
-use Rattle.support_group_arguments.proofs.Somes.{some_kept}
+use Rattle.abstract_value_laws.specs.OfValues.{only}
+use Rattle.abstract_value_laws.specs.TypeShapes.{shape_of}
+use Rattle.abstract_value_laws.proofs.Typing.{types_are_shapes}
+use Rattle.support_tail_fixpoint.specs.Groups.{EachIs, merge_each}
+use Rattle.support_tail_fixpoint.proofs.Groups.{merge_each_kept}
+use Rattle.support_tail_fixpoint.proofs.Somes.{some_kept}
 use Rattle.support_tail_fixpoint.specs.Answer.{Yield}
 use Rattle.abstract_semantics.specs.Answers.{Answer, Evaluation}
 use Rattle.abstract_semantics.specs.Choices.{abs_named, arm_on, flag_there}

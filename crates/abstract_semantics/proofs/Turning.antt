@@ -16,13 +16,13 @@ use Rattle.spec_ir.specs.Specification.{Spec, Fun}
 use Rattle.spec_ir.specs.WellFormed.{IsWellFormed}
 use Rattle.semantics_values.specs.Types.{environment_of}
 use Rattle.semantics.specs.Direct.{group_of}
-use Rattle.semantics_core.specs.Places.{types_named}
-use Rattle.semantics_core.specs.CoreTypes.{HasCoreType, ArmHasType}
-use Rattle.semantics_core.specs.CoreCalls.{CallsBelow, CallsInOrder, AllCallInOrder}
+use Rattle.semantics_laws.specs.Places.{types_named}
+use Rattle.semantics_laws.specs.CoreTypes.{HasCoreType, ArmHasType}
+use Rattle.semantics_laws.specs.CoreCalls.{CallsBelow, CallsInOrder, AllCallInOrder}
 use Rattle.abstract_value_laws.specs.Abs.{Abs, flag, made, map, word, parts}
 use Rattle.abstract_value_laws.specs.Calls.{join_of}
-use Rattle.abstract_value_types.specs.Types.{have_types}
-use Rattle.support_group_arguments.specs.Groups.{EachIs, merge_each, only as only_of}
+use Rattle.abstract_value_laws.specs.Types.{have_types}
+use Rattle.support_tail_fixpoint.specs.Groups.{EachIs, merge_each, only as only_of}
 use Rattle.support_tail_fixpoint.specs.Answer.{Yield, gives}
 use Rattle.abstract_semantics.specs.Answers.{Answer, Evaluation, behind, branch}
 use Rattle.abstract_semantics.specs.Choices.{abs_named, arm_on, flag_there}
@@ -34,12 +34,12 @@ use Rattle.abstract_semantics.proofs.Chosen.{named_kept}
 use Rattle.base_trait.specs.Uses.{Read}
 use Rattle.spec_match_compiler.specs.Picks.{Choice, picks}
 use Rattle.spec_match_compiler.specs.Decisions.{Decision}
-use Rattle.semantics_core.specs.CoreTypes.{Decides}
+use Rattle.semantics_laws.specs.CoreTypes.{Decides}
 use Rattle.semantics.specs.Outcomes as o
 use Rattle.semantics.specs.Outcomes.{Outcome, ◌>>=◌ as ◌>>>>◌}
 use Rattle.semantics.specs.Steps.{shown}
-use Rattle.semantics_core.specs.Places.{vals_named}
-use Rattle.semantics_core.specs.CoreDirect.{arm_picked, core_value, core_values, with_named}
+use Rattle.semantics_laws.specs.Places.{vals_named}
+use Rattle.semantics_laws.specs.CoreDirect.{arm_picked, core_value, core_values, with_named}
 use Rattle.semantics_values.specs.Values as v
 use Rattle.semantics_values.specs.Values.{Val, vals}
 use Rattle.abstract_semantics.specs.Choices.{decided}
@@ -51,10 +51,10 @@ use Rattle.std.specs.Prelude.{IsSomeAnd}
 use Rattle.std.proofs.lemmas.Option.{same_Some as some_same}
 use Rattle.semantics.specs.Tails.{Ending, again, ends, leaf as leaf_end}
 use Rattle.semantics_laws.proofs.Turns.{fun_of}
-use Rattle.semantics_core.specs.CoreDirect.{called as core_called, core_tail, core_tail_arm}
-use Rattle.support_group_arguments.specs.Groups.{held}
-use Rattle.support_group_arguments.proofs.Groups.{each_left, each_right, only_holds}
-use Rattle.support_group_arguments.proofs.Somes.{some_left, some_right}
+use Rattle.semantics_laws.specs.CoreDirect.{called as core_called, core_tail, core_tail_arm}
+use Rattle.support_tail_fixpoint.specs.Groups.{held}
+use Rattle.support_tail_fixpoint.proofs.Groups.{each_left, each_right, only_holds}
+use Rattle.support_tail_fixpoint.proofs.Somes.{some_left, some_right}
 use Rattle.abstract_semantics.proofs.Termed.{ArgsOf, IsYield, yields_joined}
 use Rattle.abstract_semantics.proofs.Turned.{bodies_kept, body_kept, turn_arm_kept, turn_kept}
 use Rattle.abstract_semantics.proofs.Meeting.{Has, IsOne, joined_met}

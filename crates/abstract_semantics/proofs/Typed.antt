@@ -16,7 +16,7 @@ use Rattle.spec_ir.specs.WellFormed.{is_type}
 use Rattle.semantics_laws.proofs.Values.{width_to}
 use Rattle.abstract_value_laws.specs.Abs.{Abs, Cases, flag, word, made, map, parts}
 use Rattle.abstract_value_laws.specs.Fits.{Fits, CasesFit, PartsFit}
-use Rattle.abstract_value_types.specs.Types.{has_width, of_data, has_type, have_cases, have_types}
+use Rattle.abstract_value_laws.specs.Types.{has_width, of_data, has_type, have_cases, have_types}
 
 module _ {W N C : Type 0} (B : Algebra W N C) (c : C) (cap : ℕ) (env : Environment) (P : Abs W N → Type 0) where
   -- The value has the type, its words fit, and P holds of it.

@@ -4,7 +4,7 @@ use Rattle.base_trait.specs.Uses.{Seen}
 use Rattle.base_trait.specs.declared.tri.Tri.{Tri}
 use Rattle.support_tail_fixpoint.specs.Answer as r
 use Rattle.support_tail_fixpoint.specs.Answer.{fails, gives}
-use Rattle.support_group_arguments.specs.Groups.{join_some}
+use Rattle.support_tail_fixpoint.specs.Groups.{join_some}
 
 -- The failure is the number of the function that an activation began with which had no turn left.
 abbrev pub Answer : Type 0 → Type 0

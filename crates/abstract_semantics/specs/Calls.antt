@@ -11,9 +11,9 @@ use Rattle.semantics.specs.Direct.{group_of}
 use Rattle.abstract_value_laws.specs.Abs.{Abs, parts}
 use Rattle.abstract_value_laws.specs.Calls.{join_of, widen_of, absorbs_of}
 use Rattle.abstract_value_laws.specs.Fits.{PartsFit}
-use Rattle.abstract_value_types.specs.Types.{have_types}
+use Rattle.abstract_value_laws.specs.Types.{have_types}
 use Rattle.abstract_semantics.specs.Answers.{Answer}
-use Rattle.support_group_arguments.specs.Groups.{group_moves, only}
+use Rattle.support_tail_fixpoint.specs.Groups.{group_moves, only}
 use Rattle.abstract_semantics.specs.Terms.{GroupArgs, params_of, merge_all, group_turn}
 
 abbrev pub all_absorb : {A : Type 0} → (A → A → Bool) → List A → List A → Bool

@@ -5,7 +5,7 @@ use Rattle.base_trait.specs.Algebra.{Algebra}
 use Rattle.base_trait.specs.declared.tri.Tri.{Tri}
 use Rattle.spec_match_compiler.specs.Values.{Place}
 use Rattle.spec_match_compiler.specs.Decisions.{Decision, Decisions, row, on_case, on_word, on_flag, tree_then}
-use Rattle.semantics_core.specs.Places.{all_of}
+use Rattle.semantics_laws.specs.Places.{all_of}
 use Rattle.abstract_value_laws.specs.Abs.{Abs, Cases, Parts, flag, word, made, no_case, absent, present, no_part, part}
 use Rattle.support_tail_fixpoint.specs.Answer.{gives}
 use Rattle.abstract_semantics.specs.Answers.{Evaluation, branch, joined}

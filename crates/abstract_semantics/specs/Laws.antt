@@ -18,7 +18,7 @@ use Rattle.abstract_value_laws.specs.Abs.{Abs, parts}
 use Rattle.abstract_value_laws.specs.Describes.{Describes, PartsDescribe}
 use Rattle.abstract_value_laws.specs.Fits.{Fits}
 use Rattle.abstract_value_laws.specs.Shapes.{ListsStamps, PartsList}
-use Rattle.abstract_value_types.specs.Types.{has_type}
+use Rattle.abstract_value_laws.specs.Types.{has_type}
 use Rattle.abstract_semantics.specs.Answers.{Answer}
 use Rattle.abstract_semantics.specs.Calls.{AreArguments, AreRight}
 use Rattle.abstract_semantics.specs.Sound.{AreSingle, IsExact, IsSound}

@@ -1,6 +1,10 @@
+pub mod CallAnswers
+pub mod CallLaws
+pub mod GroupRanks
 pub mod Answers
 pub mod Calls
 pub mod Choices
+pub mod Driven
 pub mod Keys
 pub mod Laws
 pub mod OwnStamps

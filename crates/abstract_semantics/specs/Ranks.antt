@@ -7,8 +7,8 @@ use Rattle.spec_ir.specs.Specification.{Spec}
 use Rattle.semantics_values.specs.Types.{environment_of}
 use Rattle.abstract_value_laws.specs.Abs.{Abs}
 use Rattle.abstract_value_laws.specs.Shapes.{height_of, rank_of}
-use Rattle.abstract_value_types.specs.TypeShapes.{shape_of}
-use Rattle.support_group_arguments.specs.Ranks.{ranks}
+use Rattle.abstract_value_laws.specs.TypeShapes.{shape_of}
+use Rattle.support_tail_fixpoint.specs.Ranks.{ranks}
 use Rattle.abstract_semantics.specs.Terms.{GroupArgs, params_of}
 
 module _ {W N C : Type 0} (B : Algebra W N C) (c : C) (cap : ℕ) (spec : Spec) (stamps : List Stamp) where

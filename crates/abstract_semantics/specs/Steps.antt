@@ -13,7 +13,7 @@ use Rattle.spec_ir.specs.declared.term.CastKind.{CastKind}
 use Rattle.spec_ir.specs.Environment.{Environment}
 use Rattle.semantics.specs.Steps.{casts}
 use Rattle.abstract_value_laws.specs.Abs.{Abs, flag, word, made, map, parts}
-use Rattle.abstract_value_types.specs.OfValues.{case_count, one_case}
+use Rattle.abstract_value_laws.specs.OfValues.{case_count, one_case}
 use Rattle.support_tail_fixpoint.specs.Answer.{gives}
 use Rattle.abstract_semantics.specs.Answers.{Answer}
 use Rattle.abstract_semantics.specs.Keys.{is_keyed, keys_of, named_key}

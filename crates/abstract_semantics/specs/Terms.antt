@@ -11,10 +11,10 @@ use Rattle.semantics.specs.Direct.{group_of}
 use Rattle.semantics.specs.Steps.{is_word}
 use Rattle.abstract_value_laws.specs.Abs.{Abs, flag, word, parts}
 use Rattle.abstract_value_laws.specs.Calls.{join_of}
-use Rattle.abstract_value_types.specs.OfValues.{only}
-use Rattle.abstract_value_types.specs.Types.{have_types}
+use Rattle.abstract_value_laws.specs.OfValues.{only}
+use Rattle.abstract_value_laws.specs.Types.{have_types}
 use Rattle.support_tail_fixpoint.specs.Answer.{Yield, gives}
-use Rattle.support_group_arguments.specs.Groups.{join_some, only as only_of, merge_each}
+use Rattle.support_tail_fixpoint.specs.Groups.{join_some, only as only_of, merge_each}
 use Rattle.abstract_semantics.specs.Answers.{Answer, Evaluation, behind, branch, joined, ◌>>=◌}
 use Rattle.abstract_semantics.specs.Steps.{accessed, binary, compared, made_of, resized, unary, updated}
 use Rattle.abstract_semantics.specs.Choices.{decided, flag_there}

@@ -2,6 +2,8 @@
 
 ghost use Rattle.std.specs.Prelude.{IsTrue};
 ghost use Rattle.abstract_semantics.specs.Laws.{CallsAreSettled, CallsAreSound, CallsAreTheMeaning, CallsKeepTypes, CallsListStamps, StoppedCallsExist, WidenedCallsExist, WidenedCallsSucceed};
+ghost use Rattle.abstract_semantics.specs.CallLaws.{AnswersAreRight, AnswersAreTheOne};
+ghost use Rattle.abstract_semantics.specs.GroupRanks.{RanksCount};
 
 use base_trait::Base;
 
@@ -43,4 +45,19 @@ pub fn widened_calls_succeed<B: Base>()
 /// Values of calls list the stamps of arguments and that of the instruction alone.
 pub fn calls_list_stamps<B: Base>()
     ensures { CallsListStamps B.algebra }
+{}
+
+/// Of an accepted specification, the answers of calls are its reinterpretation.
+pub fn answers_are_right<B: Base>()
+    ensures { AnswersAreRight B.algebra }
+{}
+
+/// And any reinterpretation gives these, on arguments of the parameters' types that fit.
+pub fn answers_are_the_one<B: Base>()
+    ensures { AnswersAreTheOne B.algebra }
+{}
+
+/// An accepted specification is accepted by the depths of its groups.
+pub fn ranks_count()
+    ensures { RanksCount }
 {}

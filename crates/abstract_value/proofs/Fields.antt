@@ -4,7 +4,7 @@ use Rattle.std.specs.Prelude.{◌&&◌}
 use Rattle.spec_ir.specs.declared.ty.Ty.{Ty}
 use Rattle.spec_ir.specs.Environment.{Case, Environment}
 use Rattle.abstract_value_laws.specs.Abs.{Cases, Parts, case_onto, cases, parts}
-use Rattle.abstract_value_types.specs.Types.{has_case, has_type, have_cases, have_types}
+use Rattle.abstract_value_laws.specs.Types.{has_case, has_type, have_cases, have_types}
 use Rattle.abstract_value.specs.View.{abs, case_of}
 use Rattle.abstract_value.specs.declared.value.AbstractValue.{AbstractValue}
 use Rattle.abstract_value.proofs.Both.{IsBoth}

@@ -18,9 +18,9 @@ use Rattle.semantics_values.specs.Values as v
 use Rattle.semantics_values.specs.Values.{Val}
 use Rattle.semantics_values.specs.Views.{val, val_step}
 use Rattle.abstract_value_laws.specs.Abs.{Parts, absent, cases, map as map_abs, no_case, part, parts, parts_onto, present, word}
-use Rattle.abstract_value_types.specs.OfValues.{MapFits, ValueFits, ValuesFit, absent_onto, case_count, cell_of, cells_of, map_at, of_value, of_values, one_case}
-use Rattle.abstract_value_types.specs.TypeShapes.{width_of}
-use Rattle.abstract_value_types.proofs.Concrete.{before, same_keys}
+use Rattle.abstract_value_laws.specs.OfValues.{MapFits, ValueFits, ValuesFit, absent_onto, case_count, cell_of, cells_of, map_at, of_value, of_values, one_case}
+use Rattle.abstract_value_laws.specs.TypeShapes.{width_of}
+use Rattle.abstract_value_laws.proofs.Concrete.{before, same_keys}
 use Rattle.abstract_map.specs.Unfolded.{FitsUnfolded}
 use Rattle.abstract_value.specs.View.{abs, case_of}
 use Rattle.abstract_value.specs.declared.value.AbstractValue as a

@@ -6,10 +6,10 @@ ghost use Rattle.semantics_values.specs.Types.{environment_of};
 ghost use Rattle.semantics_values.specs.Views.{val};
 ghost use Rattle.abstract_value_laws.specs.Calls.{absorbs_of, join_of, widen_of};
 ghost use Rattle.abstract_value_laws.specs.Fits.{Fits};
-ghost use Rattle.abstract_value_types.specs.OfValues as of;
-ghost use Rattle.abstract_value_types.specs.OfValues.{ValueFits};
-ghost use Rattle.abstract_value_types.specs.Ranks.{leaf_rank};
-ghost use Rattle.abstract_value_types.specs.Types as types;
+ghost use Rattle.abstract_value_laws.specs.OfValues as of;
+ghost use Rattle.abstract_value_laws.specs.OfValues.{ValueFits};
+ghost use Rattle.abstract_value_laws.specs.Ranks.{leaf_rank};
+ghost use Rattle.abstract_value_laws.specs.Types as types;
 ghost use Rattle.abstract_value.specs.View.{abs};
 ghost use Rattle.abstract_value.specs.Ways.{merged};
 

@@ -1,4 +1,4 @@
-//! Laws of the type of values. Those of plain values are in `abstract_value_laws` and `abstract_value_types`. Nothing runs.
+//! Laws of the type of values. Those of plain values are in `abstract_value_laws` and `abstract_value_laws`. Nothing runs.
 
 ghost use Rattle.abstract_value.specs.Same.{TellsViews};
 

@@ -6,7 +6,7 @@
 //! words, `Some({1, 2}) or None` is `{ None: present, Some: [{1, 2}] }`.
 //!
 //! Contracts see a value as the plain one of `abstract_value_laws`, by the view `abs` (specs/View), and each call gives what is
-//! defined there or in `abstract_value_types`, over any base. So the laws of plain values hold of each call: joins and widenings
+//! defined there or in `abstract_value_laws`, over any base. So the laws of plain values hold of each call: joins and widenings
 //! describe both sides, what absorbs describes all that the other does, and widening ends.
 //!
 //! *Joining.* `{ None: present }` and `{ Some: [{1}] }` join to `{ None: present, Some: [{1}] }`, and `{ Some: [{1}] }` with

@@ -9,9 +9,9 @@ ghost use Rattle.semantics_values.specs.Types.{environment_of};
 ghost use Rattle.semantics_values.specs.Values.{vals};
 ghost use Rattle.semantics_values.specs.Views.{val};
 ghost use Rattle.abstract_value_laws.specs.Abs.{cases, parts};
-ghost use Rattle.abstract_value_types.specs.OfValues as of;
-ghost use Rattle.abstract_value_types.specs.OfValues.{MapFits, ValueFits, ValuesFit, case_count, cells_of, map_at, note_of, one_case};
-ghost use Rattle.abstract_value_types.specs.TypeShapes.{width_of};
+ghost use Rattle.abstract_value_laws.specs.OfValues as of;
+ghost use Rattle.abstract_value_laws.specs.OfValues.{MapFits, ValueFits, ValuesFit, case_count, cells_of, map_at, note_of, one_case};
+ghost use Rattle.abstract_value_laws.specs.TypeShapes.{width_of};
 ghost use Rattle.abstract_value.specs.View.{abs, case_of};
 
 use super::lists::one_of;

@@ -4,7 +4,7 @@ ghost use Rattle.std.specs.Prelude.{◌≡◌, ◌+◌, ◌-◌, ◌^◌, min};
 ghost use Rattle.abstract_map_laws.specs.Maps.{Fits};
 ghost use Rattle.abstract_value_laws.specs.Fits as value;
 ghost use Rattle.abstract_value_laws.specs.Shapes.{lacks};
-ghost use Rattle.abstract_value_types.specs.Ranks.{leaf_rank, map_rank};
+ghost use Rattle.abstract_value_laws.specs.Ranks.{leaf_rank, map_rank};
 ghost use Rattle.abstract_value.specs.View.{abs};
 
 use super::value::AbstractValue;

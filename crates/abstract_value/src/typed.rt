@@ -5,8 +5,8 @@ ghost use Rattle.spec_ir.specs.Views as view;
 ghost use Rattle.spec_ir.specs.Views.{specification};
 ghost use Rattle.semantics_values.specs.Types.{environment_of};
 ghost use Rattle.abstract_value_laws.specs.Abs.{cases, parts};
-ghost use Rattle.abstract_value_types.specs.Types as types;
-ghost use Rattle.abstract_value_types.specs.Types.{has_case, has_width, have_cases, have_types, of_data};
+ghost use Rattle.abstract_value_laws.specs.Types as types;
+ghost use Rattle.abstract_value_laws.specs.Types.{has_case, has_width, have_cases, have_types, of_data};
 ghost use Rattle.abstract_value.specs.View.{abs, case_of};
 
 use super::value::AbstractValue;

@@ -1,5 +1,11 @@
 pub mod Absorbing
 pub mod Both
+pub mod Concrete
+pub mod Depths
 pub mod Joining
+pub mod Keyed
+pub mod Noted
 pub mod Ranks
+pub mod Typed
+pub mod Typing
 pub mod Widening

@@ -1,6 +1,12 @@
 pub mod Abs
+pub mod TypeLaws
 pub mod Calls
 pub mod Describes
 pub mod Fits
+pub mod Keys
 pub mod Laws
+pub mod OfValues
+pub mod Ranks
 pub mod Shapes
+pub mod TypeShapes
+pub mod Types

@@ -2,7 +2,7 @@
 use Rattle.std.proofs.Common.{◌≡◌, ◌∙◌, ℕ, zero, suc, ◌+◌, ◌≤◌, ◌%◌, ◌^◌, true, false, List, [], ◌∷◌, Option, Some, drop, length, slice_get, refl, sym, ap, arith}
 use Rattle.std.specs.Prelude.{◌==◌, ◌&&◌, option_map}
 use Rattle.support_modular_rows.specs.Submodule.{dot}
-use Rattle.analysis_claim_laws.specs.Affine.{meets_all}
+use Rattle.analysis_query_laws.specs.Affine.{meets_all}
 
 -- a place behind so many others
 abbrev pub shifted : ℕ → Option ℕ → Option ℕ

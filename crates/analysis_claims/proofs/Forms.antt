@@ -3,8 +3,8 @@ use Rattle.std.proofs.Common.{◌≡◌, ◌∙◌, ℕ, zero, suc, ◌+◌, ◌
 use Rattle.std.specs.Prelude.{IfSome, option_map, replicate, slice_index, slice_set, if◌then◌else◌}
 use Rattle.semantics_values.specs.declared.entry.KeyAt.{KeyAt}
 use Rattle.domain_affine_laws.specs.Opened.{is_cell}
-use Rattle.analysis_claim_laws.specs.Answers.{column_of, form_of, with_multiple}
-use Rattle.analysis_claim_laws.specs.Claims.{Multiple}
+use Rattle.analysis_query_laws.specs.Answers.{column_of, form_of, with_multiple}
+use Rattle.analysis_query_laws.specs.Claims.{Multiple}
 
 pub constant_is : (k c : ℕ) → slice_set (replicate (k + 1) 0) 0 c ≡ c ∷ replicate k 0
 constant_is k c = let next : k + 1 ≡ suc k = omega arith in ap (λ n. slice_set (replicate n 0) 0 c) next

@@ -11,9 +11,9 @@ use Rattle.fixpoint_theory.specs.Table.{Listing}
 use Rattle.fixpoint_theory.specs.Views.{listing, listings}
 use Rattle.fixpoint_theory.specs.declared.table.Block.{Block}
 use Rattle.analysis_transfer_laws.specs.Runs.{run_of}
-use Rattle.analysis_claim_laws.specs.Answers.{Telling}
-use Rattle.analysis_claim_laws.specs.Claims.{address_of}
-use Rattle.analysis_claim_laws.proofs.Holding.{listed_true}
+use Rattle.analysis_query_laws.specs.Answers.{Telling}
+use Rattle.analysis_query_laws.specs.Claims.{address_of}
+use Rattle.analysis_query_laws.proofs.Holding.{listed_true}
 use Rattle.analysis_claims.specs.Tables.{YesIsTrue}
 
 module _ {X E : Type 0} (view : X → E) (D : Elements E State) where

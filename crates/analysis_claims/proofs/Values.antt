@@ -16,8 +16,8 @@ use Rattle.domain_laws.specs.Entries.{GivenFits, PlaceFits}
 use Rattle.domain_laws.specs.Values.{AreOf, IsOf}
 use Rattle.abstract_value.specs.View.{abs}
 use Rattle.abstract_value.specs.declared.value.AbstractValue.{AbstractValue}
-use Rattle.analysis_claim_laws.specs.Cells.{value_behind, value_in, word_in, word_of}
-use Rattle.analysis_claim_laws.specs.Laws.{IsOfCell}
+use Rattle.analysis_query_laws.specs.Cells.{value_behind, value_in, word_in, word_of}
+use Rattle.analysis_query_laws.specs.Laws.{IsOfCell}
 use Rattle.base_trait.specs.Lists.{Each}
 use Rattle.abstract_map_laws.specs.declared.cell.AbstractCell.{AbstractCell}
 use Rattle.analysis_claims.specs.Words.{HasWordFor}

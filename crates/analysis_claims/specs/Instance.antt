@@ -9,22 +9,22 @@ use Rattle.semantics_values.specs.States.{State}
 use Rattle.fixpoint_theory.specs.Elements.{Elements}
 use Rattle.domain_laws.specs.declared.field.Field.{Field}
 use Rattle.domain_laws.specs.States.{StateType, has_states, same_states, state_type}
-use Rattle.domain_cell_laws.specs.Calls as cells_of
-use Rattle.domain_cell_laws.specs.Cells.{cells}
+use Rattle.domain_laws.specs.Calls as cells_of
+use Rattle.domain_laws.specs.Cells.{cells}
 use Rattle.domain_affine_laws.specs.Calls as relations_of
 use Rattle.domain_affine_laws.specs.Calls.{affine_elements}
 use Rattle.domain_cells.specs.Views.{context_of, states_of}
 use Rattle.domain_cells.specs.declared.domain.StateDomain.{StateDomain}
-use Rattle.analysis_claim_laws.specs.Affine.{affine_tell}
-use Rattle.analysis_claim_laws.specs.Answers.{Telling}
-use Rattle.analysis_claim_laws.specs.Cells.{cells_tell}
-use Rattle.analysis_claim_laws.specs.Laws.{TellTruly}
-use Rattle.analysis_claim_laws.proofs.Cells.{cells_tell_truly}
-use Rattle.analysis_claim_laws.proofs.Pairs.{both_truly}
-use Rattle.analysis_claim_laws.specs.Pairs.{pairs_tell}
-use Rattle.analysis_claim_laws.proofs.Relations.{relations_tell_truly}
+use Rattle.analysis_query_laws.specs.Affine.{affine_tell}
+use Rattle.analysis_query_laws.specs.Answers.{Telling}
+use Rattle.analysis_query_laws.specs.Cells.{cells_tell}
+use Rattle.analysis_query_laws.specs.Laws.{TellTruly}
+use Rattle.analysis_query_laws.proofs.Cells.{cells_tell_truly}
+use Rattle.analysis_query_laws.proofs.Pairs.{both_truly}
+use Rattle.analysis_query_laws.specs.Pairs.{pairs_tell}
+use Rattle.analysis_query_laws.proofs.Relations.{relations_tell_truly}
 use Rattle.analysis_claims.specs.Seen.{plain_values, seen_by}
-use Rattle.domain_cell_laws.proofs.Fields.{states_told}
+use Rattle.domain_laws.proofs.Fields.{states_told}
 
 -- what is told of plain forms is told of elements
 pub seen_truly : {X E : Type 0} (view : X → E) (fields : List Field) (D : Elements E State) (K : Telling E) → TellTruly fields D.fits D.holds K

@@ -4,7 +4,7 @@ use Rattle.std.specs.declared.alloc.Global.{Global}
 use Rattle.abstract_value_laws.specs.Abs.{Parts, parts}
 use Rattle.abstract_value.specs.View.{abs}
 use Rattle.abstract_value.specs.declared.value.AbstractValue.{AbstractValue}
-use Rattle.analysis_claim_laws.specs.Answers.{Telling}
+use Rattle.analysis_query_laws.specs.Answers.{Telling}
 
 abbrev pub seen_by : {X E : Type 0} → (X → E) → Telling E → Telling X
 seen_by view K = record {

@@ -11,10 +11,10 @@ use Rattle.fixpoint_theory.specs.declared.table.Table.{Table}
 use Rattle.domain_laws.specs.States.{state_type}
 use Rattle.analysis_transfer_laws.specs.Problem.{Problem}
 use Rattle.analysis_transfer_laws.specs.Runs.{Begins, IsTrueOfRuns, run_of}
-use Rattle.analysis_claim_laws.specs.Answers.{Telling, answer}
-use Rattle.analysis_claim_laws.specs.Claims as plain
-use Rattle.analysis_claim_laws.specs.Claims.{IsTrueOf, address_of}
-use Rattle.analysis_claim_laws.specs.Laws.{IsClaim, TellTruly}
+use Rattle.analysis_query_laws.specs.Answers.{Telling, answer}
+use Rattle.analysis_query_laws.specs.Claims as plain
+use Rattle.analysis_query_laws.specs.Claims.{IsTrueOf, address_of}
+use Rattle.analysis_query_laws.specs.Laws.{IsClaim, TellTruly}
 use Rattle.analysis_claims.specs.declared.claim.Claim.{Claim}
 use Rattle.analysis_claims.specs.declared.claim.Claim.TheVariants.{Differs, Never, Range, Sum}
 

@@ -5,10 +5,10 @@ ghost use Rattle.spec_ir.specs.Views.{specification};
 ghost use Rattle.fixpoint_theory.specs.Table.{Listing};
 ghost use Rattle.fixpoint_theory.specs.Views.{listings};
 ghost use Rattle.domain_laws.specs.States.{state_type};
-ghost use Rattle.analysis_claim_laws.specs.Answers as told_of;
-ghost use Rattle.analysis_claim_laws.specs.Answers.{with_multiple};
-ghost use Rattle.analysis_claim_laws.specs.Claims.{address_of};
-ghost use Rattle.analysis_claim_laws.specs.Laws.{IsClaim};
+ghost use Rattle.analysis_query_laws.specs.Answers as told_of;
+ghost use Rattle.analysis_query_laws.specs.Answers.{with_multiple};
+ghost use Rattle.analysis_query_laws.specs.Claims.{address_of};
+ghost use Rattle.analysis_query_laws.specs.Laws.{IsClaim};
 ghost use Rattle.analysis_claims.specs.Tables.{claim as plain_claim};
 
 use crate::claim::Claim;

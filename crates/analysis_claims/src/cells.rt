@@ -5,8 +5,8 @@ ghost use Rattle.semantics_values.specs.declared.entry.GivenNumber.TheVariants.{
 ghost use Rattle.abstract_value_laws.specs.Abs.{parts};
 ghost use Rattle.abstract_value_laws.specs.Fits.{Fits, PartsFit};
 ghost use Rattle.abstract_value.specs.View.{abs};
-ghost use Rattle.analysis_claim_laws.specs.Cells as told;
-ghost use Rattle.analysis_claim_laws.specs.Cells.{word_in, word_of};
+ghost use Rattle.analysis_query_laws.specs.Cells as told;
+ghost use Rattle.analysis_query_laws.specs.Cells.{word_in, word_of};
 ghost use Rattle.analysis_claims.specs.Words.{HasWordFor, IsWordFor};
 
 use abstract_map::KeySet;

@@ -4,8 +4,8 @@ ghost use Rattle.std.specs.Prelude.{◌≡◌, ◌+◌, IfOk, IsTrue, length};
 ghost use Rattle.spec_ir.specs.Specification as plain;
 ghost use Rattle.spec_ir.specs.Views.{specification};
 ghost use Rattle.domain_laws.specs.States.{state_type};
-ghost use Rattle.analysis_claim_laws.specs.Answers.{Telling, column_of};
-ghost use Rattle.analysis_claim_laws.specs.Laws.{IsOfCell, TellTruly};
+ghost use Rattle.analysis_query_laws.specs.Answers.{Telling, column_of};
+ghost use Rattle.analysis_query_laws.specs.Laws.{IsOfCell, TellTruly};
 ghost use Rattle.semantics_values.specs.declared.entry.GivenNumber.TheVariants.{One, Range};
 
 use domain_trait::Domain;

@@ -4,7 +4,7 @@ ghost use Rattle.std.specs.Prelude.{◌≡◌, ◌&&◌, IfOk, IsTrue};
 ghost use Rattle.spec_ir.specs.Views.{specification};
 ghost use Rattle.domain_laws.specs.States.{state_type};
 ghost use Rattle.semantics_values.specs.declared.entry.GivenNumber.TheVariants.{One, Range};
-ghost use Rattle.analysis_claim_laws.specs.Laws.{IsOfCell};
+ghost use Rattle.analysis_query_laws.specs.Laws.{IsOfCell};
 
 use crate::cells::{cell_differs, cell_within};
 use crate::claim_elem::ClaimElement;
@@ -23,7 +23,7 @@ use support_modular_rows::{Form, Rows};
 /// Cells tell of single cells.
 impl<B: Base> ClaimElement for StateDomain<B> {
     ghost use Rattle.domain_cells.specs.Views.{context_of};
-    ghost use Rattle.analysis_claim_laws.specs.Cells.{cells_tell};
+    ghost use Rattle.analysis_query_laws.specs.Cells.{cells_tell};
     ghost use Rattle.analysis_claims.specs.Seen.{plain_values, seen_by};
     ghost use Rattle.analysis_claims.specs.Instance.{cells_truly};
 
@@ -81,7 +81,7 @@ impl<B: Base> ClaimElement for StateDomain<B> {
 
 /// Affine relations tell of sums of tracked cells.
 impl ClaimElement for AffineDomain {
-    ghost use Rattle.analysis_claim_laws.specs.Affine.{affine_tell};
+    ghost use Rattle.analysis_query_laws.specs.Affine.{affine_tell};
     ghost use Rattle.analysis_claims.specs.Instance.{relations_truly};
 
     ghost telling = { λ it. affine_tell it };
@@ -136,7 +136,7 @@ impl ClaimElement for AffineDomain {
 
 /// Pairs tell of what either part does; of sums the first part that tells of them.
 impl<A: ClaimElement, B: ClaimElement> ClaimElement for PairDomain<A, B> {
-    ghost use Rattle.analysis_claim_laws.specs.Pairs.{pairs_tell};
+    ghost use Rattle.analysis_query_laws.specs.Pairs.{pairs_tell};
     ghost use Rattle.analysis_claims.specs.Instance.{pairs_truly};
 
     ghost telling = { λ it. pairs_tell (A.telling it.first) (B.telling it.second) };

@@ -3,7 +3,7 @@
 //! A claim (`Claim`) is of the states that runs have at an address. It says that the number of a cell lies in a range, that it is not a certain
 //! number, or that a number and multiples of cells add to 0, modulo 2^32; or it says that no run comes there. Elements of cells tell of single
 //! cells, elements of affine relations of sums of tracked cells, and pairs of what either part does (`ClaimElement`). What they tell is what
-//! `analysis_claim_laws` defines.
+//! `analysis_query_laws` defines.
 //!
 //! Over intervals, the element `x: 3..7` tells that x is in 0..7 and is not 8, and not that it is in 4..7. Over affine relations, the element of the rows
 //! (1, 2, 5) and (0, 1, 1) over the cells a and b tells that b - a - 3 is 0: 5 - 2 - 3 is 0 over the first row, where the constant counts

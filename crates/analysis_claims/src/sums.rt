@@ -3,8 +3,8 @@
 ghost use Rattle.std.specs.Prelude.{◌≡◌, ◌%◌, ◌==◌, ◌<◌, ◌^◌, length};
 ghost use Rattle.support_modular_rows.specs.Submodule.{dot};
 ghost use Rattle.domain_affine_laws.specs.Opened as opened;
-ghost use Rattle.analysis_claim_laws.specs.Affine as told;
-ghost use Rattle.analysis_claim_laws.specs.Answers as told_of;
+ghost use Rattle.analysis_query_laws.specs.Affine as told;
+ghost use Rattle.analysis_query_laws.specs.Answers as told_of;
 
 use domain_cells::is_key;
 use semantics_values::KeyAt;

@@ -1,1 +1,5 @@
+pub mod CheckedStates
+pub mod Entries
+pub mod Ordered
+pub mod States
 pub mod WellPosed

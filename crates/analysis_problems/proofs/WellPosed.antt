@@ -10,8 +10,8 @@ use Rattle.code_image.specs.Faults.{bytes_sum, is_segment}
 use Rattle.code_image.specs.Image.{Segment, addresses, addresses_from, end_of, has_word, word_in, words_of}
 use Rattle.code_image.specs.Laws.{AddressesAreThoseOfWords, ascend_from}
 use Rattle.state_entry_laws.proofs.Reading.{entries_fit}
-use Rattle.domain_accepted_states.proofs.Entries.{read_entries_fit}
-use Rattle.analysis_problems.specs.Laws.{ReadProblemsAreWellPosed}
+use Rattle.analysis_problems.proofs.Entries.{read_entries_fit}
+use Rattle.analysis_problems.specs.ProblemLaws.{ReadProblemsAreWellPosed}
 
 ascends : (least : ℕ) (xs : List ℕ) → ascend_from least xs ≡ true → IsAscendingFrom least xs
 ascends least [] h = tt

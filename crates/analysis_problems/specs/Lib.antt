@@ -1,2 +1,4 @@
+pub mod ProblemLaws
+pub mod CheckedStateLaws
 pub mod Laws
 pub mod Problems

@@ -8,7 +8,7 @@ use Rattle.base_trait.specs.Uses.{Seen}
 use Rattle.base_trait.specs.declared.uses.Stamp.TheVariants.{Entry, At}
 use Rattle.base_trait.proofs.Lists.{number_told}
 use Rattle.base_trait.proofs.Tests.{or_sorted}
-use Rattle.analysis_slice_laws.specs.Slices.{IsSliceFrom, is_from}
+use Rattle.analysis_query_laws.specs.Slices.{IsSliceFrom, is_from}
 use Rattle.analysis_slices.specs.declared.slice_search.SliceSearch.{SliceSearch}
 use Rattle.analysis_slices.specs.Found.{IsAdded, IsTaken, is_followed, is_pending}
 use Rattle.analysis_slices.proofs.Search.{IsFollowed, IsSearch, followed_reached, search_begun, search_followed, told_reached}

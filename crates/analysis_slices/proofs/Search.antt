@@ -5,7 +5,7 @@ use Rattle.base_trait.specs.Uses.{Seen}
 use Rattle.base_trait.specs.declared.uses.Stamp.TheVariants.{Entry, At}
 use Rattle.base_trait.proofs.Lists.{number_told}
 use Rattle.base_trait.proofs.Tests.{or_left, or_right, or_sorted}
-use Rattle.analysis_slice_laws.specs.Slices.{IsReached, Leads, ReachesEntry, is_from}
+use Rattle.analysis_query_laws.specs.Slices.{IsReached, Leads, ReachesEntry, is_from}
 
 module _ (uses : ℕ → List Seen) (from : List Seen) where
   pub record IsSearch (told : Bool) (followed pending : ℕ → Bool) : Type 0 where

@@ -8,9 +8,9 @@ use Rattle.fixpoint_theory.specs.Views.{listings}
 use Rattle.fixpoint_theory.specs.declared.table.Table.{Table}
 use Rattle.analysis_transfer_laws.specs.Problem.{Problem}
 use Rattle.analysis_transfer_laws.specs.Runs.{Begins, IsTrueOfRuns}
-use Rattle.analysis_slice_laws.specs.Chains.{IsChain}
-use Rattle.analysis_slice_laws.specs.Laws.{HoldsChain, IsReadAt}
-use Rattle.analysis_slice_laws.specs.Slices.{IsSlice}
+use Rattle.analysis_query_laws.specs.Chains.{IsChain}
+use Rattle.analysis_query_laws.specs.SliceLaws.{HoldsChain, IsReadAt}
+use Rattle.analysis_query_laws.specs.Slices.{IsSlice}
 
 -- What `slice` answers of a table that is true of every run, over a base that tells stamps, holds each chain of each read that it is of: under every
 -- bound on turns, after any number of steps, from every state of the entry.

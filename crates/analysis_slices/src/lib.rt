@@ -1,6 +1,6 @@
 //! Slices of tables: from which addresses the cells come that an instruction reads.
 //!
-//! `slice` answers exactly the slice that `analysis_slice_laws` defines (`IsSlice`, specs/Slices). It is a search. Addresses that were found are *pending*
+//! `slice` answers exactly the slice that `analysis_query_laws` defines (`IsSlice`, specs/Slices). It is a search. Addresses that were found are *pending*
 //! until the uses at them were *followed*. At first the stamps of the uses that are asked for are pending. Then the least pending address is
 //! taken, and the stamps of all uses at it that were not followed yet are added, until nothing is pending. Each use of the table is looked
 //! at at most twice.

@@ -3,7 +3,7 @@
 ghost use Rattle.std.specs.Prelude.{◌≡◌, map as map_of, IfOk};
 ghost use Rattle.base_trait.specs.Uses.{Seen, seen};
 ghost use Rattle.fixpoint_theory.specs.Views.{listings};
-ghost use Rattle.analysis_slice_laws.specs.Slices.{IsSlice, listed_uses};
+ghost use Rattle.analysis_query_laws.specs.Slices.{IsSlice, listed_uses};
 
 use crate::answer::Slice;
 use crate::slice_search::SliceSearch;

@@ -5,7 +5,7 @@ ghost use Rattle.std.specs.Ordering.{nat_cmp};
 ghost use Rattle.std.specs.BTreeSet.{IsOrdered};
 ghost use Rattle.base_trait.specs.Stamps.{is_listed, same_stamp};
 ghost use Rattle.base_trait.specs.Uses.{Seen, seen};
-ghost use Rattle.analysis_slice_laws.specs.Slices.{is_asked, is_from};
+ghost use Rattle.analysis_query_laws.specs.Slices.{is_asked, is_from};
 ghost use Rattle.analysis_slices.specs.Found.{IsAdded, IsTaken, is_followed, is_pending};
 
 use base_trait::{Stamp, Use};

@@ -10,7 +10,7 @@ use Rattle.code_image.specs.Decoders.{IsDecoderOf}
 use Rattle.state_text.specs.Reading.{entry_of}
 use Rattle.abstract_value_laws.specs.Abs.{Abs}
 use Rattle.abstract_semantics.specs.Answers.{Answer}
-use Rattle.abstract_calls.specs.Answers.{answers}
+use Rattle.abstract_semantics.specs.CallAnswers.{answers}
 use Rattle.domain_laws.specs.Domain.{Meaning}
 use Rattle.domain_laws.specs.States.{state_type}
 use Rattle.analysis_transfer_laws.specs.Problem.{IsWellFormedProblem, Problem}

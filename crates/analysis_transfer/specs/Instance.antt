@@ -8,7 +8,7 @@ use Rattle.spec_ir.specs.Specification.{Spec}
 use Rattle.semantics_values.specs.States.{State}
 use Rattle.abstract_value_laws.specs.Abs.{Abs}
 use Rattle.abstract_semantics.specs.Answers.{Answer}
-use Rattle.abstract_calls.proofs.Right.{answers_are_right}
+use Rattle.abstract_semantics.proofs.Right.{answers_are_right}
 use Rattle.fixpoint_theory.specs.Analysis.{AnalysisLaws}
 use Rattle.fixpoint_theory.specs.Elements.{Elements}
 use Rattle.fixpoint_theory.specs.Runs.{IsSound}

@@ -23,14 +23,14 @@ use Rattle.semantics_laws.specs.Accepted.{IsMachine, IsMachineIfAny}
 use Rattle.semantics_laws.proofs.Kept.{instructions_have_their_type}
 use Rattle.abstract_value_laws.specs.Abs.{Abs, Parts, no_case, parts}
 use Rattle.abstract_value_laws.specs.Shapes.{CasesList, ListsStamps, PartsList}
-use Rattle.abstract_value_types.specs.Keys.{KeysFit}
-use Rattle.abstract_value_types.specs.Laws.{are_keyed}
-use Rattle.abstract_value_types.specs.OfValues.{ValueFits, absent_onto, case_count, of_value, of_values, one_case}
-use Rattle.abstract_value_types.specs.Types.{has_type, have_types}
-use Rattle.abstract_value_types.proofs.Concrete.{value_is_fit, value_is_typed}
-use Rattle.abstract_value_types.proofs.Depths.{within}
-use Rattle.abstract_value_types.proofs.Keyed.{value_keys_fit, widen_keys_fit}
-use Rattle.abstract_value_types.proofs.Typed.{typed_fits}
+use Rattle.abstract_value_laws.specs.Keys.{KeysFit}
+use Rattle.abstract_value_laws.specs.TypeLaws.{are_keyed}
+use Rattle.abstract_value_laws.specs.OfValues.{ValueFits, absent_onto, case_count, of_value, of_values, one_case}
+use Rattle.abstract_value_laws.specs.Types.{has_type, have_types}
+use Rattle.abstract_value_laws.proofs.Concrete.{value_is_fit, value_is_typed}
+use Rattle.abstract_value_laws.proofs.Depths.{within}
+use Rattle.abstract_value_laws.proofs.Keyed.{value_keys_fit, widen_keys_fit}
+use Rattle.abstract_value_laws.proofs.Typed.{typed_fits}
 use Rattle.abstract_value_laws.proofs.Widening.{widen_lists}
 use Rattle.support_tail_fixpoint.specs.declared.policy.Policy.TheVariants.{Widen}
 use Rattle.support_tail_fixpoint.specs.Answer.{IfGives}

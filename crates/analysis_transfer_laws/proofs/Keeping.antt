@@ -8,7 +8,7 @@ use Rattle.semantics_values.specs.Types.{environment_of}
 use Rattle.semantics_values.specs.Values.{Val}
 use Rattle.semantics.specs.Decode.{decoded}
 use Rattle.abstract_value_laws.specs.Abs.{Abs}
-use Rattle.abstract_value_types.specs.OfValues.{of_value}
+use Rattle.abstract_value_laws.specs.OfValues.{of_value}
 use Rattle.support_tail_fixpoint.specs.Answer.{IfGives, fails, gives}
 use Rattle.abstract_semantics.specs.Answers.{Answer}
 use Rattle.fixpoint_theory.specs.Elements.{Elements}

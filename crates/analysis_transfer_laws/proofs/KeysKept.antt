@@ -15,9 +15,9 @@ use Rattle.spec_ir.specs.declared.declared.MapType.{MapType}
 use Rattle.spec_ir.specs.Environment.{Environment, key_of, key_type}
 use Rattle.semantics_values.specs.Types.{key_count}
 use Rattle.abstract_value_laws.specs.Abs.{Abs, Cases, Parts, flag, word, made, map, no_case, absent, present, no_part, part, parts}
-use Rattle.abstract_value_types.specs.Keys.{CaseKeysFit, KeysFit, PartKeysFit}
-use Rattle.abstract_value_types.specs.OfValues.{absent_onto, case_count, one_case}
-use Rattle.abstract_value_types.proofs.Keyed.{join_keys_fit}
+use Rattle.abstract_value_laws.specs.Keys.{CaseKeysFit, KeysFit, PartKeysFit}
+use Rattle.abstract_value_laws.specs.OfValues.{absent_onto, case_count, one_case}
+use Rattle.abstract_value_laws.proofs.Keyed.{join_keys_fit}
 use Rattle.abstract_semantics.specs.Choices.{abs_at, abs_in, abs_part}
 use Rattle.abstract_semantics.specs.Steps.{put_at}
 use Rattle.abstract_semantics.proofs.Keyed.{IsBelow}

@@ -20,8 +20,8 @@ use Rattle.semantics_laws.proofs.Turns.{FunOf, fun_of, signature_of}
 use Rattle.abstract_value_laws.specs.Abs.{Abs}
 use Rattle.abstract_value_laws.specs.Calls.{widen_of}
 use Rattle.abstract_value_laws.specs.Shapes.{ListsStamps}
-use Rattle.support_group_arguments.specs.Groups.{EachIs, only as only_of}
-use Rattle.support_group_arguments.proofs.Groups.{only_is}
+use Rattle.support_tail_fixpoint.specs.Groups.{EachIs, only as only_of}
+use Rattle.support_tail_fixpoint.proofs.Groups.{only_is}
 use Rattle.support_tail_fixpoint.specs.declared.policy.Policy.{Policy}
 use Rattle.support_tail_fixpoint.specs.Answer.{IfGives, Yield, fails, gives}
 use Rattle.support_tail_fixpoint.specs.Evaluation.{IsAnswer}

@@ -16,11 +16,11 @@ use Rattle.spec_ir.specs.Specification.{Spec, Fun}
 use Rattle.spec_ir.specs.WellFormed.{IsWellFormed}
 use Rattle.semantics_values.specs.Types.{environment_of}
 use Rattle.semantics.specs.Direct.{group_of}
-use Rattle.semantics_core.specs.Places.{types_named}
-use Rattle.semantics_core.specs.CoreTypes.{HasCoreType, ArmHasType}
-use Rattle.semantics_core.specs.CoreCalls.{CallsBelow, CallsInOrder, AllCallInOrder}
+use Rattle.semantics_laws.specs.Places.{types_named}
+use Rattle.semantics_laws.specs.CoreTypes.{HasCoreType, ArmHasType}
+use Rattle.semantics_laws.specs.CoreCalls.{CallsBelow, CallsInOrder, AllCallInOrder}
 use Rattle.abstract_value_laws.specs.Abs.{Abs}
-use Rattle.support_group_arguments.specs.Groups.{EachIs}
+use Rattle.support_tail_fixpoint.specs.Groups.{EachIs}
 use Rattle.support_tail_fixpoint.specs.Answer.{Yield, fails, gives}
 use Rattle.abstract_semantics.specs.Answers.{Answer, Evaluation, behind}
 use Rattle.abstract_semantics.specs.Choices.{abs_named, arm_on, flag_there}

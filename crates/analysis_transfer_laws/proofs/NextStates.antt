@@ -20,7 +20,7 @@ use Rattle.semantics_laws.specs.Accepted.{IsMachine}
 use Rattle.semantics_laws.proofs.Kept.{listed as again, list_again}
 use Rattle.abstract_value_laws.specs.Abs.{Abs, Cases, word, made, no_case, absent, present, part}
 use Rattle.abstract_value_laws.specs.Describes.{CaseDescribes, Describes}
-use Rattle.abstract_value_types.specs.Types.{has_type, have_cases, have_types}
+use Rattle.abstract_value_laws.specs.Types.{has_type, have_cases, have_types}
 use Rattle.analysis_transfer_laws.specs.Transfer.{counter_of}
 use Rattle.analysis_transfer_laws.proofs.States.{made_typed}
 

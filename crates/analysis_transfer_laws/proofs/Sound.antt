@@ -23,7 +23,7 @@ use Rattle.semantics_laws.proofs.Kept.{entry_states_have_their_type}
 use Rattle.semantics_laws.proofs.Turns.{meanings_have_types}
 use Rattle.abstract_value_laws.specs.Abs.{Abs, parts}
 use Rattle.abstract_value_laws.specs.Describes.{Describes as StandsFor, PartsDescribe}
-use Rattle.abstract_value_types.proofs.Concrete.{value_describes}
+use Rattle.abstract_value_laws.proofs.Concrete.{value_describes}
 use Rattle.support_tail_fixpoint.specs.Answer.{fails, gives}
 use Rattle.abstract_semantics.specs.Answers.{Answer}
 use Rattle.abstract_semantics.specs.Sound.{Covered, IsSound as IsSoundAnswer}

@@ -17,9 +17,9 @@ use Rattle.spec_ir.specs.WellFormed.{is_type}
 use Rattle.semantics_values.specs.Types.{environment_of, key_count}
 use Rattle.semantics_laws.specs.Accepted.{IsAccepted, IsMachine, is_part}
 use Rattle.abstract_value_laws.specs.Abs.{Abs, Cases, Parts, word, made, map, no_case, present, no_part, part}
-use Rattle.abstract_value_types.specs.Keys.{KeysFit, PartKeysFit}
-use Rattle.abstract_value_types.specs.Types.{has_type, has_width, have_cases, have_types, of_data}
-use Rattle.abstract_value_types.proofs.Depths.{fields_typed, there}
+use Rattle.abstract_value_laws.specs.Keys.{KeysFit, PartKeysFit}
+use Rattle.abstract_value_laws.specs.Types.{has_type, has_width, have_cases, have_types, of_data}
+use Rattle.abstract_value_laws.proofs.Depths.{fields_typed, there}
 use Rattle.domain_laws.specs.States.{behind, field_of, fields_of, map_field, number_in, state_type, state_types, types_in}
 use Rattle.domain_laws.specs.Values.{AreOf, IsOf, IsStateForm}
 use Rattle.analysis_transfer_laws.specs.Transfer.{counter_of}

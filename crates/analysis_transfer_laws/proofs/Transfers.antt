@@ -15,7 +15,7 @@ use Rattle.semantics.specs.Decode.{decoded}
 use Rattle.abstract_value_laws.specs.Abs.{Abs, word, made, no_case, present, part}
 use Rattle.abstract_value_laws.specs.Fits.{Fits}
 use Rattle.abstract_value_laws.specs.Shapes.{ListsStamps}
-use Rattle.abstract_value_types.specs.Keys.{KeysFit}
+use Rattle.abstract_value_laws.specs.Keys.{KeysFit}
 use Rattle.support_tail_fixpoint.specs.Answer.{fails, gives}
 use Rattle.abstract_semantics.specs.Answers.{Answer}
 use Rattle.abstract_semantics.proofs.Typed.{IsOf}

@@ -7,7 +7,7 @@ use Rattle.semantics_values.specs.Types.{environment_of}
 use Rattle.semantics_values.specs.Values.{Val}
 use Rattle.semantics.specs.Decode.{decoded}
 use Rattle.abstract_value_laws.specs.Abs.{Abs, word, made, no_case, present, part}
-use Rattle.abstract_value_types.specs.OfValues.{of_value}
+use Rattle.abstract_value_laws.specs.OfValues.{of_value}
 use Rattle.abstract_semantics.specs.Answers.{Answer}
 use Rattle.fixpoint_theory.specs.Outcome.{Outcome, moves, too_many, undecodable}
 use Rattle.domain_laws.specs.Domain.{Meaning}

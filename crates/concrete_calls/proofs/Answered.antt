@@ -16,13 +16,13 @@ use Rattle.abstract_value_laws.specs.Abs.{Abs}
 use Rattle.abstract_value.specs.View.{abs}
 use Rattle.abstract_value.specs.declared.value.AbstractValue.{AbstractValue}
 use Rattle.abstract_semantics.specs.Answers.{Answer, behind}
-use Rattle.abstract_calls.specs.Answers.{answers}
+use Rattle.abstract_semantics.specs.CallAnswers.{answers}
 use Rattle.eval_memo.specs.Given.{Gives}
 use Rattle.eval_memo.specs.declared.error.EvalError.{EvalError}
 use Rattle.eval_memo.specs.declared.error.EvalError.TheVariants as e
-use Rattle.concrete_values.specs.Laws as values
-use Rattle.concrete_values.specs.Laws.{AreArgumentsFor, IsMeant, room}
-use Rattle.concrete_values.proofs.Meant.{calls_are_meant}
+use Rattle.concrete_calls.specs.Laws as values
+use Rattle.concrete_calls.specs.Laws.{AreArgumentsFor, IsMeant, room}
+use Rattle.concrete_calls.proofs.Meant.{calls_are_meant}
 use Rattle.concrete_calls.specs.declared.outcome.CallResult.{CallResult}
 use Rattle.concrete_calls.specs.declared.outcome.CallResult.TheVariants.{OutOfFuel, Done}
 use Rattle.concrete_calls.specs.Calls.{IsCall, IsMeantBy}

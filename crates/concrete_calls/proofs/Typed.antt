@@ -19,18 +19,18 @@ use Rattle.semantics_values.specs.declared.value.Value.{Value}
 use Rattle.semantics_laws.specs.Accepted.{IsAccepted}
 use Rattle.abstract_value_laws.specs.Abs.{Abs, parts}
 use Rattle.abstract_value_laws.specs.Fits.{Fits, PartsFit}
-use Rattle.abstract_value_types.specs.Laws.{are_keyed}
-use Rattle.abstract_value_types.specs.OfValues.{ValueFits, ValuesFit, of_value}
-use Rattle.abstract_value_types.specs.Types.{has_type, have_types}
-use Rattle.abstract_value_types.proofs.Concrete.{value_is_fit, value_is_typed}
-use Rattle.abstract_value_types.proofs.Depths.{within}
-use Rattle.abstract_value_types.proofs.Typed.{typed_fits}
+use Rattle.abstract_value_laws.specs.TypeLaws.{are_keyed}
+use Rattle.abstract_value_laws.specs.OfValues.{ValueFits, ValuesFit, of_value}
+use Rattle.abstract_value_laws.specs.Types.{has_type, have_types}
+use Rattle.abstract_value_laws.proofs.Concrete.{value_is_fit, value_is_typed}
+use Rattle.abstract_value_laws.proofs.Depths.{within}
+use Rattle.abstract_value_laws.proofs.Typed.{typed_fits}
 use Rattle.abstract_semantics.specs.Terms.{params_in}
 use Rattle.abstract_semantics.proofs.Called.{keys_fine}
 use Rattle.abstract_semantics.proofs.Plain.{signed}
 use Rattle.abstract_map_laws.specs.Laws.{HasRoom}
-use Rattle.concrete_values.specs.Laws.{AllStandFor, AreArgumentsFor, StandsFor, room}
-use Rattle.concrete_values.proofs.Single.{value_stands}
+use Rattle.concrete_calls.specs.Laws.{AllStandFor, AreArgumentsFor, StandsFor, room}
+use Rattle.concrete_calls.proofs.Single.{value_stands}
 
 has_room : HasRoom concrete room
 has_room = inr (omega arith)

@@ -7,7 +7,7 @@ use Rattle.semantics.specs.Outcomes as o
 use Rattle.semantics.specs.Outcomes.{Outcome}
 use Rattle.abstract_value_laws.specs.Abs.{Abs}
 use Rattle.abstract_value.specs.View.{abs}
-use Rattle.concrete_values.specs.Laws.{AreArgumentsFor, IsResultFor}
+use Rattle.concrete_calls.specs.Laws.{AreArgumentsFor, IsResultFor}
 use Rattle.concrete_calls.specs.declared.outcome.CallResult.{CallResult}
 use Rattle.concrete_calls.specs.declared.outcome.CallResult.TheVariants.{OutOfFuel, Done}
 

@@ -7,8 +7,8 @@ ghost use Rattle.semantics_values.specs.Types.{environment_of};
 ghost use Rattle.semantics_values.specs.Values.{vals};
 ghost use Rattle.semantics_values.specs.Views.{val};
 ghost use Rattle.abstract_value.specs.View.{abs};
-ghost use Rattle.abstract_value_types.specs.OfValues.{ValuesFit, of_value};
-ghost use Rattle.concrete_values.specs.Laws.{room};
+ghost use Rattle.abstract_value_laws.specs.OfValues.{ValuesFit, of_value};
+ghost use Rattle.concrete_calls.specs.Laws.{room};
 
 use abstract_value::AbstractValue;
 use base_concrete::Concrete;

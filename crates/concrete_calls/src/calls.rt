@@ -9,7 +9,7 @@ ghost use Rattle.semantics_laws.specs.Accepted.{IsAccepted};
 ghost use Rattle.eval_code.specs.Code.{IsCodeOf};
 ghost use Rattle.eval_code.specs.Views.{code};
 ghost use Rattle.abstract_value.specs.View.{abs};
-ghost use Rattle.concrete_values.specs.Laws.{AreArgumentsFor};
+ghost use Rattle.concrete_calls.specs.Laws.{AreArgumentsFor};
 ghost use Rattle.concrete_calls.specs.Calls.{IsCall, IsMeantBy};
 
 use crate::outcome::CallResult;

@@ -21,12 +21,12 @@ use Rattle.semantics_laws.specs.Typed.{IsOutcomeOf}
 use Rattle.semantics_laws.proofs.Turns.{meanings_have_types}
 use Rattle.semantics_laws.specs.Accepted.{IsAccepted, IsMachine, IsMachineIfAny}
 use Rattle.abstract_value_laws.specs.Abs.{Abs, parts}
-use Rattle.abstract_value_types.specs.OfValues.{ValueFits, of_value}
-use Rattle.abstract_value_types.specs.Types as abstract
+use Rattle.abstract_value_laws.specs.OfValues.{ValueFits, of_value}
+use Rattle.abstract_value_laws.specs.Types as abstract
 use Rattle.abstract_value.specs.View.{abs}
 use Rattle.abstract_value.specs.declared.value.AbstractValue.{AbstractValue}
 use Rattle.abstract_semantics.specs.Terms.{params_in}
-use Rattle.concrete_values.specs.Laws.{AreArgumentsFor, StandsFor, room}
+use Rattle.concrete_calls.specs.Laws.{AreArgumentsFor, StandsFor, room}
 use Rattle.concrete_calls.specs.declared.outcome.CallResult.TheVariants.{OutOfFuel, Done}
 use Rattle.concrete_calls.specs.Calls.{IsMeantBy}
 use Rattle.concrete_calls.proofs.Typed.{is_standing, value_fits}

@@ -16,10 +16,10 @@ use Rattle.abstract_value_laws.specs.Abs.{Abs, Cases, Parts, flag, word, made, m
 use Rattle.abstract_value_laws.specs.Describes.{Describes, PartsDescribe}
 use Rattle.abstract_value_laws.specs.Fits.{Fits, PartsFit}
 use Rattle.abstract_semantics.specs.Sound.{AreSingle, IsSingle}
-use Rattle.concrete_values.specs.Laws.{room}
-use Rattle.concrete_values.specs.Same.{AllSame}
-use Rattle.concrete_values.specs.Values.{case_in, cells_in, value_in, values_in}
-use Rattle.concrete_values.proofs.Same.{same}
+use Rattle.concrete_calls.specs.Laws.{room}
+use Rattle.concrete_calls.specs.Same.{AllSame}
+use Rattle.concrete_calls.specs.Values.{case_in, cells_in, value_in, values_in}
+use Rattle.concrete_calls.proofs.Same.{same}
 use Rattle.concrete_emulator.specs.Laws.{AllAscend, KeysAscend}
 use Rattle.concrete_emulator.specs.States.{IsLast, IsStateValue, Shows, counter_in, counter_in_fields}
 use Rattle.concrete_emulator.specs.Values.{state_of}

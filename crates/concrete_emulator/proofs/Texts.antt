@@ -17,7 +17,7 @@ use Rattle.state_cell_text.specs.Keys.{cell_text}
 use Rattle.state_cell_text.specs.Places.{Field, state_fields}
 use Rattle.state_text.specs.Stops.{stop_line}
 use Rattle.state_text.specs.Writing.{all_lines, cell_line, field_lines, lines_as, listed_line, listed_lines, map_lines, rest_line}
-use Rattle.concrete_values.specs.Same.{AllSame, AreSame}
+use Rattle.concrete_calls.specs.Same.{AllSame, AreSame}
 use Rattle.concrete_emulator.specs.Laws.{AllAscend, IsSameState, KeysAscend, SameTexts}
 
 -- ---- cells at keys

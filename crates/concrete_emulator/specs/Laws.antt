@@ -6,7 +6,7 @@ use Rattle.semantics_values.specs.Types.{keys_ascend}
 use Rattle.semantics_values.specs.Values.{Val, map, vals}
 use Rattle.state_text.specs.declared.stop.Stop.{Stop}
 use Rattle.state_text.specs.Stops.{stopped_text}
-use Rattle.concrete_values.specs.Same.{AllSame}
+use Rattle.concrete_calls.specs.Same.{AllSame}
 
 -- the keys of a map ascend
 abbrev pub KeysAscend : Val → Type 0

@@ -9,8 +9,8 @@ use Rattle.semantics_values.specs.Types.{environment_of}
 use Rattle.semantics_laws.specs.KeptTypes.{IsTypedState}
 use Rattle.abstract_value_laws.specs.Abs.{Abs, Cases, Parts, word, made, present, part}
 use Rattle.abstract_value_laws.specs.Fits.{Fits}
-use Rattle.abstract_value_types.specs.Types.{has_type}
-use Rattle.concrete_values.specs.Laws.{StandsFor, room}
+use Rattle.abstract_value_laws.specs.Types.{has_type}
+use Rattle.concrete_calls.specs.Laws.{StandsFor, room}
 use Rattle.concrete_emulator.specs.Laws.{AllAscend, IsSameState}
 
 -- the counter of a state: the first field of the first constructor, a word of at most 32 bits

@@ -14,7 +14,7 @@ ghost use Rattle.concrete_emulator.specs.States.{IsLast, IsOfState, IsStateValue
 use crate::values::{state_of, value_of};
 use abstract_value::AbstractValue;
 use base_concrete::Concrete;
-use concrete_values::value_in;
+use concrete_calls::value_in;
 use semantics_values::State;
 use spec_ir::{Machine, Spec};
 use std::alloc::{AllocError, Global};

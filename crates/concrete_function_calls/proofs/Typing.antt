@@ -13,7 +13,7 @@ use Rattle.concrete_function_calls.specs.Arguments.{argument_in, arguments_in, w
 use Rattle.concrete_function_calls.specs.Written.{IsWrittenCall}
 use Rattle.concrete_function_calls.specs.Calls.{arguments_of, call_end, called, end_of_meaning, is_written, number_of, bad_words, end_of_call}
 use Rattle.spec_match_compiler.proofs.Truth.{equal_itself as same_width}
-use Rattle.concrete_values.proofs.Views.{some_same as same_some}
+use Rattle.concrete_calls.proofs.Views.{some_same as same_some}
 
 none_some : {A B : Type 0} {x : A} → None ≡ Some x → B
 none_some e = absurd cc

@@ -13,9 +13,9 @@ use Rattle.semantics.specs.Outcomes.{Outcome}
 use Rattle.semantics_laws.specs.Typed.{IsOutcomeOf}
 use Rattle.abstract_value.specs.View.{abs}
 use Rattle.abstract_value.specs.declared.value.AbstractValue.{AbstractValue}
-use Rattle.concrete_values.specs.Same.{AreSame}
-use Rattle.concrete_values.specs.Values.{value_in}
-use Rattle.concrete_values.proofs.Same.{same}
+use Rattle.concrete_calls.specs.Same.{AreSame}
+use Rattle.concrete_calls.specs.Values.{value_in}
+use Rattle.concrete_calls.proofs.Same.{same}
 use Rattle.concrete_calls.specs.declared.outcome.CallResult.TheVariants.{OutOfFuel, Done}
 use Rattle.concrete_calls.specs.Calls.{IsMeantBy}
 use Rattle.concrete_function_calls.specs.Calls.{end_of_meaning, is_written, spent, value}

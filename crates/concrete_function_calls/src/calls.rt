@@ -11,8 +11,7 @@ ghost use Rattle.concrete_function_calls.specs.Ends.{end_of};
 ghost use Rattle.concrete_function_calls.specs.Written.{IsWrittenCall};
 
 use crate::arguments::arguments;
-use concrete_calls::{CallResult, evaluate_call, standing};
-use concrete_values::value_in;
+use concrete_calls::{CallResult, evaluate_call, standing, value_in};
 use eval_code::lower;
 use semantics_values::Value;
 use spec_ir::{Fun, Spec, Ty};

@@ -4,7 +4,7 @@ ghost use Rattle.std.specs.Prelude.{◌≡◌, ◌-◌, IfOk, map};
 ghost use Rattle.domain_affine_base.specs.Meaning.{affine};
 ghost use Rattle.abstract_value_laws.specs.Abs.{parts};
 ghost use Rattle.abstract_value_laws.specs.Fits.{Fits, PartsFit};
-ghost use Rattle.domain_cell_laws.specs.Calls.{fields_of};
+ghost use Rattle.domain_laws.specs.Calls.{fields_of};
 ghost use Rattle.domain_affine_laws.specs.Closed as calls;
 ghost use Rattle.abstract_value.specs.View.{abs};
 

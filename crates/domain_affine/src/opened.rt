@@ -10,7 +10,7 @@ ghost use Rattle.abstract_value_laws.specs.Abs.{parts, parts_onto};
 ghost use Rattle.semantics_values.specs.declared.entry.KeyAt.TheVariants.{At};
 ghost use Rattle.abstract_map_laws.specs.Maps.{Fits as MapFits};
 ghost use Rattle.abstract_value_laws.specs.Fits.{Fits, PartsFit};
-ghost use Rattle.domain_cell_laws.specs.Calls.{made_state};
+ghost use Rattle.domain_laws.specs.Calls.{made_state};
 ghost use Rattle.domain_affine_laws.specs.Opened as calls;
 ghost use Rattle.abstract_value.specs.View.{abs};
 

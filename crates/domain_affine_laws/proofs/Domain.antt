@@ -17,9 +17,9 @@ use Rattle.domain_laws.specs.Domain.{DomainLaws}
 use Rattle.domain_laws.specs.Entries.{LinesFit}
 use Rattle.domain_laws.specs.States.{IsState, StateType, has_states, is_field, is_state_data, same_states, state_cases, state_type, state_types}
 use Rattle.domain_laws.specs.Values.{IsStateValue}
-use Rattle.domain_cell_laws.specs.Calls.{fields_of, made_state}
-use Rattle.domain_cell_laws.specs.Lines.{IsField}
-use Rattle.domain_cell_laws.proofs.Fields.{fields_told, states_told}
+use Rattle.domain_laws.specs.Calls.{fields_of, made_state}
+use Rattle.domain_laws.specs.Lines.{IsField}
+use Rattle.domain_laws.proofs.Fields.{fields_told, states_told}
 use Rattle.domain_affine_base.specs.Meaning.{affine}
 use Rattle.domain_affine_base.specs.Words.{Fits}
 use Rattle.domain_affine_base.specs.declared.word.Word.{Word}

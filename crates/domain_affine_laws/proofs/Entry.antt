@@ -23,9 +23,9 @@ use Rattle.domain_laws.specs.declared.field.Field.{Field}
 use Rattle.domain_laws.specs.declared.field.Field.TheVariants as field
 use Rattle.domain_laws.specs.Entries.{GivenFits, LinesFit, PlaceFits, field_at}
 use Rattle.domain_laws.specs.States.{field_of, fields_of, map_field}
-use Rattle.domain_cell_laws.specs.Lines.{IsField, OfField}
-use Rattle.domain_cell_laws.proofs.Entries.{rest_fits, word_fits}
-use Rattle.domain_cell_laws.proofs.Lines.{given_at_fits, of_field, or_fits}
+use Rattle.domain_laws.specs.Lines.{IsField, OfField}
+use Rattle.domain_laws.proofs.Entries.{rest_fits, word_fits}
+use Rattle.domain_laws.proofs.Lines.{given_at_fits, of_field, or_fits}
 use Rattle.domain_affine_base.specs.Words.{Fits, Stands}
 use Rattle.domain_affine_base.specs.declared.word.Word.TheVariants.{Any, Const}
 use Rattle.domain_affine_element_laws.specs.Laws.{StandAll}

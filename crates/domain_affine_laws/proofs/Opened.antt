@@ -31,7 +31,7 @@ use Rattle.domain_laws.specs.declared.field.Field.{Field}
 use Rattle.domain_laws.specs.declared.field.Field.TheVariants as field
 use Rattle.domain_laws.specs.States.{field_of, fields_of, map_field}
 use Rattle.domain_laws.specs.Values.{FieldsFit, IsOf}
-use Rattle.domain_cell_laws.specs.Lines.{IsField}
+use Rattle.domain_laws.specs.Lines.{IsField}
 use Rattle.domain_affine_base.specs.Meaning.{affine}
 use Rattle.domain_affine_base.specs.Words.{Fits, Stands}
 use Rattle.domain_affine_base.specs.declared.word.Word.{Word}

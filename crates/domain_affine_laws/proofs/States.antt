@@ -18,7 +18,7 @@ use Rattle.abstract_value_laws.specs.Abs.{Abs, Parts, word, made, no_case, prese
 use Rattle.abstract_value_laws.specs.Describes.{Describes, PartsDescribe}
 use Rattle.domain_laws.specs.States.{IsState, StateType, behind, has_states, is_field, is_state_data, number_in, state_cases, state_type, state_types, types_in}
 use Rattle.domain_laws.specs.Values.{FieldsFit, IsStateForm, IsStateValue}
-use Rattle.domain_cell_laws.specs.Calls.{fields_of, made_state}
+use Rattle.domain_laws.specs.Calls.{fields_of, made_state}
 use Rattle.domain_affine_base.specs.Meaning.{affine}
 use Rattle.domain_affine_base.specs.declared.word.Word.{Word}
 use Rattle.domain_affine_base.specs.declared.word.Word.TheVariants.{Const}

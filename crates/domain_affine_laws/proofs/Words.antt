@@ -17,7 +17,7 @@ use Rattle.domain_affine_element_laws.specs.Opened.{opened_cell}
 use Rattle.domain_affine_element_laws.specs.Tracked.{number_at, valuation_of}
 use Rattle.domain_affine_element_laws.proofs.Opened.{opens_same, opens_soundly, opens_to_words}
 use Rattle.domain_affine_laws.specs.Opened.{is_cell, opened_words, tracked_word}
-use Rattle.domain_cell_laws.proofs.Lines.{key_told}
+use Rattle.domain_laws.proofs.Lines.{key_told}
 
 -- ---- the words, one after the other
 module _ (k : ℕ) (rows : List (List ℕ)) where

@@ -7,7 +7,7 @@ use Rattle.semantics_values.specs.States.{State}
 use Rattle.fixpoint_theory.specs.Elements.{Elements}
 use Rattle.domain_laws.specs.Domain.{Meaning}
 use Rattle.domain_laws.specs.States.{StateType, has_states, same_states, state_type}
-use Rattle.domain_cell_laws.specs.Calls.{fields_of, made_state}
+use Rattle.domain_laws.specs.Calls.{fields_of, made_state}
 use Rattle.domain_affine_base.specs.declared.word.Word.{Word}
 use Rattle.domain_affine_base.specs.declared.word.Word.TheVariants.{Const}
 use Rattle.domain_affine_element_laws.specs.Closed.{closed_of}

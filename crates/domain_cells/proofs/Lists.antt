@@ -18,15 +18,15 @@ use Rattle.semantics_values.specs.declared.entry.KeyAt.TheVariants.{Whole, Rest,
 use Rattle.semantics_values.specs.declared.entry.Line.{Line}
 use Rattle.abstract_value_laws.specs.Abs.{Abs, Parts, cases, made, no_part, part, parts, parts_onto, word}
 use Rattle.abstract_value_laws.proofs.Joining.{same_number}
-use Rattle.domain_cell_laws.specs.Calls.{behind_first, made_state, values_rank}
-use Rattle.abstract_value_types.specs.OfValues.{one_case}
+use Rattle.domain_laws.specs.Calls.{behind_first, made_state, values_rank}
+use Rattle.abstract_value_laws.specs.OfValues.{one_case}
 use Rattle.domain_laws.specs.declared.field.Field.{Field}
 use Rattle.domain_laws.specs.Entries.{LinesFit}
 use Rattle.domain_laws.specs.States.{field_of, fields_of, is_field}
-use Rattle.domain_cell_laws.specs.Lines.{IsField, OfField}
-use Rattle.domain_cell_laws.proofs.Fields.{fields_told}
-use Rattle.domain_cell_laws.proofs.Lines.{of_field}
-use Rattle.domain_cell_laws.specs.Entry.{entry_value, entry_values, with_cell, with_cells}
+use Rattle.domain_laws.specs.Lines.{IsField, OfField}
+use Rattle.domain_laws.proofs.Fields.{fields_told}
+use Rattle.domain_laws.proofs.Lines.{of_field}
+use Rattle.domain_laws.specs.Entry.{entry_value, entry_values, with_cell, with_cells}
 use Rattle.abstract_value.proofs.Merging.{map_push, parts_onto_more}
 use Rattle.abstract_value.proofs.Views.{abs_Data}
 use Rattle.abstract_value.specs.View.{abs, case_of}

@@ -27,7 +27,7 @@ impl<B: Base> StateDomain<B> {
     ghost use Rattle.std.specs.Prelude.{◌≡◌, IfOk, IsTrue, false, true};
     ghost use Rattle.spec_ir.specs.Views.{specification};
     ghost use Rattle.domain_laws.specs.States.{has_states};
-    ghost use Rattle.domain_cell_laws.specs.Calls.{is_for};
+    ghost use Rattle.domain_laws.specs.Calls.{is_for};
     ghost use Rattle.domain_cells.specs.Views.{context_of, states_of};
 
     /// The domain for the states of a specification: a datatype of one constructor, whose first field is the counter of 32 bits,
@@ -50,8 +50,8 @@ impl<B: Base> StateDomain<B> {
 impl<B: Base> Domain for StateDomain<B> {
     ghost use Rattle.std.specs.Prelude.{map};
     ghost use Rattle.abstract_value_laws.specs.Abs.{Parts, parts};
-    ghost use Rattle.domain_cell_laws.specs.Calls.{cell_calls, is_for};
-    ghost use Rattle.domain_cell_laws.specs.Cells.{cells};
+    ghost use Rattle.domain_laws.specs.Calls.{cell_calls, is_for};
+    ghost use Rattle.domain_laws.specs.Cells.{cells};
     ghost use Rattle.abstract_value.specs.View.{abs};
     ghost use Rattle.domain_cells.specs.Views.{context_of, states_of};
     ghost use Rattle.domain_cells.specs.Instance.{cells_keep_the_laws};

@@ -9,8 +9,8 @@ ghost use Rattle.abstract_value_laws.specs.Abs as plain;
 ghost use Rattle.abstract_value_laws.specs.Abs.{parts};
 ghost use Rattle.domain_laws.specs.Entries.{GivenFits, LinesFit};
 ghost use Rattle.domain_laws.specs.States.{is_field};
-ghost use Rattle.domain_cell_laws.specs.Entry as cells;
-ghost use Rattle.domain_cell_laws.specs.Lines.{IsField, KeyFits, OfField, OfKeys};
+ghost use Rattle.domain_laws.specs.Entry as cells;
+ghost use Rattle.domain_laws.specs.Lines.{IsField, KeyFits, OfField, OfKeys};
 ghost use Rattle.abstract_value.specs.View.{abs};
 
 use abstract_map::{AbstractMap, KeySet};

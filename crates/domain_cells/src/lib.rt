@@ -5,7 +5,7 @@
 //! map, an entry without lines gives 0..0 and a map of the default alone. At 4096 that opens to the constructor value of
 //! 4096..4096, 0..0 and the map.
 //!
-//! *What is proved.* Each call gives what `domain_cell_laws` defines, for any base, and the domain has all laws of `domain_trait`: the
+//! *What is proved.* Each call gives what `domain_laws` defines, for any base, and the domain has all laws of `domain_trait`: the
 //! entry's element holds of each state of the entry, an opened element describes each state of which it holds, a closed one
 //! holds of each next state that the value describes, joins and widenings hold of what either side does, and widening ends.
 #![tactic(auto)]

@@ -3,7 +3,7 @@
 ghost use Rattle.std.specs.Prelude.{◌≡◌, IfOk, drop, map};
 ghost use Rattle.abstract_value_laws.specs.Abs as plain;
 ghost use Rattle.abstract_value_laws.specs.Abs.{parts};
-ghost use Rattle.domain_cell_laws.specs.Calls.{behind_first, fields_of, made_state};
+ghost use Rattle.domain_laws.specs.Calls.{behind_first, fields_of, made_state};
 ghost use Rattle.abstract_value.specs.View.{abs, case_of};
 
 use crate::values::{copied_behind, copies};

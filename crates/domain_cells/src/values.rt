@@ -4,7 +4,7 @@ ghost use Rattle.std.specs.Prelude.{◌≡◌, ◌++◌, ◌-◌, ◌^◌, IfOk,
 ghost use Rattle.abstract_value_laws.specs.Abs.{parts};
 ghost use Rattle.abstract_value_laws.specs.Calls.{absorbs_parts, join_parts, widen_parts};
 ghost use Rattle.abstract_value_laws.specs.Fits.{PartsFit};
-ghost use Rattle.domain_cell_laws.specs.Calls.{values_rank};
+ghost use Rattle.domain_laws.specs.Calls.{values_rank};
 ghost use Rattle.abstract_value.specs.View.{abs};
 
 use abstract_value::AbstractValue;

@@ -1,0 +1,11 @@
+pub mod Cells
+pub mod Described
+pub mod Domain
+pub mod Entries
+pub mod Fields
+pub mod Kept
+pub mod Keys
+pub mod Lines
+pub mod Maps
+pub mod Opened
+pub mod Stamps

@@ -1,4 +1,9 @@
+pub mod Calls
+pub mod Cells
 pub mod Domain
 pub mod Entries
+pub mod Entry
+pub mod Laws
+pub mod Lines
 pub mod States
 pub mod Values

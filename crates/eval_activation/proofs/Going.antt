@@ -23,8 +23,8 @@ use Rattle.support_tail_fixpoint.specs.Measure as numbers
 use Rattle.support_tail_fixpoint.specs.Measure.{CanEnd, Falls}
 use Rattle.support_tail_fixpoint.proofs.Measured.{measures_fall}
 use Rattle.support_tail_fixpoint.proofs.Remains.{answers_are_driven, turn_failed, turn_taken}
-use Rattle.support_group_arguments.specs.Groups.{EachIs, only}
-use Rattle.support_group_arguments.proofs.Groups.{each_weaker}
+use Rattle.support_tail_fixpoint.specs.Groups.{EachIs, only}
+use Rattle.support_tail_fixpoint.proofs.Groups.{each_weaker}
 use Rattle.eval_group_turns.specs.Kept.{args_are, args_fit}
 use Rattle.eval_group_turns.specs.Turning.{stamps_from}
 use Rattle.eval_group_turns.proofs.Turns.{can_end, rank_high}
@@ -44,7 +44,7 @@ use Rattle.abstract_semantics.proofs.Typed.{IsOf}
 use Rattle.eval_activation.specs.declared.activity.Activity.{Activity}
 use Rattle.eval_memo.specs.declared.setting.Setting.{Setting}
 use Rattle.eval_activation.specs.Activities.{Goes, Taken, due, meaning, measure, standing, turns_from}
-use Rattle.abstract_calls.specs.Laws.{JoinsUnder}
+use Rattle.abstract_semantics.specs.CallLaws.{JoinsUnder}
 use Rattle.eval_memo.specs.Ready.{AreGroupArgs, ArgsOf, IsReady}
 use Rattle.eval_memo.specs.Settings.{group_of, group_turn, spec_of}
 use Rattle.eval_activation.proofs.JoinedYields.{from_any}

@@ -10,9 +10,9 @@ use Rattle.abstract_value_laws.specs.Fits.{Fits}
 use Rattle.abstract_value_laws.proofs.Joining.{join_fits}
 use Rattle.spec_ir.specs.Specification.{Spec}
 use Rattle.support_tail_fixpoint.specs.Answer.{Yield}
-use Rattle.support_group_arguments.specs.Groups.{merge_each}
-use Rattle.support_group_arguments.proofs.Groups.{each_weaker, merge_each_kept}
-use Rattle.support_group_arguments.proofs.Somes.{some_kept}
+use Rattle.support_tail_fixpoint.specs.Groups.{merge_each}
+use Rattle.support_tail_fixpoint.proofs.Groups.{each_weaker, merge_each_kept}
+use Rattle.support_tail_fixpoint.proofs.Somes.{some_kept}
 use Rattle.eval_group_turns.specs.Fitting.{EachFits, ListFits}
 use Rattle.abstract_semantics.specs.Answers.{Answer}
 use Rattle.abstract_semantics.specs.Terms.{GroupArgs, join_yields, merge_all, params_of}

@@ -34,7 +34,7 @@ use Rattle.abstract_semantics.specs.Laws.{IsResult}
 use Rattle.abstract_semantics.proofs.Plain.{calls_keep_types, past}
 use Rattle.eval_memo.specs.declared.setting.Setting.{Setting}
 use Rattle.eval_memo.specs.Order.{AllInOrder, InOrder, MayCall}
-use Rattle.abstract_calls.specs.Laws.{JoinsUnder}
+use Rattle.abstract_semantics.specs.CallLaws.{JoinsUnder}
 use Rattle.eval_memo.specs.Ready.{IsReady}
 use Rattle.eval_memo.specs.Settings.{spec_of}
 

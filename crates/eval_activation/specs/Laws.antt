@@ -13,7 +13,7 @@ use Rattle.abstract_semantics.specs.Answers.{Answer}
 use Rattle.abstract_semantics.specs.Calls.{AreRight}
 use Rattle.eval_memo.specs.declared.setting.Setting.{Setting}
 use Rattle.eval_memo.specs.Order.{InOrder}
-use Rattle.abstract_calls.specs.Laws.{JoinsUnder}
+use Rattle.abstract_semantics.specs.CallLaws.{JoinsUnder}
 use Rattle.eval_memo.specs.Ready.{IsReady}
 use Rattle.eval_memo.specs.Settings.{spec_of}
 

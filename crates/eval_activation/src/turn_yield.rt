@@ -6,7 +6,7 @@ ghost use Rattle.abstract_value_laws.specs.Fits.{Fits};
 ghost use Rattle.abstract_value.specs.View.{abs};
 ghost use Rattle.abstract_semantics.specs.Terms as terms;
 ghost use Rattle.support_tail_fixpoint.specs.Answer.{out_of};
-ghost use Rattle.support_group_arguments.specs.Groups.{join_some, merge_each};
+ghost use Rattle.support_tail_fixpoint.specs.Groups.{join_some, merge_each};
 ghost use Rattle.eval_group_turns.specs.Fitting.{EachFits};
 ghost use Rattle.eval_memo.specs.Ready.{IsReady, YieldFits};
 ghost use Rattle.eval_memo.specs.Settings as of;

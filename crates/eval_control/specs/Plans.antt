@@ -9,9 +9,9 @@ use Rattle.spec_ir.specs.CoreTerms.{Core, Cores}
 use Rattle.semantics_values.specs.Types.{environment_of}
 use Rattle.semantics.specs.Steps.{is_word}
 use Rattle.abstract_value_laws.specs.Abs.{Abs, Cases, flag, word, absent, present}
-use Rattle.abstract_value_types.specs.OfValues.{only}
+use Rattle.abstract_value_laws.specs.OfValues.{only}
 use Rattle.support_tail_fixpoint.specs.Answer.{Yield, gives}
-use Rattle.support_group_arguments.specs.Groups.{join_some}
+use Rattle.support_tail_fixpoint.specs.Groups.{join_some}
 use Rattle.abstract_semantics.specs.Answers.{Answer, Evaluation, behind, then_on, ◌>>=◌}
 use Rattle.abstract_semantics.specs.Choices.{abs_at, abs_named, cases_there, flag_there, word_there}
 use Rattle.abstract_semantics.specs.Steps.{accessed, binary, compared, made_of, resized, unary, updated}

@@ -3,8 +3,8 @@ use Rattle.std.proofs.Common.{◌≡◌, ℕ, zero, suc, ◌+◌, ◌<◌, ◌�
 use Rattle.std.specs.Prelude.{IfSome, max, option_map, slice_get}
 use Rattle.std.proofs.Math.Seq.{drop-nil}
 use Rattle.std.proofs.Math.ListN.{drop_of_length-le}
-use Rattle.support_group_arguments.specs.Groups.{EachIs, each_absorbs, held, join_some, merge_each, only, some_absorbs}
-use Rattle.support_group_arguments.proofs.Groups.{absorbs_nothing, held_is}
+use Rattle.support_tail_fixpoint.specs.Groups.{EachIs, each_absorbs, held, join_some, merge_each, only, some_absorbs}
+use Rattle.support_tail_fixpoint.proofs.Groups.{absorbs_nothing, held_is}
 use Rattle.abstract_value_laws.specs.Abs.{Abs}
 use Rattle.abstract_value.specs.declared.value.AbstractValue.{AbstractValue}
 use Rattle.eval_group_turns.specs.Views.{all_abs, each_abs}

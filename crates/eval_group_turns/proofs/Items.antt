@@ -7,7 +7,7 @@ use Rattle.spec_ir.specs.declared.ty.Ty.{Ty}
 use Rattle.spec_ir.specs.Environment.{Environment}
 use Rattle.abstract_value_laws.specs.Abs.{Abs, parts}
 use Rattle.abstract_value_laws.specs.Fits.{Fits, PartsFit}
-use Rattle.abstract_value_types.specs.Types.{has_type, have_types}
+use Rattle.abstract_value_laws.specs.Types.{has_type, have_types}
 use Rattle.abstract_value.specs.View.{abs}
 use Rattle.abstract_value.specs.declared.value.AbstractValue.{AbstractValue}
 use Rattle.abstract_value.proofs.Both.{IsBoth}

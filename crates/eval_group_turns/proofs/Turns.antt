@@ -9,8 +9,8 @@ use Rattle.spec_ir.specs.WellFormed.{IsWellFormed}
 use Rattle.semantics_values.specs.Types.{environment_of}
 use Rattle.abstract_value_laws.specs.Abs.{Abs, parts}
 use Rattle.abstract_value_laws.specs.Shapes.{ListsStamps, PartsList}
-use Rattle.support_group_arguments.proofs.Groups.{each_weaker}
-use Rattle.support_group_arguments.proofs.Ranks.{each_high}
+use Rattle.support_tail_fixpoint.proofs.Groups.{each_weaker}
+use Rattle.support_tail_fixpoint.proofs.Ranks.{each_high}
 use Rattle.support_tail_fixpoint.specs.Fitting.{WideningLowersRank}
 use Rattle.support_tail_fixpoint.specs.Meaning.{ArgsFit}
 use Rattle.abstract_semantics.specs.Calls.{moves}

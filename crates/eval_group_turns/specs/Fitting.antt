@@ -3,7 +3,7 @@ use Rattle.std.specs.Prelude.{ℕ, List}
 use Rattle.base_trait.specs.Algebra.{Algebra}
 use Rattle.abstract_value_laws.specs.Abs.{Abs, parts}
 use Rattle.abstract_value_laws.specs.Fits.{PartsFit}
-use Rattle.support_group_arguments.specs.Groups.{EachIs}
+use Rattle.support_tail_fixpoint.specs.Groups.{EachIs}
 use Rattle.abstract_semantics.specs.Terms.{GroupArgs}
 
 module _ {W N C : Type 0} (B : Algebra W N C) (c : C) (cap : ℕ) where

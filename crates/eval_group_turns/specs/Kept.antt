@@ -13,8 +13,8 @@ use Rattle.abstract_value_laws.specs.Calls.{join_of, widen_of}
 use Rattle.abstract_value_laws.specs.Shapes.{ListsStamps}
 use Rattle.abstract_value_laws.proofs.Joining.{join_fits, join_lists}
 use Rattle.abstract_value_laws.proofs.Widening.{widen_fits, widen_lists}
-use Rattle.support_group_arguments.specs.Groups.{EachIs, merge_each}
-use Rattle.support_group_arguments.proofs.Groups.{each_tells, each_told, merge_each_kept}
+use Rattle.support_tail_fixpoint.specs.Groups.{EachIs, merge_each}
+use Rattle.support_tail_fixpoint.proofs.Groups.{each_tells, each_told, merge_each_kept}
 use Rattle.support_tail_fixpoint.specs.Meaning.{ArgsFit, KeepsFit}
 use Rattle.abstract_semantics.specs.Terms.{GroupArgs, merge_all, params_of}
 use Rattle.abstract_semantics.proofs.Termed.{ArgsOf}

@@ -10,7 +10,7 @@ use Rattle.abstract_value_laws.specs.Abs.{Abs, parts}
 use Rattle.abstract_value_laws.specs.Shapes.{PartsList}
 use Rattle.support_tail_fixpoint.specs.Fitting.{WideningLowersRank}
 use Rattle.support_tail_fixpoint.specs.Meaning.{ArgsFit}
-use Rattle.support_group_arguments.specs.Groups.{EachIs}
+use Rattle.support_tail_fixpoint.specs.Groups.{EachIs}
 use Rattle.abstract_semantics.specs.Calls.{AreArguments}
 use Rattle.abstract_semantics.specs.Terms.{GroupArgs}
 use Rattle.eval_group_turns.specs.Turning.{turning}

@@ -18,7 +18,7 @@ use Rattle.semantics_values.specs.Types.{environment_of}
 use Rattle.semantics.specs.Direct.{group_of}
 use Rattle.abstract_value_laws.specs.Abs.{Abs, Cases, Parts, flag, word, made, map, no_case, absent, present, no_part, part, parts}
 use Rattle.abstract_value_laws.specs.Shapes.{CasesList, ListsStamps, PartsList}
-use Rattle.abstract_value_types.specs.Types.{have_types}
+use Rattle.abstract_value_laws.specs.Types.{have_types}
 use Rattle.abstract_semantics.specs.Terms.{params_of}
 use Rattle.abstract_semantics.proofs.Listed.{each_lists}
 use Rattle.abstract_semantics.proofs.Plain.{are_given}

@@ -7,9 +7,9 @@ use Rattle.spec_ir.specs.Specification.{Spec}
 use Rattle.semantics_values.specs.Types.{environment_of}
 use Rattle.semantics.specs.Direct.{group_of}
 use Rattle.abstract_value_laws.specs.Abs.{Abs, parts}
-use Rattle.abstract_value_types.specs.Types.{have_types}
+use Rattle.abstract_value_laws.specs.Types.{have_types}
 use Rattle.support_tail_fixpoint.specs.Meaning.{Meaning}
-use Rattle.support_group_arguments.specs.Groups.{each_passes}
+use Rattle.support_tail_fixpoint.specs.Groups.{each_passes}
 use Rattle.abstract_semantics.specs.Calls.{moves}
 use Rattle.abstract_semantics.specs.Terms.{GroupArgs, params_of}
 use Rattle.abstract_semantics.specs.Ranks.{group_rank}

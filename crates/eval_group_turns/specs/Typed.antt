@@ -8,7 +8,7 @@ use Rattle.spec_ir.specs.declared.ty.Ty.TheVariants.{Bool as Flag, Word, Data as
 use Rattle.spec_ir.specs.Environment.{Case, Data, Environment, field_types}
 use Rattle.abstract_value_laws.specs.Abs.{Abs, Cases, Parts, flag, word, made, map, no_case, absent, present, no_part, part}
 use Rattle.abstract_value_laws.specs.Calls.{merge_of, merge_cases, merge_parts, same_type}
-use Rattle.abstract_value_types.specs.Types.{has_type, has_width, have_cases, have_types, of_data}
+use Rattle.abstract_value_laws.specs.Types.{has_type, has_width, have_cases, have_types, of_data}
 
 of_both : (o : Option Data) (f g k : List Case → Bool) → ((ds : List Case) → f ds ≡ true → g ds ≡ true → k ds ≡ true) → of_data o f ≡ true → of_data o g ≡ true → of_data o k ≡ true
 of_both None f g k h p q = p

@@ -2,7 +2,7 @@
 
 ghost use Rattle.std.specs.Prelude.{◌≡◌, map, option_map, IfOk, IfSome};
 ghost use Rattle.abstract_value_laws.specs.Calls.{absorbs_of};
-ghost use Rattle.support_group_arguments.specs.Groups.{each_absorbs, held, join_some, merge_each, only, some_absorbs};
+ghost use Rattle.support_tail_fixpoint.specs.Groups.{each_absorbs, held, join_some, merge_each, only, some_absorbs};
 ghost use Rattle.abstract_value.specs.View.{abs};
 ghost use Rattle.abstract_value.specs.Ways.{merged};
 ghost use Rattle.abstract_semantics.specs.Calls.{all_absorb};

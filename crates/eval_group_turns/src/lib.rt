@@ -2,7 +2,7 @@
 //!
 //! An activation evaluates the bodies of the functions of a group that have arguments, turn by turn: each turn gives the
 //! join of its leaves, and for each function the join of the arguments of the calls of it (`support_tail_fixpoint` has the rule
-//! by which turns follow one another, `support_group_arguments` that of several functions at once). This crate has group arguments
+//! by which turns follow one another, `support_tail_fixpoint` that of several functions at once). This crate has group arguments
 //! over abstract values as a `Turn` of that driver: for each function, by its number, a list of values or none.
 //!
 //! With sets as words, group arguments of functions 0 and 2 are `[({1}), none, ({5}, true)]`. Joined with `[({2})]` they are

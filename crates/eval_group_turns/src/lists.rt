@@ -6,7 +6,7 @@ ghost use Rattle.semantics_values.specs.Types.{environment_of};
 ghost use Rattle.abstract_value_laws.specs.Abs.{parts};
 ghost use Rattle.abstract_value_laws.specs.Calls.{absorbs_of};
 ghost use Rattle.abstract_value_laws.specs.Fits.{Fits};
-ghost use Rattle.abstract_value_types.specs.Types.{have_types};
+ghost use Rattle.abstract_value_laws.specs.Types.{have_types};
 ghost use Rattle.abstract_value.specs.View.{abs};
 ghost use Rattle.abstract_value.specs.Ways.{merged};
 ghost use Rattle.abstract_semantics.specs.Calls.{all_absorb};

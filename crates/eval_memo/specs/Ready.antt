@@ -4,14 +4,14 @@ use Rattle.base_trait.specs.Algebra.{Algebra}
 use Rattle.abstract_map_laws.specs.Laws.{HasRoom}
 use Rattle.spec_ir.specs.Specification.{Spec, Fun}
 use Rattle.semantics_laws.specs.Accepted.{IsAccepted}
-use Rattle.abstract_calls.specs.Laws.{JoinsUnder}
+use Rattle.abstract_semantics.specs.CallLaws.{JoinsUnder}
 use Rattle.eval_code.specs.Code.{IsCodeOf}
 use Rattle.eval_code.specs.Views.{code}
 use Rattle.support_tail_fixpoint.specs.Activation.{HasTurn}
 use Rattle.support_tail_fixpoint.specs.Answer.{IfGives, Yield}
 use Rattle.abstract_value_laws.specs.Abs.{Abs}
 use Rattle.abstract_value_laws.specs.Fits.{Fits}
-use Rattle.support_group_arguments.specs.Groups.{EachIs}
+use Rattle.support_tail_fixpoint.specs.Groups.{EachIs}
 use Rattle.abstract_semantics.specs.Answers.{Answer}
 use Rattle.abstract_semantics.specs.Calls.{AreArguments, AreRight}
 use Rattle.abstract_semantics.specs.Terms.{GroupArgs}

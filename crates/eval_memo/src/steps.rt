@@ -7,7 +7,7 @@ ghost use Rattle.spec_ir.specs.Views.{core, specification};
 ghost use Rattle.semantics_values.specs.Types.{environment_of};
 ghost use Rattle.semantics.specs.Direct as meaning;
 ghost use Rattle.abstract_value_laws.specs.Abs.{parts};
-ghost use Rattle.abstract_value_types.specs.Types as types;
+ghost use Rattle.abstract_value_laws.specs.Types as types;
 ghost use Rattle.abstract_value.specs.View.{abs};
 ghost use Rattle.support_tail_fixpoint.specs.Answer.{gives};
 ghost use Rattle.abstract_semantics.specs.Answers.{behind};

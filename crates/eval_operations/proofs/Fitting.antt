@@ -9,7 +9,7 @@ use Rattle.base_trait.specs.Algebra.{Algebra}
 use Rattle.spec_ir.specs.Environment.{Environment}
 use Rattle.abstract_value_laws.specs.Abs.{Abs, Parts, made, no_case, parts}
 use Rattle.abstract_value_laws.specs.Fits.{CasesFit, Fits, PartsFit}
-use Rattle.abstract_value_types.specs.OfValues.{absent_onto, case_count, one_case}
+use Rattle.abstract_value_laws.specs.OfValues.{absent_onto, case_count, one_case}
 use Rattle.abstract_value.specs.View.{abs}
 use Rattle.abstract_value.specs.declared.value.AbstractValue.{AbstractValue}
 use Rattle.abstract_semantics.specs.Steps.{made_of}

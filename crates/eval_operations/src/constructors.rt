@@ -6,7 +6,7 @@ ghost use Rattle.spec_ir.specs.Views.{specification};
 ghost use Rattle.semantics_values.specs.Types.{environment_of};
 ghost use Rattle.abstract_value_laws.specs.Abs.{flag, word};
 ghost use Rattle.abstract_value_laws.specs.Fits.{Fits};
-ghost use Rattle.abstract_value_types.specs.OfValues.{only};
+ghost use Rattle.abstract_value_laws.specs.OfValues.{only};
 ghost use Rattle.abstract_value.specs.View.{abs};
 ghost use Rattle.abstract_semantics.specs.Steps as of;
 

@@ -7,7 +7,7 @@ use Rattle.spec_ir.specs.CoreTerms.{Core}
 use Rattle.semantics_values.specs.Types.{environment_of}
 use Rattle.semantics.specs.Steps.{is_word}
 use Rattle.abstract_value_laws.specs.Abs.{Abs, flag, word}
-use Rattle.abstract_value_types.specs.OfValues.{only}
+use Rattle.abstract_value_laws.specs.OfValues.{only}
 use Rattle.support_tail_fixpoint.specs.Answer.{gives}
 use Rattle.abstract_semantics.specs.Answers.{Answer}
 use Rattle.abstract_semantics.specs.Steps.{accessed, binary, compared, made_of, resized, unary, updated}

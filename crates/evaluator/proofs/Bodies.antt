@@ -11,7 +11,7 @@ use Rattle.abstract_value_laws.specs.Abs.{Abs}
 use Rattle.abstract_value.specs.View.{abs}
 use Rattle.abstract_value.specs.declared.value.AbstractValue.{AbstractValue}
 use Rattle.support_tail_fixpoint.specs.Answer.{gives}
-use Rattle.support_group_arguments.specs.Groups.{join_some}
+use Rattle.support_tail_fixpoint.specs.Groups.{join_some}
 use Rattle.abstract_semantics.specs.Answers.{Answer}
 use Rattle.eval_memo.specs.declared.error.EvalError.{EvalError}
 use Rattle.eval_memo.specs.declared.setting.Setting.{Setting}

@@ -7,7 +7,7 @@ use Rattle.spec_ir.specs.Specification.{Spec}
 use Rattle.semantics_values.specs.Types.{environment_of}
 use Rattle.abstract_value_laws.specs.Abs.{Abs, parts as parts_of}
 use Rattle.abstract_value_laws.specs.Fits.{Fits, PartsFit}
-use Rattle.abstract_value_types.specs.Types.{have_types}
+use Rattle.abstract_value_laws.specs.Types.{have_types}
 use Rattle.support_tail_fixpoint.specs.Answer.{IfGives, Yield, out_of}
 use Rattle.abstract_semantics.specs.Answers.{Answer}
 use Rattle.abstract_semantics.specs.Calls.{AreArguments}

@@ -6,7 +6,7 @@ use Rattle.spec_ir.specs.CoreTerms as form
 use Rattle.spec_ir.specs.CoreTerms.{Core, Cores}
 use Rattle.semantics_values.specs.Types.{environment_of}
 use Rattle.semantics.specs.Steps.{is_word}
-use Rattle.abstract_value_types.specs.OfValues.{only}
+use Rattle.abstract_value_laws.specs.OfValues.{only}
 use Rattle.abstract_value_laws.specs.Abs.{Abs, flag, word}
 use Rattle.support_tail_fixpoint.specs.Answer.{Yield, fails, gives}
 use Rattle.abstract_semantics.specs.Answers.{Answer, Evaluation, behind, ◌>>=◌}

@@ -8,7 +8,7 @@ use Rattle.base_trait.specs.Uses.{Seen}
 use Rattle.spec_ir.specs.CoreTerms.{Cores}
 use Rattle.abstract_value_laws.specs.Abs.{Abs}
 use Rattle.support_tail_fixpoint.specs.Answer.{Yield, fails, gives}
-use Rattle.support_group_arguments.specs.Groups.{join_some}
+use Rattle.support_tail_fixpoint.specs.Groups.{join_some}
 use Rattle.abstract_semantics.specs.Answers.{Answer, then_on}
 use Rattle.abstract_semantics.specs.Terms.{GroupArgs}
 use Rattle.eval_memo.specs.declared.setting.Setting.{Setting}

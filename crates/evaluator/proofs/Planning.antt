@@ -8,7 +8,7 @@ use Rattle.spec_match_compiler.specs.Decisions.{Decision, Decisions, row, on_cas
 use Rattle.spec_ir.specs.CoreTerms.{Core, Cores, no_core, core_then}
 use Rattle.abstract_value_laws.specs.Abs.{Abs, Cases, no_case, absent, present}
 use Rattle.support_tail_fixpoint.specs.Answer.{Yield, fails, gives}
-use Rattle.support_group_arguments.specs.Groups.{join_some}
+use Rattle.support_tail_fixpoint.specs.Groups.{join_some}
 use Rattle.abstract_semantics.specs.Answers.{Answer, Evaluation, branch, joined, joined_from, then_on}
 use Rattle.abstract_semantics.specs.Choices.{abs_at, abs_named, arm_on, arms_present, cases_there, flag_there, word_there}
 use Rattle.abstract_semantics.specs.Terms.{GroupArgs}

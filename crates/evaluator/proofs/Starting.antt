@@ -5,7 +5,7 @@ use Rattle.std.proofs.lemmas.List.{length-map}
 use Rattle.support_tail_fixpoint.specs.declared.policy.Policy.{Policy}
 use Rattle.spec_ir.specs.Specification.{Spec}
 use Rattle.spec_ir.specs.Views.{fun_of}
-use Rattle.abstract_calls.specs.Answers.{answers}
+use Rattle.abstract_semantics.specs.CallAnswers.{answers}
 use Rattle.std.specs.Prelude.{All, IfOk, ◌^◌}
 use Rattle.std.proofs.lemmas.List.Elements.{All-nil, All-cons}
 use Rattle.base_trait.specs.Algebra.{Algebra}
@@ -21,9 +21,9 @@ use Rattle.eval_memo.specs.Given.{Gives}
 use Rattle.eval_memo.proofs.Answering.{passed}
 use Rattle.abstract_value_laws.specs.Abs.{Abs, parts}
 use Rattle.abstract_value_laws.specs.Fits.{Fits, PartsFit}
-use Rattle.abstract_calls.proofs.Right.{answers_are_right}
-use Rattle.abstract_group_ranks.specs.Ranks.{rank_of}
-use Rattle.abstract_group_ranks.proofs.Ranks.{ranks_count}
+use Rattle.abstract_semantics.proofs.Right.{answers_are_right}
+use Rattle.abstract_semantics.specs.GroupRanks.{rank_of}
+use Rattle.abstract_semantics.proofs.Ranks.{ranks_count}
 use Rattle.eval_memo.specs.declared.setting.Setting.{Setting}
 use Rattle.eval_memo.specs.Memos.{Remembered, Stands}
 use Rattle.eval_memo.specs.Ready.{IsReady}

@@ -14,7 +14,7 @@ use Rattle.eval_code.specs.Views.{code}
 use Rattle.abstract_value_laws.specs.Abs.{Abs, parts as parts_of}
 use Rattle.abstract_value_laws.specs.Fits.{Fits, PartsFit}
 use Rattle.support_tail_fixpoint.specs.Answer.{Yield, fails, gives}
-use Rattle.support_group_arguments.specs.Groups.{join_some}
+use Rattle.support_tail_fixpoint.specs.Groups.{join_some}
 use Rattle.abstract_semantics.specs.Answers.{Answer, Evaluation, joined_from, then_on}
 use Rattle.abstract_semantics.specs.Terms as terms
 use Rattle.abstract_semantics.specs.Terms.{GroupArgs}

@@ -7,8 +7,8 @@ use Rattle.eval_code.specs.Views.{code}
 use Rattle.support_tail_fixpoint.specs.Activation.{HasTurn}
 use Rattle.abstract_value_laws.specs.Abs.{Abs}
 use Rattle.abstract_semantics.specs.Answers.{Answer}
-use Rattle.abstract_calls.specs.Answers.{answers}
-use Rattle.abstract_calls.specs.Laws.{JoinsUnder}
+use Rattle.abstract_semantics.specs.CallAnswers.{answers}
+use Rattle.abstract_semantics.specs.CallLaws.{JoinsUnder}
 use Rattle.eval_memo.specs.declared.setting.Setting.{Setting}
 use Rattle.eval_memo.specs.Memos.{AreDistinct, AreTrue, Remembered}
 use Rattle.eval_memo.specs.Settings.{spec_of}

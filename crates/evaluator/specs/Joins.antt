@@ -1,6 +1,6 @@
 -- The joins of what several branches give.
 use Rattle.std.specs.Prelude.{List, [], ◌∷◌, Option}
-use Rattle.support_group_arguments.specs.Groups.{join_some}
+use Rattle.support_tail_fixpoint.specs.Groups.{join_some}
 use Rattle.support_tail_fixpoint.specs.Answer.{gives}
 use Rattle.abstract_semantics.specs.Answers.{Answer, then_on}
 

@@ -7,7 +7,7 @@ use Rattle.spec_ir.specs.Specification.{Spec}
 use Rattle.semantics_values.specs.Types.{environment_of}
 use Rattle.abstract_value_laws.specs.Abs.{Abs, parts}
 use Rattle.abstract_value_laws.specs.Fits.{Fits}
-use Rattle.abstract_value_types.specs.Types.{have_types}
+use Rattle.abstract_value_laws.specs.Types.{have_types}
 use Rattle.abstract_value.specs.View.{abs}
 use Rattle.abstract_value.specs.declared.value.AbstractValue.{AbstractValue}
 use Rattle.abstract_semantics.specs.Answers.{Answer, behind}

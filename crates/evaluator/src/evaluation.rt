@@ -7,7 +7,7 @@ ghost use Rattle.abstract_value_laws.specs.Fits.{Fits};
 ghost use Rattle.abstract_value.specs.View.{abs};
 ghost use Rattle.abstract_semantics.specs.Answers.{behind};
 ghost use Rattle.abstract_semantics.specs.Calls.{AreArguments};
-ghost use Rattle.abstract_calls.specs.Answers.{answers};
+ghost use Rattle.abstract_semantics.specs.CallAnswers.{answers};
 ghost use Rattle.eval_memo.specs.Given.{Gives};
 ghost use Rattle.eval_memo.specs.Memos.{Holds, Stands, entries};
 ghost use Rattle.eval_memo.specs.Ready.{IsReady};

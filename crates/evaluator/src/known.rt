@@ -42,7 +42,7 @@ impl<K: Placed> Counted for Defined<K> {
 }
 
 impl<B: Base, K: Placed> Known<B> for Defined<K> {
-    ghost use Rattle.abstract_calls.specs.Answers.{answers};
+    ghost use Rattle.abstract_semantics.specs.CallAnswers.{answers};
 
     ghost calls = { λ c. answers B.algebra c B.CAP K.spec K.at K.policy };
 }

@@ -15,7 +15,7 @@
 //! within that of its term. At most 1,800 terms and plans are underway, where each call counts as one more; an evaluation that nests them deeper
 //! answers `NoMemory`. This keeps below 8 MiB what they take of the stack. Decisions are planned, and their plans evaluated, in loops along the literals of a position.
 //!
-//! *What is said of `eval`.* Calls give what `answers` of `abstract_calls` says, the reinterpretation as a function: a call answers its
+//! *What is said of `eval`.* Calls give what `answers` of `abstract_semantics` says, the reinterpretation as a function: a call answers its
 //! value, or none, and its reads come behind those of the log; or it is deep, at the function that this names. Each entry of the memo
 //! says what its call gives, also after an error; no two are of one call; and as many were added as steps were ticked. The log and the
 //! memo only grow. After a call of a function of the specification the memo holds it; where it held it before, nothing is added.

@@ -8,9 +8,9 @@ use Rattle.fixpoint_theory.specs.Views.{listing, listings}
 use Rattle.fixpoint_theory.specs.declared.table.Block.{Block}
 use Rattle.fixpoint_theory.specs.declared.table.Table.{Table}
 use Rattle.state_text.specs.Lines.{lines}
-use Rattle.text_claim_faults.specs.declared.claim_error.ClaimError.{ClaimError}
-use Rattle.analysis_claim_laws.specs.Answers.{Telling, answer, answer_at}
-use Rattle.analysis_claim_laws.specs.Claims.{Claim, address_of, differs, never, range, sum}
+use Rattle.text_faults.specs.declared.claim_error.ClaimError.{ClaimError}
+use Rattle.analysis_query_laws.specs.Answers.{Telling, answer, answer_at}
+use Rattle.analysis_query_laws.specs.Claims.{Claim, address_of, differs, never, range, sum}
 use Rattle.analysis_claims.specs.Seen.{seen_by}
 use Rattle.text_claims.specs.Answers.{answer_line, answers}
 use Rattle.text_claims.specs.Meaning.{Meant, nothing, bad, unknown, says, meant}

@@ -12,10 +12,10 @@ use Rattle.fixpoint_theory.specs.declared.table.Block.{Block}
 use Rattle.fixpoint_theory.specs.declared.table.Table.{Table}
 use Rattle.fixpoint_theory.specs.declared.verdict.Verdict.{Verdict}
 use Rattle.domain_laws.specs.States.{StateType, has_states, same_states, state_type}
-use Rattle.domain_cell_laws.specs.Calls as cell
-use Rattle.domain_cell_laws.specs.Calls.{cell_calls}
-use Rattle.domain_cell_laws.specs.Cells.{cells}
-use Rattle.domain_cell_laws.proofs.Fields.{states_told}
+use Rattle.domain_laws.specs.Calls as cell
+use Rattle.domain_laws.specs.Calls.{cell_calls}
+use Rattle.domain_laws.specs.Cells.{cells}
+use Rattle.domain_laws.proofs.Fields.{states_told}
 use Rattle.support_modular_rows.specs.Submodule.{Submodule}
 use Rattle.domain_affine_base.specs.Meaning.{affine}
 use Rattle.domain_affine_base.specs.declared.word.Word.{Word}
@@ -25,14 +25,14 @@ use Rattle.base_product.specs.Meaning.{paired}
 use Rattle.domain_product_laws.specs.Domain.{may_pair, pair_meaning}
 use Rattle.semantics_values.specs.declared.entry.KeyAt.{KeyAt}
 use Rattle.analysis_transfer_laws.specs.Problem.{Problem}
-use Rattle.analysis_claim_laws.specs.Affine.{affine_tell}
-use Rattle.analysis_claim_laws.specs.Answers.{Telling}
-use Rattle.analysis_claim_laws.specs.Claims.{Claim}
-use Rattle.analysis_claim_laws.specs.Cells.{cells_tell}
-use Rattle.analysis_claim_laws.specs.Pairs.{pairs_tell}
+use Rattle.analysis_query_laws.specs.Affine.{affine_tell}
+use Rattle.analysis_query_laws.specs.Answers.{Telling}
+use Rattle.analysis_query_laws.specs.Claims.{Claim}
+use Rattle.analysis_query_laws.specs.Cells.{cells_tell}
+use Rattle.analysis_query_laws.specs.Pairs.{pairs_tell}
 use Rattle.text_claims.specs.Answers.{answers}
 use Rattle.text_claims.specs.Reading.{has_word, read}
-use Rattle.analysis_slice_laws.proofs.One.{slices_are_of_uses}
+use Rattle.analysis_query_laws.proofs.One.{slices_are_of_uses}
 use Rattle.text_slices.specs.declared.slice_cell.SliceCell.{SliceCell}
 use Rattle.analysis_claims.specs.Seen.{seen_by}
 use Rattle.text_words.specs.Readings.{Readings}

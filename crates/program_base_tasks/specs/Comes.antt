@@ -1,7 +1,7 @@
 -- What is asked comes to with the elements of the code.
 use Rattle.std.specs.Prelude.{ℕ, List}
 use Rattle.code_image.specs.Image.{Image}
-use Rattle.analysis_claim_laws.specs.Answers.{Telling}
+use Rattle.analysis_query_laws.specs.Answers.{Telling}
 use Rattle.program_common.specs.Outcome.{Outcome}
 use Rattle.program_domains.specs.Tasks.{Task, analyse, analyse_open, check, check_open, claims, claims_open, convert, measure, slice, slice_open}
 use Rattle.program_domain_tasks.specs.Claims.{OwnClaims}

@@ -20,9 +20,9 @@ use Rattle.spec_ir.specs.Specification.{Spec}
 use Rattle.spec_checker.specs.Check.{IsFaultless, IsFirstFault, IsSpecOf}
 use Rattle.spec_checker.specs.Laws.{FaultsAreSettled}
 use Rattle.spec_checker.proofs.Settled.{faults_are_settled}
-use Rattle.spec_checker_laws.proofs.Decided.{trees_are_decided}
-use Rattle.spec_checker_laws.proofs.One.{specifications_are_one}
-use Rattle.spec_checker_laws.proofs.There.{specifications_are_there}
+use Rattle.semantics_accepted.proofs.Decided.{trees_are_decided}
+use Rattle.semantics_accepted.proofs.One.{specifications_are_one}
+use Rattle.semantics_accepted.proofs.There.{specifications_are_there}
 use Rattle.support_command_line.specs.SpecNames.{SpecName, input, power_pc, risc_v}
 use Rattle.program_common.specs.declared.spec_fault.SpecFault.{SpecFault}
 use Rattle.program_common.specs.declared.spec_fault.SpecFault.TheVariants.{Lexing, Parsing, Checking}

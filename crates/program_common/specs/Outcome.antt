@@ -1,13 +1,13 @@
 -- What a run comes to: one value for each status and line.
 use Rattle.std.specs.Prelude.{ℕ, List, Result, Ok, Err}
-use Rattle.text_claim_faults.specs.declared.claim_error.ClaimError.{ClaimError}
-use Rattle.text_claim_faults.specs.FaultLines as claims
+use Rattle.text_faults.specs.declared.claim_error.ClaimError.{ClaimError}
+use Rattle.text_faults.specs.ClaimFaultLines as claims
 use Rattle.code_image.specs.declared.image_error.ImageError.{ImageError}
 use Rattle.code_image.specs.Faults as image
 use Rattle.state_text.specs.declared.entry_error.EntryError.{EntryError}
 use Rattle.state_text.specs.FaultLines as entry
-use Rattle.text_table_faults.specs.declared.table_error.TableError.{TableError}
-use Rattle.text_table_faults.specs.FaultLines as table
+use Rattle.text_faults.specs.declared.table_error.TableError.{TableError}
+use Rattle.text_faults.specs.TableFaultLines as table
 use Rattle.program_common.specs.declared.rejection.Rejection.{Rejection}
 use Rattle.program_common.specs.declared.spec_fault.SpecFault.{SpecFault}
 use Rattle.program_common.specs.declared.status.Status.{Status}

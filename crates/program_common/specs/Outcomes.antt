@@ -13,10 +13,10 @@ use Rattle.code_image.specs.declared.image_error.ImageError.{ImageError}
 use Rattle.code_image.specs.declared.image_error.ImageError.TheVariants as imaging
 use Rattle.state_text.specs.declared.entry_error.EntryError.{EntryError}
 use Rattle.state_text.specs.declared.entry_error.EntryError.TheVariants as entering
-use Rattle.text_table_faults.specs.declared.table_error.TableError.{TableError}
-use Rattle.text_table_faults.specs.declared.table_error.TableError.TheVariants as reading
-use Rattle.text_claim_faults.specs.declared.claim_error.ClaimError.{ClaimError}
-use Rattle.text_claim_faults.specs.declared.claim_error.ClaimError.TheVariants as claiming
+use Rattle.text_faults.specs.declared.table_error.TableError.{TableError}
+use Rattle.text_faults.specs.declared.table_error.TableError.TheVariants as reading
+use Rattle.text_faults.specs.declared.claim_error.ClaimError.{ClaimError}
+use Rattle.text_faults.specs.declared.claim_error.ClaimError.TheVariants as claiming
 use Rattle.program_common.specs.declared.outcome.Answer as code-answer
 use Rattle.program_common.specs.declared.outcome.Answer.TheVariants as a
 use Rattle.program_common.specs.declared.outcome.Halt.{Halt}

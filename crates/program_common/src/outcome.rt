@@ -15,8 +15,7 @@ use state_cell_text::push_hex;
 use state_text::EntryError;
 use std::alloc::{AllocError, AllocFailed, Global};
 use support_command_line::WordsError;
-use text_claim_faults::ClaimError;
-use text_table_faults::TableError;
+use text_faults::{ClaimError, TableError};
 
 /// The text that the words ask for. Where it tells of a machine that stopped for want of a decoding or of calls, the status says so.
 #[derive(Debug, Drop)]

@@ -5,7 +5,7 @@ use Rattle.spec_ir.specs.declared.spec.Machine.{Machine}
 use Rattle.spec_ir.specs.Specification.{Spec}
 use Rattle.semantics_laws.specs.Accepted.{IsAccepted}
 use Rattle.domain_laws.specs.States.{has_states}
-use Rattle.domain_accepted_states.proofs.States.{accepted_have_states}
+use Rattle.analysis_problems.proofs.States.{accepted_have_states}
 use Rattle.state_text.specs.Reading.{Entry}
 use Rattle.program_domain_tasks.specs.Read.{IsMachine, IsRead}
 

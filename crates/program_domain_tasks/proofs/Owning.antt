@@ -15,8 +15,8 @@ use Rattle.fixpoint_theory.specs.declared.verdict.Verdict.TheVariants as v
 use Rattle.spec_ir.specs.Specification.{Spec}
 use Rattle.base_trait.specs.Lists.{Each}
 use Rattle.domain_laws.specs.States.{state_type}
-use Rattle.text_table_faults.specs.declared.table_error.TableError.{TableError}
-use Rattle.text_table_faults.specs.declared.table_error.TableError.TheVariants as reading
+use Rattle.text_faults.specs.declared.table_error.TableError.{TableError}
+use Rattle.text_faults.specs.declared.table_error.TableError.TheVariants as reading
 use Rattle.fixpoint_open_tables.specs.Endings.{Endings}
 use Rattle.text_table_reader.specs.Tables.{IsErrorIn, IsOpenTableIn, IsTableIn}
 use Rattle.text_tables.specs.Open.{IsOpenTableText}
@@ -28,11 +28,11 @@ use Rattle.fixpoint_worklist.specs.declared.report.AnalyseError.{AnalyseError}
 use Rattle.fixpoint_worklist.specs.declared.report.AnalyseError.TheVariants as stop
 use Rattle.text_tables.specs.Tables.{IsTableText}
 use Rattle.text_slices.specs.declared.slice_cell.SliceCell.{SliceCell}
-use Rattle.text_claim_faults.specs.declared.claim_error.ClaimError.{ClaimError}
-use Rattle.text_claim_faults.specs.declared.claim_error.ClaimError.TheVariants as claiming
-use Rattle.analysis_claim_laws.specs.Answers.{Telling}
-use Rattle.analysis_claim_laws.specs.Claims.{Claim}
-use Rattle.analysis_claim_laws.specs.Laws.{IsClaim}
+use Rattle.text_faults.specs.declared.claim_error.ClaimError.{ClaimError}
+use Rattle.text_faults.specs.declared.claim_error.ClaimError.TheVariants as claiming
+use Rattle.analysis_query_laws.specs.Answers.{Telling}
+use Rattle.analysis_query_laws.specs.Claims.{Claim}
+use Rattle.analysis_query_laws.specs.Laws.{IsClaim}
 use Rattle.text_claims.specs.Laws.{IsReadClaim}
 use Rattle.text_claims.specs.Answers.{answers}
 use Rattle.text_claims.specs.Reading.{has_word, read}

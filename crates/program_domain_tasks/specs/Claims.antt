@@ -4,9 +4,9 @@ use Rattle.code_image.specs.Image.{Image}
 use Rattle.fixpoint_theory.specs.Verdicts.{verdict_of}
 use Rattle.fixpoint_theory.specs.Views.{listings}
 use Rattle.fixpoint_theory.specs.declared.table.Table.{Table}
-use Rattle.text_claim_faults.specs.declared.claim_error.ClaimError.{ClaimError}
-use Rattle.analysis_claim_laws.specs.Answers.{Telling}
-use Rattle.analysis_claim_laws.specs.Claims.{Claim}
+use Rattle.text_faults.specs.declared.claim_error.ClaimError.{ClaimError}
+use Rattle.analysis_query_laws.specs.Answers.{Telling}
+use Rattle.analysis_query_laws.specs.Claims.{Claim}
 use Rattle.text_claims.specs.Answers.{answers}
 use Rattle.text_claims.specs.Reading.{has_word, read}
 use Rattle.text_table_reader.specs.Tables.{IsTableIn}

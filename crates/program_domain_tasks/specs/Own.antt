@@ -1,7 +1,7 @@
 -- What is asked comes to with the elements of the code, which are seen as the plain ones of definitions.
 use Rattle.std.specs.Prelude.{◌≡◌, ℕ, false, List, [], Option, Ok, Err, option_map}
 use Rattle.base_trait.specs.Algebra.{Algebra}
-use Rattle.analysis_claim_laws.specs.Answers.{Telling}
+use Rattle.analysis_query_laws.specs.Answers.{Telling}
 use Rattle.semantics_values.specs.States.{State}
 use Rattle.code_image.specs.Image.{Image}
 use Rattle.fixpoint_theory.specs.Elements.{Elements}
@@ -15,7 +15,7 @@ use Rattle.analysis_transfer_laws.specs.Runs.{IsTrueOfRuns}
 use Rattle.text_elements.specs.Parts.{ElementText}
 use Rattle.text_element_readers.specs.Reading.{ElementReading}
 use Rattle.text_element_readers.specs.Words.{WordReading}
-use Rattle.text_table_faults.specs.declared.table_error.TableError.{TableError}
+use Rattle.text_faults.specs.declared.table_error.TableError.{TableError}
 use Rattle.fixpoint_open_tables.specs.Endings.{Endings}
 use Rattle.text_table_reader.specs.Tables.{IsErrorIn, IsOpenTableIn, IsTableIn}
 use Rattle.text_table_reader_laws.specs.Readings.{IsFirstOpen}

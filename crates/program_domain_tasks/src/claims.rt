@@ -8,7 +8,7 @@ ghost use Rattle.fixpoint_theory.specs.Table.{Listing};
 ghost use Rattle.fixpoint_theory.specs.Views.{listings};
 ghost use Rattle.domain_laws.specs.States.{state_type};
 ghost use Rattle.state_text.specs.Reading.{entry_of};
-ghost use Rattle.analysis_claim_laws.specs.Laws.{IsClaim};
+ghost use Rattle.analysis_query_laws.specs.Laws.{IsClaim};
 ghost use Rattle.analysis_claims.specs.Tables.{claim as plain_claim};
 ghost use Rattle.text_claims.specs.Answers.{answers};
 ghost use Rattle.program_common.specs.Outcomes.{Gives, answer_of};

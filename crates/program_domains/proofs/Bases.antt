@@ -19,7 +19,7 @@ use Rattle.spec_ir.specs.Specification.{Spec}
 use Rattle.domain_laws.specs.States.{StateType, has_states, state_type}
 use Rattle.analysis_transfer_laws.specs.Problem.{IsWellFormedProblem, Problem}
 use Rattle.domain_product_laws.specs.Domain.{may_pair}
-use Rattle.domain_accepted_states.proofs.States.{accepted_have_states}
+use Rattle.analysis_problems.proofs.States.{accepted_have_states}
 use Rattle.text_words.specs.Readings.{bits_readings, defuse_readings, interval_readings, set_readings, strides_readings}
 use Rattle.text_words.specs.Texts.{bits_texts, defuse_texts, interval_texts, set_texts, strides_texts}
 use Rattle.program_common.specs.Outcome.{Outcome}

@@ -9,11 +9,11 @@ use Rattle.domain_laws.specs.States.{state_type}
 use Rattle.fixpoint_theory.specs.Table.{Listing, Listings}
 use Rattle.fixpoint_theory.specs.Verdicts.{verdict_of}
 use Rattle.fixpoint_theory.specs.declared.verdict.Verdict.TheVariants as v
-use Rattle.text_claim_faults.specs.declared.claim_error.ClaimError.{ClaimError}
-use Rattle.analysis_claim_laws.specs.Answers.{answer as answer_of, answer_at}
-use Rattle.analysis_claim_laws.specs.Claims.{Claim, address_of}
-use Rattle.analysis_claim_laws.specs.Laws.{IsClaim}
-use Rattle.analysis_claim_laws.proofs.Holding.{claims_hold as claims_are_true}
+use Rattle.text_faults.specs.declared.claim_error.ClaimError.{ClaimError}
+use Rattle.analysis_query_laws.specs.Answers.{answer as answer_of, answer_at}
+use Rattle.analysis_query_laws.specs.Claims.{Claim, address_of}
+use Rattle.analysis_query_laws.specs.Laws.{IsClaim}
+use Rattle.analysis_query_laws.proofs.Holding.{claims_hold as claims_are_true}
 use Rattle.text_claims.specs.Answers.{answer_line, answers}
 use Rattle.text_claims.specs.Laws.{IsReadClaim}
 use Rattle.text_claims.specs.Reading.{has_word, read}

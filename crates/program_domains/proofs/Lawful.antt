@@ -9,9 +9,9 @@ use Rattle.domain_affine_base.specs.Instance.{affine_laws}
 use Rattle.spec_ir.specs.Specification.{Spec}
 use Rattle.domain_laws.specs.Domain.{DomainLaws}
 use Rattle.domain_laws.specs.States.{has_states, state_type}
-use Rattle.domain_cell_laws.specs.Cells.{cells}
-use Rattle.domain_cell_laws.proofs.Domain.{cells_keep_the_laws}
-use Rattle.domain_cell_laws.proofs.Fields.{made_for}
+use Rattle.domain_laws.specs.Cells.{cells}
+use Rattle.domain_laws.proofs.Domain.{cells_keep_the_laws}
+use Rattle.domain_laws.proofs.Fields.{made_for}
 use Rattle.domain_affine_laws.proofs.Domain.{of_states}
 use Rattle.domain_product_laws.specs.Domain.{may_pair}
 use Rattle.domain_product_laws.proofs.Domain.{pairs_are_domains}

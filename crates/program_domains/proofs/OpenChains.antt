@@ -8,10 +8,10 @@ use Rattle.fixpoint_theory.specs.Table.{Listings}
 use Rattle.analysis_transfer_laws.specs.OpenRuns.{IsClosedBefore, IsTrueUntilOpen}
 use Rattle.analysis_transfer_laws.specs.Problem.{Problem}
 use Rattle.analysis_transfer_laws.specs.Runs.{Begins}
-use Rattle.analysis_slice_laws.specs.Chains.{IsChain}
-use Rattle.analysis_slice_laws.specs.Laws.{HoldsChain, IsReadAt}
-use Rattle.analysis_slice_laws.specs.Slices.{IsSlice}
-use Rattle.analysis_slice_laws.proofs.Slices.{holds_chain}
+use Rattle.analysis_query_laws.specs.Chains.{IsChain}
+use Rattle.analysis_query_laws.specs.SliceLaws.{HoldsChain, IsReadAt}
+use Rattle.analysis_query_laws.specs.Slices.{IsSlice}
+use Rattle.analysis_query_laws.proofs.Slices.{holds_chain}
 
 module _ {E W N C M : Type 0} (B : Algebra W N C) (D : Elements E State) (p : Problem) (t : Listings E) (ends : ℕ → Option M) (is : IsTrueUntilOpen B D p t ends) (stamped : IsTrue B.notes.stamped)
     (d : ℕ) (first : State) (begins : Begins p first) where

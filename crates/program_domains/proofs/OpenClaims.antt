@@ -11,16 +11,16 @@ use Rattle.fixpoint_theory.specs.Table.{Listings}
 use Rattle.fixpoint_theory.specs.declared.verdict.Verdict.{Verdict}
 use Rattle.fixpoint_theory.specs.declared.verdict.Verdict.TheVariants as v
 use Rattle.fixpoint_open_tables.specs.Endings.{Endings}
-use Rattle.text_claim_faults.specs.declared.claim_error.ClaimError.{ClaimError}
-use Rattle.analysis_claim_laws.specs.Answers.{answer as answer_of}
-use Rattle.analysis_claim_laws.specs.Claims.{Claim, address_of}
-use Rattle.analysis_claim_laws.specs.Laws.{IsClaim}
-use Rattle.analysis_claim_laws.proofs.Holding.{listed_true}
+use Rattle.text_faults.specs.declared.claim_error.ClaimError.{ClaimError}
+use Rattle.analysis_query_laws.specs.Answers.{answer as answer_of}
+use Rattle.analysis_query_laws.specs.Claims.{Claim, address_of}
+use Rattle.analysis_query_laws.specs.Laws.{IsClaim}
+use Rattle.analysis_query_laws.proofs.Holding.{listed_true}
 use Rattle.text_claims.specs.Answers.{answers}
 use Rattle.text_claims.specs.Laws.{IsReadClaim}
 use Rattle.text_claims.specs.Reading.{has_word, read}
 use Rattle.text_claims.proofs.Fitting.{read_claims_fit}
-use Rattle.text_table_faults.specs.declared.table_error.TableError.{TableError}
+use Rattle.text_faults.specs.declared.table_error.TableError.{TableError}
 use Rattle.text_table_reader.specs.Tables.{IsErrorIn, IsOpenTableIn}
 use Rattle.analysis_transfer_laws.specs.Problem.{IsWellFormedProblem, Problem}
 use Rattle.analysis_transfer_laws.specs.Runs.{run_of}

@@ -10,7 +10,7 @@ use Rattle.fixpoint_theory.specs.declared.verdict.Verdict.{Verdict}
 use Rattle.fixpoint_theory.specs.declared.verdict.Verdict.TheVariants as v
 use Rattle.fixpoint_open_tables.specs.Endings.{Endings, IsNowhereOpen}
 use Rattle.fixpoint_open_tables.proofs.Verdicts.{accepted_are_closed_but_open}
-use Rattle.text_table_faults.specs.declared.table_error.TableError.{TableError}
+use Rattle.text_faults.specs.declared.table_error.TableError.{TableError}
 use Rattle.text_table_reader.specs.Tables.{IsErrorIn, IsOpenTableIn, IsTableIn}
 use Rattle.text_table_reader_laws.specs.Readings.{AreAlike, IsFirstOpen}
 use Rattle.text_table_reader_laws.proofs.Errors.{IsSomething, errors_are_one, open_tables_are_alike, open_tables_have_no_error, open_tables_or_errors, read_open_tables_fit}

@@ -10,7 +10,7 @@ use Rattle.fixpoint_theory.specs.declared.verdict.Verdict.{Verdict}
 use Rattle.fixpoint_theory.specs.declared.verdict.Verdict.TheVariants as v
 use Rattle.fixpoint_open_tables.specs.Endings.{Endings}
 use Rattle.text_slices.specs.declared.slice_cell.SliceCell.{SliceCell}
-use Rattle.text_table_faults.specs.declared.table_error.TableError.{TableError}
+use Rattle.text_faults.specs.declared.table_error.TableError.{TableError}
 use Rattle.analysis_transfer_laws.specs.Problem.{IsWellFormedProblem, Problem}
 use Rattle.program_common.specs.Outcome.{Answer, Outcome, table_refused, text}
 use Rattle.program_domains.specs.Closed.{ByVerdict}

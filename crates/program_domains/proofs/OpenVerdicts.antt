@@ -19,7 +19,7 @@ use Rattle.fixpoint_open_tables.specs.Verdicts.{IsEnding, IsSettled, IsUpTo, IsV
 use Rattle.fixpoint_open_tables.specs.declared.ending.Ending.{Ending}
 use Rattle.fixpoint_open_tables.proofs.Shut.{closed_if_nowhere_open}
 use Rattle.fixpoint_open_tables.proofs.Verdicts.{settled, verdicts_are_one}
-use Rattle.analysis_table_equality.proofs.Verdicts.{same_tables_same_verdict}
+use Rattle.analysis_table_laws.proofs.Verdicts.{same_tables_same_verdict}
 use Rattle.text_element_readers.specs.Reading.{ElementReading}
 use Rattle.text_element_readers.specs.Words.{WordReading}
 use Rattle.text_table_reader.specs.Blocks.{listings_of}

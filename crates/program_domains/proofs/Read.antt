@@ -10,7 +10,7 @@ use Rattle.semantics_values.specs.States.{State}
 use Rattle.fixpoint_theory.specs.Elements.{Elements}
 use Rattle.fixpoint_theory.specs.Pairs.{paired}
 use Rattle.domain_laws.specs.States.{has_states, state_type}
-use Rattle.domain_cell_laws.specs.Cells.{cells}
+use Rattle.domain_laws.specs.Cells.{cells}
 use Rattle.domain_affine_laws.specs.Calls.{affine_elements, cell_count}
 use Rattle.text_words.specs.Tell.{bits_tell, defuse_tell, intervals_tell, sets_tell, strides_tell}
 use Rattle.text_words.specs.Texts.{bits_texts, defuse_texts, interval_texts, set_texts, strides_texts}

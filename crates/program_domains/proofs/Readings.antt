@@ -10,8 +10,8 @@ use Rattle.fixpoint_theory.specs.declared.verdict.Verdict.{Verdict}
 use Rattle.fixpoint_theory.specs.Table.{Listings, TableFits}
 use Rattle.fixpoint_theory.specs.Verdicts.{verdict_of}
 use Rattle.fixpoint_theory.proofs.Verdicts.{accepted_are_closed}
-use Rattle.analysis_table_equality.proofs.Verdicts.{same_tables_same_verdict}
-use Rattle.text_table_faults.specs.declared.table_error.TableError.{TableError}
+use Rattle.analysis_table_laws.proofs.Verdicts.{same_tables_same_verdict}
+use Rattle.text_faults.specs.declared.table_error.TableError.{TableError}
 use Rattle.fixpoint_open_tables.specs.Endings.{Endings}
 use Rattle.text_table_reader.specs.Tables.{IsErrorIn, IsOpenTableIn, IsTableIn}
 use Rattle.text_tables.specs.Open.{IsOpenTableText}

@@ -3,7 +3,7 @@ use Rattle.std.proofs.Common.{ℕ, List, inl}
 use Rattle.support_tail_fixpoint.specs.declared.policy.Policy.TheVariants.{Widen}
 use Rattle.abstract_value_laws.specs.Abs.{Abs}
 use Rattle.abstract_semantics.specs.Answers.{Answer}
-use Rattle.abstract_calls.proofs.Right.{answers_are_right}
+use Rattle.abstract_semantics.proofs.Right.{answers_are_right}
 use Rattle.fixpoint_theory.specs.Analysis.{AnalysisLaws}
 use Rattle.fixpoint_theory.specs.Table.{IsClosed, Listings, TableFits}
 use Rattle.analysis_transfer_laws.specs.Laws.{IsAnalysed}

@@ -6,7 +6,7 @@ use Rattle.code_image.specs.Image.{Image}
 use Rattle.spec_ir.specs.Specification.{Spec}
 use Rattle.fixpoint_theory.specs.Table.{Listings}
 use Rattle.fixpoint_open_tables.specs.Endings.{Endings}
-use Rattle.text_table_faults.specs.declared.table_error.TableError.{TableError}
+use Rattle.text_faults.specs.declared.table_error.TableError.{TableError}
 use Rattle.text_table_reader.specs.Tables.{IsErrorIn, IsOpenTableIn, IsTableIn}
 use Rattle.text_table_reader_laws.specs.Readings.{IsFirstOpen}
 use Rattle.text_table_reader_laws.proofs.Errors.{errors_are_one, open_tables_are_alike, open_tables_have_no_error, open_tables_or_errors}

@@ -12,10 +12,10 @@ use Rattle.fixpoint_theory.specs.Table.{Listing, Listings, TableFits}
 use Rattle.fixpoint_theory.specs.Verdicts.{verdict_of}
 use Rattle.fixpoint_theory.specs.declared.verdict.Verdict.TheVariants as v
 use Rattle.fixpoint_theory.proofs.Bounded.{code_among}
-use Rattle.analysis_slice_laws.specs.Slices.{IsSliceFrom, asked_uses, is_from, listed_uses, uses_in}
-use Rattle.analysis_slice_laws.proofs.One.{slices_are_one as slices_are_of_one}
-use Rattle.analysis_slice_laws.proofs.Slices.{slices_hold_chains}
-use Rattle.analysis_slice_laws.proofs.There.{slices_are_there}
+use Rattle.analysis_query_laws.specs.Slices.{IsSliceFrom, asked_uses, is_from, listed_uses, uses_in}
+use Rattle.analysis_query_laws.proofs.One.{slices_are_one as slices_are_of_one}
+use Rattle.analysis_query_laws.proofs.Slices.{slices_hold_chains}
+use Rattle.analysis_query_laws.proofs.There.{slices_are_there}
 use Rattle.text_slices.specs.declared.slice_cell.SliceCell.{SliceCell}
 use Rattle.text_slices.specs.Writing.{slice_text}
 use Rattle.text_table_reader_laws.specs.Readings.{AreAlike, AreAlikeAt}

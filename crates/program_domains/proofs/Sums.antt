@@ -7,11 +7,11 @@ use Rattle.support_modular_rows.specs.Submodule.{Congruent, Submodule, dot}
 use Rattle.domain_laws.specs.States.{StateType}
 use Rattle.domain_affine_laws.specs.Calls.{cell_count}
 use Rattle.domain_affine_laws.specs.Tracked.{tracked_cells}
-use Rattle.analysis_claim_laws.specs.Affine.{IsDescribed, meets_all}
-use Rattle.analysis_claim_laws.specs.Answers.{column_of, form_of}
-use Rattle.analysis_claim_laws.specs.Claims.{Multiple}
-use Rattle.analysis_claim_laws.proofs.Forms.{forms_are_sums}
-use Rattle.analysis_claim_laws.proofs.Relations.{sums_are_exact as forms_are_exact}
+use Rattle.analysis_query_laws.specs.Affine.{IsDescribed, meets_all}
+use Rattle.analysis_query_laws.specs.Answers.{column_of, form_of}
+use Rattle.analysis_query_laws.specs.Claims.{Multiple}
+use Rattle.analysis_query_laws.proofs.Forms.{forms_are_sums}
+use Rattle.analysis_query_laws.proofs.Relations.{sums_are_exact as forms_are_exact}
 use Rattle.program_domains.specs.Laws.{SumsAreExact}
 
 module _ (t : StateType) (x relations : Submodule) (c : ℕ) (parts : List Multiple) (some : List ℕ) where

@@ -9,18 +9,18 @@ use Rattle.fixpoint_theory.specs.Elements.{Elements}
 use Rattle.fixpoint_theory.specs.Pairs.{paired}
 use Rattle.domain_laws.specs.declared.field.Field.{Field}
 use Rattle.domain_laws.specs.States.{StateType}
-use Rattle.domain_cell_laws.specs.Cells.{cells}
+use Rattle.domain_laws.specs.Cells.{cells}
 use Rattle.domain_affine_laws.specs.Calls.{affine_elements, cell_count}
-use Rattle.analysis_claim_laws.specs.Affine.{affine_tell}
-use Rattle.analysis_claim_laws.specs.Answers.{Telling, form_of, told}
-use Rattle.analysis_claim_laws.specs.Cells.{cells_tell}
-use Rattle.analysis_claim_laws.specs.Claims.{Claim, differs, never, range, sum}
-use Rattle.analysis_claim_laws.specs.Laws.{IsClaim, TellTruly}
-use Rattle.analysis_claim_laws.specs.Pairs.{pairs_tell}
-use Rattle.analysis_claim_laws.proofs.Cells.{cells_tell_truly}
-use Rattle.analysis_claim_laws.proofs.Forms.{forms_are_sums}
-use Rattle.analysis_claim_laws.proofs.Pairs.{pairs_tell_truly}
-use Rattle.analysis_claim_laws.proofs.Relations.{relations_tell_truly, sums_are_of_members}
+use Rattle.analysis_query_laws.specs.Affine.{affine_tell}
+use Rattle.analysis_query_laws.specs.Answers.{Telling, form_of, told}
+use Rattle.analysis_query_laws.specs.Cells.{cells_tell}
+use Rattle.analysis_query_laws.specs.Claims.{Claim, differs, never, range, sum}
+use Rattle.analysis_query_laws.specs.Laws.{IsClaim, TellTruly}
+use Rattle.analysis_query_laws.specs.Pairs.{pairs_tell}
+use Rattle.analysis_query_laws.proofs.Cells.{cells_tell_truly}
+use Rattle.analysis_query_laws.proofs.Forms.{forms_are_sums}
+use Rattle.analysis_query_laws.proofs.Pairs.{pairs_tell_truly}
+use Rattle.analysis_query_laws.proofs.Relations.{relations_tell_truly, sums_are_of_members}
 
 -- Elements that are the same tell the same.
 pub record TellAlike {E : Type 0} (Same : E → E → Type 0) (K : Telling E) : Type 0 where

@@ -9,9 +9,9 @@ use Rattle.fixpoint_theory.specs.Verdicts.{verdict_of}
 use Rattle.text_table_reader.specs.Tables.{IsTableIn}
 use Rattle.analysis_transfer_laws.specs.Problem.{Problem}
 use Rattle.analysis_transfer_laws.specs.Runs.{Begins, run_of}
-use Rattle.text_claim_faults.specs.declared.claim_error.ClaimError.{ClaimError}
-use Rattle.analysis_claim_laws.specs.Answers.{answer}
-use Rattle.analysis_claim_laws.specs.Claims.{Claim, IsTrueOf, address_of}
+use Rattle.text_faults.specs.declared.claim_error.ClaimError.{ClaimError}
+use Rattle.analysis_query_laws.specs.Answers.{answer}
+use Rattle.analysis_query_laws.specs.Claims.{Claim, IsTrueOf, address_of}
 use Rattle.text_claims.specs.Answers.{answers}
 use Rattle.text_claims.specs.Reading.{has_word, read}
 use Rattle.program_common.specs.Outcome.{Outcome, Refusal, claims_refused}

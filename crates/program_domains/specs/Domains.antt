@@ -21,8 +21,8 @@ use Rattle.fixpoint_theory.specs.Elements.{Elements}
 use Rattle.fixpoint_theory.specs.Pairs.{paired as paired_elements}
 use Rattle.domain_laws.specs.Domain.{Meaning}
 use Rattle.domain_laws.specs.States.{StateType}
-use Rattle.domain_cell_laws.specs.Calls.{cell_calls}
-use Rattle.domain_cell_laws.specs.Cells.{cells}
+use Rattle.domain_laws.specs.Calls.{cell_calls}
+use Rattle.domain_laws.specs.Cells.{cells}
 use Rattle.domain_affine_laws.specs.Calls.{affine_calls, affine_elements, cell_count}
 use Rattle.domain_product_laws.specs.Domain.{pair_meaning}
 use Rattle.text_words.specs.Readings.{Readings, bits_readings, defuse_readings, interval_readings, set_readings, strides_readings}
@@ -31,10 +31,10 @@ use Rattle.text_words.specs.Words.{affine_text, pair_text}
 use Rattle.text_elements.specs.Parts.{AffineText, CellsText, ElementText, PairText}
 use Rattle.text_element_readers.specs.Reading.{AffineRead, CellsRead, ElementReading, PairRead}
 use Rattle.text_element_readers.specs.Words.{WordReading, affine_word, cells_word, pair_word}
-use Rattle.analysis_claim_laws.specs.Affine.{affine_tell}
-use Rattle.analysis_claim_laws.specs.Answers.{Telling}
-use Rattle.analysis_claim_laws.specs.Cells.{cells_tell}
-use Rattle.analysis_claim_laws.specs.Pairs.{pairs_tell}
+use Rattle.analysis_query_laws.specs.Affine.{affine_tell}
+use Rattle.analysis_query_laws.specs.Answers.{Telling}
+use Rattle.analysis_query_laws.specs.Cells.{cells_tell}
+use Rattle.analysis_query_laws.specs.Pairs.{pairs_tell}
 
 -- A domain with elements E, over words W, notes N and contexts C.
 pub record DomainOf (E W N C : Type 0) : Type 1 where

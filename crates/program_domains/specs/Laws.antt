@@ -4,9 +4,9 @@ use Rattle.base_trait.specs.Lists.{Each}
 use Rattle.support_modular_rows.specs.Submodule.{Congruent, Submodule, dot}
 use Rattle.domain_affine_laws.specs.Calls.{cell_count}
 use Rattle.domain_affine_laws.specs.Tracked.{tracked_cells}
-use Rattle.analysis_claim_laws.specs.Affine.{IsDescribed}
-use Rattle.analysis_claim_laws.specs.Answers.{column_of, form_of, told}
-use Rattle.analysis_claim_laws.specs.Claims.{Multiple, sum}
+use Rattle.analysis_query_laws.specs.Affine.{IsDescribed}
+use Rattle.analysis_query_laws.specs.Answers.{column_of, form_of, told}
+use Rattle.analysis_query_laws.specs.Claims.{Multiple, sum}
 use Rattle.support_command_line.specs.Bases.{base_text}
 use Rattle.support_command_line.specs.declared.bases.BaseName.{BaseName}
 use Rattle.code_image.specs.Image.{Image, code_at}

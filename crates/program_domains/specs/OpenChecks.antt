@@ -6,7 +6,7 @@ use Rattle.fixpoint_theory.specs.declared.verdict.Verdict.{Verdict}
 use Rattle.fixpoint_theory.specs.declared.verdict.Verdict.TheVariants as v
 use Rattle.fixpoint_open_tables.specs.Endings.{Endings}
 use Rattle.fixpoint_open_tables.specs.Verdicts.{IsVerdict}
-use Rattle.text_table_faults.specs.declared.table_error.TableError.{TableError}
+use Rattle.text_faults.specs.declared.table_error.TableError.{TableError}
 use Rattle.text_table_reader.specs.Tables.{IsErrorIn, IsOpenTableIn}
 use Rattle.analysis_transfer_laws.specs.OpenRuns.{IsTrueUntilOpen}
 use Rattle.analysis_transfer_laws.specs.Problem.{Problem}

@@ -7,14 +7,14 @@ use Rattle.code_image.specs.Image.{Image}
 use Rattle.fixpoint_theory.specs.Table.{Listings}
 use Rattle.fixpoint_theory.specs.declared.verdict.Verdict.{Verdict}
 use Rattle.fixpoint_open_tables.specs.Endings.{Endings}
-use Rattle.text_table_faults.specs.declared.table_error.TableError.{TableError}
+use Rattle.text_faults.specs.declared.table_error.TableError.{TableError}
 use Rattle.text_table_reader.specs.Tables.{IsErrorIn, IsOpenTableIn}
 use Rattle.analysis_transfer_laws.specs.OpenRuns.{IsClosedBefore}
 use Rattle.analysis_transfer_laws.specs.Problem.{Problem}
 use Rattle.analysis_transfer_laws.specs.Runs.{Begins, run_of}
-use Rattle.text_claim_faults.specs.declared.claim_error.ClaimError.{ClaimError}
-use Rattle.analysis_claim_laws.specs.Answers.{answer}
-use Rattle.analysis_claim_laws.specs.Claims.{Claim, IsTrueOf, address_of}
+use Rattle.text_faults.specs.declared.claim_error.ClaimError.{ClaimError}
+use Rattle.analysis_query_laws.specs.Answers.{answer}
+use Rattle.analysis_query_laws.specs.Claims.{Claim, IsTrueOf, address_of}
 use Rattle.text_claims.specs.Answers.{answers}
 use Rattle.text_claims.specs.Reading.{has_word, read}
 use Rattle.program_common.specs.Outcome.{Outcome, claims_refused, table_refused}

@@ -6,14 +6,14 @@ use Rattle.code_image.specs.Image.{Image}
 use Rattle.fixpoint_theory.specs.Table.{Listings}
 use Rattle.fixpoint_theory.specs.declared.verdict.Verdict.{Verdict}
 use Rattle.fixpoint_open_tables.specs.Endings.{Endings}
-use Rattle.text_table_faults.specs.declared.table_error.TableError.{TableError}
+use Rattle.text_faults.specs.declared.table_error.TableError.{TableError}
 use Rattle.text_table_reader.specs.Tables.{IsErrorIn}
 use Rattle.analysis_transfer_laws.specs.OpenRuns.{IsClosedBefore}
 use Rattle.analysis_transfer_laws.specs.Problem.{Problem}
 use Rattle.analysis_transfer_laws.specs.Runs.{Begins}
-use Rattle.analysis_slice_laws.specs.Chains.{IsChain}
-use Rattle.analysis_slice_laws.specs.Laws.{HoldsChain, IsReadAt}
-use Rattle.analysis_slice_laws.specs.Slices.{IsSlice}
+use Rattle.analysis_query_laws.specs.Chains.{IsChain}
+use Rattle.analysis_query_laws.specs.SliceLaws.{HoldsChain, IsReadAt}
+use Rattle.analysis_query_laws.specs.Slices.{IsSlice}
 use Rattle.text_slices.specs.declared.slice_cell.SliceCell.{SliceCell}
 use Rattle.text_slices.specs.Writing.{slice_text}
 use Rattle.program_common.specs.Outcome.{Outcome, table_refused}

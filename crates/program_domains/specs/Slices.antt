@@ -8,9 +8,9 @@ use Rattle.fixpoint_theory.specs.Table.{Listings}
 use Rattle.fixpoint_theory.specs.Verdicts.{verdict_of}
 use Rattle.analysis_transfer_laws.specs.Problem.{Problem}
 use Rattle.analysis_transfer_laws.specs.Runs.{Begins}
-use Rattle.analysis_slice_laws.specs.Chains.{IsChain}
-use Rattle.analysis_slice_laws.specs.Laws.{HoldsChain, IsReadAt}
-use Rattle.analysis_slice_laws.specs.Slices.{IsSlice}
+use Rattle.analysis_query_laws.specs.Chains.{IsChain}
+use Rattle.analysis_query_laws.specs.SliceLaws.{HoldsChain, IsReadAt}
+use Rattle.analysis_query_laws.specs.Slices.{IsSlice}
 use Rattle.text_slices.specs.declared.slice_cell.SliceCell.{SliceCell}
 use Rattle.text_slices.specs.Writing.{slice_text}
 use Rattle.program_common.specs.Outcome.{Outcome, Refusal}

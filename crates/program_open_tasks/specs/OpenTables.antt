@@ -8,13 +8,13 @@ use Rattle.fixpoint_theory.specs.declared.verdict.Verdict.{Verdict}
 use Rattle.fixpoint_theory.specs.declared.verdict.Verdict.TheVariants as v
 use Rattle.fixpoint_open_tables.specs.Endings.{Endings}
 use Rattle.fixpoint_open_tables.specs.Verdicts.{IsVerdict}
-use Rattle.text_claim_faults.specs.declared.claim_error.ClaimError.{ClaimError}
-use Rattle.analysis_claim_laws.specs.Answers.{Telling}
-use Rattle.analysis_claim_laws.specs.Claims.{Claim}
+use Rattle.text_faults.specs.declared.claim_error.ClaimError.{ClaimError}
+use Rattle.analysis_query_laws.specs.Answers.{Telling}
+use Rattle.analysis_query_laws.specs.Claims.{Claim}
 use Rattle.text_claims.specs.Answers.{answers}
 use Rattle.text_claims.specs.Reading.{has_word, read}
 use Rattle.text_slices.specs.declared.slice_cell.SliceCell.{SliceCell}
-use Rattle.text_table_faults.specs.declared.table_error.TableError.{TableError}
+use Rattle.text_faults.specs.declared.table_error.TableError.{TableError}
 use Rattle.text_table_reader.specs.Tables.{IsErrorIn, IsOpenTableIn}
 use Rattle.analysis_transfer_laws.specs.OpenRuns.{IsTrueUntilOpen}
 use Rattle.analysis_transfer_laws.specs.Problem.{Problem}

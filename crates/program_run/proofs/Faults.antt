@@ -21,9 +21,9 @@ use Rattle.state_text.specs.declared.entry_error.EntryError.TheVariants as enter
 use Rattle.state_text.specs.Reading.{Entry, read}
 use Rattle.program_stress_code.specs.Entry.{entry_text, start_text}
 use Rattle.semantics_values.specs.States.{State}
-use Rattle.text_table_faults.specs.declared.table_error.TableError.TheVariants as tabling
+use Rattle.text_faults.specs.declared.table_error.TableError.TheVariants as tabling
 use Rattle.text_table_reader.proofs.Told.{table_told}
-use Rattle.text_claim_faults.specs.declared.claim_error.ClaimError.TheVariants as claiming
+use Rattle.text_faults.specs.declared.claim_error.ClaimError.TheVariants as claiming
 use Rattle.text_claims.specs.Reading.{has_word}
 use Rattle.text_claims.proofs.Told.{claims_told}
 use Rattle.state_fault_laws.proofs.Faults.{faults_have_lines}

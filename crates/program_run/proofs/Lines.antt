@@ -1,9 +1,9 @@
 -- No refusal that is possible has the empty line.
 use Rattle.std.proofs.Common.{◌≢◌, ℕ, List, [], ◌∷◌, Option, refl, subst}
 use Rattle.std.specs.Prelude.{Err}
-use Rattle.text_claim_faults.specs.declared.claim_error.ClaimError.{ClaimError}
-use Rattle.text_claim_faults.specs.declared.claim_error.ClaimError.TheVariants as claiming
-use Rattle.text_claim_faults.specs.FaultLines as claims
+use Rattle.text_faults.specs.declared.claim_error.ClaimError.{ClaimError}
+use Rattle.text_faults.specs.declared.claim_error.ClaimError.TheVariants as claiming
+use Rattle.text_faults.specs.ClaimFaultLines as claims
 use Rattle.support_command_line.specs.Requests.{Request}
 use Rattle.code_image.specs.declared.image_error.ImageError.{ImageError}
 use Rattle.code_image.specs.declared.image_error.ImageError.TheVariants as imaging
@@ -12,9 +12,9 @@ use Rattle.spec_ir.specs.declared.spec_error.SpecError.TheVariants as checker
 use Rattle.state_text.specs.declared.entry_error.EntryError.{EntryError}
 use Rattle.state_text.specs.declared.entry_error.EntryError.TheVariants as entering
 use Rattle.state_text.specs.FaultLines as entry
-use Rattle.text_table_faults.specs.declared.table_error.TableError.{TableError}
-use Rattle.text_table_faults.specs.declared.table_error.TableError.TheVariants as tabling
-use Rattle.text_table_faults.specs.FaultLines as table
+use Rattle.text_faults.specs.declared.table_error.TableError.{TableError}
+use Rattle.text_faults.specs.declared.table_error.TableError.TheVariants as tabling
+use Rattle.text_faults.specs.TableFaultLines as table
 use Rattle.syntax_lexer.specs.declared.lex_error.LexError.TheVariants as lexer
 use Rattle.syntax_parser.specs.declared.ParseError.TheVariants as parser
 use Rattle.program_common.specs.declared.rejection.Rejection.{Rejection}

@@ -2,8 +2,8 @@
 use Rattle.std.specs.Prelude.{◌≡◌, ◌≢◌, ℕ, List, Option, Some, None, Ok, Err, Contains, IsTrue}
 use Rattle.support_command_line.specs.Requests.{AnalyseRequest, CallRequest, CheckRequest, ClaimsRequest, ConvertRequest, EmulateRequest, Request, SliceRequest, StressRequest, call, emulate, analyse, check, convert, list, slice, claims, stress}
 use Rattle.support_command_line.specs.Words.{asked}
-use Rattle.text_claim_faults.specs.declared.claim_error.ClaimError.{ClaimError}
-use Rattle.text_claim_faults.specs.declared.claim_error.ClaimError.TheVariants as claiming
+use Rattle.text_faults.specs.declared.claim_error.ClaimError.{ClaimError}
+use Rattle.text_faults.specs.declared.claim_error.ClaimError.TheVariants as claiming
 use Rattle.concrete_function_calls.specs.Calls as calls
 use Rattle.concrete_function_calls.specs.Calls.{call_end, value_line}
 use Rattle.concrete_function_calls.specs.Laws.{IsWritten}
@@ -19,8 +19,8 @@ use Rattle.syntax_lexer.specs.declared.lex_error.LexError.TheVariants as lexer
 use Rattle.syntax_parser.specs.declared.ParseError.TheVariants as parser
 use Rattle.semantics_values.specs.States.{State}
 use Rattle.semantics_values.specs.Values.{Val}
-use Rattle.text_table_faults.specs.declared.table_error.TableError.{TableError}
-use Rattle.text_table_faults.specs.declared.table_error.TableError.TheVariants as tabling
+use Rattle.text_faults.specs.declared.table_error.TableError.{TableError}
+use Rattle.text_faults.specs.declared.table_error.TableError.TheVariants as tabling
 use Rattle.program_common.specs.declared.rejection.Rejection.{Rejection}
 use Rattle.program_common.specs.declared.spec_fault.SpecFault.{SpecFault}
 use Rattle.program_common.specs.declared.spec_fault.SpecFault.TheVariants.{Checking, Lexing, Parsing}

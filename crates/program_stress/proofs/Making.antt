@@ -13,7 +13,7 @@ use Rattle.code_image.specs.Faults.{IsImage, image_fault}
 use Rattle.code_image.specs.Image.{Image, Segment, image_of}
 use Rattle.code_image.proofs.Addresses.{addresses_are_those_of_words}
 use Rattle.domain_laws.specs.States.{state_type}
-use Rattle.domain_checked_states.proofs.States.{fields_have_numbers}
+use Rattle.analysis_problems.proofs.CheckedStates.{fields_have_numbers}
 use Rattle.concrete_emulator.specs.Ends.{IsStateOf}
 use Rattle.semantics_laws.specs.Accepted.{IsAccepted}
 use Rattle.analysis_problems.specs.Problems.{problem_of}

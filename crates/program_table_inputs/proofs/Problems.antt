@@ -13,8 +13,8 @@ use Rattle.state_text.specs.declared.entry_error.EntryError.{EntryError}
 use Rattle.semantics_values.specs.declared.entry.Entry as code
 use Rattle.state_text.specs.Reading.{Entry, entry_of, read}
 use Rattle.domain_laws.specs.States.{has_states, state_type}
-use Rattle.domain_accepted_states.proofs.States.{accepted_have_states}
-use Rattle.domain_checked_states.proofs.States.{fields_have_numbers}
+use Rattle.analysis_problems.proofs.States.{accepted_have_states}
+use Rattle.analysis_problems.proofs.CheckedStates.{fields_have_numbers}
 use Rattle.fixpoint_theory.specs.Code.{is_code}
 use Rattle.analysis_transfer_laws.specs.Problem.{IsWellFormedProblem}
 use Rattle.analysis_problems.specs.Problems.{problem_of}

@@ -26,8 +26,8 @@ use Rattle.spec_decode_rows.specs.Rows.{rows_of, rows_fault}
 use Rattle.spec_decode_rows.specs.Decoded.{decoded}
 use Rattle.spec_names.specs.Names.{nothing}
 use Rattle.spec_calls.specs.Calls.{call_graph}
-use Rattle.spec_laws.specs.Typed.{AreTyped}
-use Rattle.spec_laws.proofs.Tails.{groups_have_one_result}
+use Rattle.semantics_accepted.specs.Typed.{AreTyped}
+use Rattle.semantics_accepted.proofs.Tails.{groups_have_one_result}
 use Rattle.spec_checker.specs.Functions.{functions, body_of, bodies}
 use Rattle.spec_checker.specs.Check.{IsParsed, IsFaultless, IsSpecOf}
 use Rattle.spec_checker.proofs.Parsed.{have_cases}
@@ -36,7 +36,7 @@ use Rattle.semantics_laws.specs.Total.{IsTotal}
 use Rattle.semantics_laws.specs.Rows.{row_fits}
 use Rattle.semantics_laws.specs.Accepted.{IsAccepted, IsRight, IsMachine, IsMachineIfAny, is_map}
 use Rattle.semantics_laws.proofs.Turns.{signature_of}
-use Rattle.semantics_accepted.specs.Laws.{CheckedAreAccepted}
+use Rattle.semantics_accepted.specs.AcceptedLaws.{CheckedAreAccepted}
 use Rattle.semantics_accepted.proofs.Sizes.{sized}
 use Rattle.semantics_accepted.proofs.MapTypes.{all_maps}
 use Rattle.semantics_accepted.proofs.Functions.{FunAt, fun_at, fun_from, signature_at, signatures_same, bodies_count, body_at, body_fine, body_typed, body_total, body_cored}

@@ -17,10 +17,10 @@ use Rattle.spec_term_forms.specs.Forms.{operator_term, operator_type, prefix_ter
 use Rattle.spec_term_forms.specs.Operators.{Operator, both, either, operation, comparison, operator_of, keyword_operator}
 use Rattle.spec_typing.specs.Parts.{Part, wanted, map_wanted}
 use Rattle.spec_typing.specs.Terms.{fault_in, type_of, term_of, part, arms_fault, operand_fault, prefix_fault, get_fault, type_or, enter}
-use Rattle.spec_laws.specs.Typed.{types, IsTyped}
-use Rattle.spec_laws.proofs.Coring.{variables_have, variables_agree}
-use Rattle.spec_laws.proofs.Patterned.{types_append}
-use Rattle.spec_laws.proofs.Typing.{typed, some_arm, behind, enter_is}
+use Rattle.semantics_accepted.specs.Typed.{types, IsTyped}
+use Rattle.semantics_accepted.proofs.Coring.{variables_have, variables_agree}
+use Rattle.semantics_accepted.proofs.Patterned.{types_append}
+use Rattle.semantics_accepted.proofs.Typing.{typed, some_arm, behind, enter_is}
 
 module _ (env : Environment) (wf : IsWellFormed env) where
   -- ---- parts without a fault

@@ -12,15 +12,15 @@ use Rattle.spec_ir.specs.Specification.{Fun}
 use Rattle.spec_declarations.specs.TypeNames.{TypeTable, types_of}
 use Rattle.spec_declarations.specs.Declarations.{type_in, signature_declared, signatures_from, declared}
 use Rattle.spec_typing.specs.Terms.{fault_in}
-use Rattle.spec_laws.specs.Typed.{types}
-use Rattle.spec_laws.proofs.Typing.{wanted_types_are_had}
+use Rattle.semantics_accepted.specs.Typed.{types}
+use Rattle.semantics_accepted.proofs.Typing.{wanted_types_are_had}
 use Rattle.spec_checker.specs.Functions.{functions, parameters, body_fault, body_of, core_of_body, bodies_fault, forms_of, terms_in}
 use Rattle.spec_checker.specs.Check.{IsFun, AreFunsFrom}
 use Rattle.spec_checker.proofs.Making.{signature_scope}
 use Rattle.spec_ir.specs.Cores.{core_of}
 use Rattle.spec_ir.proofs.Lists.{all_at}
 use Rattle.spec_ir.proofs.Checks.{then_left, then_right}
-use Rattle.spec_laws.proofs.Coring.{cores_are_those}
+use Rattle.semantics_accepted.proofs.Coring.{cores_are_those}
 use Rattle.semantics_laws.specs.Total.{IsTotal}
 use Rattle.semantics_laws.proofs.Turns.{signature_of}
 use Rattle.semantics_accepted.proofs.Total.{total}

@@ -23,7 +23,7 @@ use Rattle.spec_declarations.specs.Types.{name_fault, no_fields, datatype_fault,
 use Rattle.spec_declarations.proofs.Faultless.{meaning_fits}
 use Rattle.spec_declarations.proofs.States.{datas_are}
 use Rattle.semantics_laws.specs.Accepted.{is_enumeration, is_key_type, is_map}
-use Rattle.spec_laws.proofs.Typing.{clash}
+use Rattle.semantics_accepted.proofs.Typing.{clash}
 
 empty_cases : (types : TypeTable) (cases : List Constructor) → list_all no_fields cases ≡ true → list_all (λ c. nat_le (length c.fields) 0) (map (case_declared types) cases) ≡ true
 empty_cases types [] h = refl

@@ -16,7 +16,7 @@ use Rattle.spec_ir.specs.Environment.{Environment, Constructor, constructor_name
 use Rattle.spec_ir.specs.Texts.{case_at, fields_at}
 use Rattle.spec_ir.proofs.Checks.{then_left, then_right, unless_none}
 use Rattle.spec_patterns.proofs.Found.{constructor_there}
-use Rattle.spec_laws.proofs.Named.{constructor_fields}
+use Rattle.semantics_accepted.proofs.Named.{constructor_fields}
 use Rattle.spec_decode_rows.specs.Fields.{RowField, fields_from, fields_of, field_named}
 use Rattle.spec_decode_rows.specs.Fits as f
 use Rattle.spec_decode_rows.specs.Rows.{EarlierRow, earlier_of, row_fault, rows_fault, overlap_fault}

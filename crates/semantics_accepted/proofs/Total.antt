@@ -26,9 +26,9 @@ use Rattle.spec_term_forms.specs.Operators.{Operator, both, either, operation, c
 use Rattle.spec_typing.specs.Parts.{Part, wanted, wanted_if, word_wanted, map_wanted, match_fault}
 use Rattle.spec_typing.specs.Terms.{fault_in, type_of, term_of, terms_of, part, arms_of, arms_fault, argument_faults, rows_of, terms_len, operand_fault, operands_fault, get_fault, cast_to_fault, params_of, datatype_of, type_or, enter}
 use Rattle.spec_typing.proofs.Rows.{rows_suit}
-use Rattle.spec_laws.specs.Typed.{types, IsTyped}
-use Rattle.spec_laws.proofs.Coring.{patterns_are, agrees, let_types, arm_types}
-use Rattle.spec_laws.proofs.Typing.{clash, typed, behind}
+use Rattle.semantics_accepted.specs.Typed.{types, IsTyped}
+use Rattle.semantics_accepted.proofs.Coring.{patterns_are, agrees, let_types, arm_types}
+use Rattle.semantics_accepted.proofs.Typing.{clash, typed, behind}
 use Rattle.semantics.specs.Steps.{shown}
 use Rattle.semantics_laws.specs.Total.{HasOneType, AreDecided, IsTotal, AreTotal, AreTotalArms}
 use Rattle.semantics_accepted.proofs.Exhaustive.{case_there, takes_all}

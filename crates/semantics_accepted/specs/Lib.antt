@@ -1,1 +1,4 @@
 pub mod Laws
+pub mod AcceptedLaws
+pub mod CheckerLaws
+pub mod Typed

@@ -5,6 +5,7 @@ ghost use Rattle.semantics_laws.specs.Depths.{DepthsSettle};
 ghost use Rattle.semantics_laws.specs.KeptTypes.{EntryStatesHaveTheirType, InstructionsHaveTheirType, RunsKeepTypes, StepsKeepTypes};
 ghost use Rattle.semantics_laws.specs.TailForm.{TailsAreTheMeaning};
 ghost use Rattle.semantics_laws.specs.Typed.{MeaningsHaveTypes};
+ghost use Rattle.semantics_laws.specs.Laws.{CoresCallInOrder, CoresHaveTypes, CoresMeanTheSame};
 
 /// A call that is not deep is the same at every greater bound on turns.
 pub fn bounds_settle()
@@ -45,4 +46,19 @@ pub fn runs_keep_types()
 /// A state that an entry describes has its type.
 pub fn entry_states_have_their_type()
     ensures { EntryStatesHaveTheirType }
+{}
+
+/// Of an accepted specification, the core term of a function has the type of its result.
+pub fn cores_have_types()
+    ensures { CoresHaveTypes }
+{}
+
+/// Calls of the group stand in tail position; all others are of groups of lower rank.
+pub fn cores_call_in_order()
+    ensures { CoresCallInOrder }
+{}
+
+/// A call means by core terms what it means by typed terms.
+pub fn cores_mean_the_same()
+    ensures { CoresMeanTheSame }
 {}

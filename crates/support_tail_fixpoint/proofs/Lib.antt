@@ -3,8 +3,13 @@ pub mod Answered
 pub mod Driving
 pub mod Ending
 pub mod Fitted
+pub mod Groups
 pub mod Measured
 pub mod Ordered
 pub mod Parts
+pub mod Ranks
 pub mod Remains
+pub mod Settled
+pub mod Somes
 pub mod Steps
+pub mod DriverEndings

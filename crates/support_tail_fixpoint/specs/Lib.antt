@@ -4,11 +4,15 @@ pub mod Answer
 pub mod Driving
 pub mod Evaluation
 pub mod Fitting
+pub mod Groups
 pub mod Laws
 pub mod Leaves
 pub mod Meaning
 pub mod Measure
 pub mod Moves
+pub mod Ranks
 pub mod Rule
+pub mod GroupLaws
+pub mod DriverLaws
 pub mod Turns
 pub mod Views

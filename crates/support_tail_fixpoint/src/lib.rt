@@ -104,6 +104,39 @@
 //!
 //! After `AllocError` of `give` nothing is said of the driver, and a body that answers nothing but
 //! this error is not refused by any contract: the tests call each function with ample memory.
+//!
+//! # Arguments of several functions at once
+//!
+//! Functions of a group may call each other as the last thing that they do. A turn of an activation
+//! then evaluates each function of the group that has arguments, and asks for arguments of several
+//! functions. Group arguments hold for each function, by its number, an argument list or none.
+//!
+//! Of functions 0 and 2 of a group, the group arguments `[a, none, b]` hold `a` and `b`. Past the end
+//! there is none, so `[a]` holds for function 0 alone. Joined with `[c]` they are `[a join c, none, b]`:
+//! a list that one side lacks comes as it is. They absorb `[c]` where `a` absorbs `c`; what is missing
+//! absorbs only what is missing.
+//!
+//! The rank of group arguments is the sum over all functions of the program. A missing list counts one
+//! more than the greatest rank that it can have, so that a list that comes new lowers the sum. With two
+//! functions, greatest ranks 5 and 7, and `a` of rank 4, `[a]` has the rank 4 + 8, and where all are
+//! missing it is 6 + 8, the greatest there is.
+//!
+//! `group_moves` of specs/Groups makes the moves of turns on group arguments of those on the arguments of one
+//! function. The laws say that what the driver asks of moves carries over: joins and widenings
+//! keep what fits and absorb both, absorption is reflexive and transitive, and widening lowers the
+//! rank. The lemmas in proofs/ hold of every property, where a contract can range over tests alone.
+//!
+//! # Turns that give what they give by their numbers
+//!
+//! In the laws on answers, what a turn gives is a function of its arguments and of a
+//! state. Here it is whatever two sequences say: the leaves and the next arguments of turn number 1, of
+//! turn number 2, and so on. For such turns there is one activation and no other:
+//!
+//! - `drivers_end`: a driver asks for finitely many turns, whatever they give. The next arguments, joins
+//!   and widenings are to fit, and under `Widen` the widening is to lower the rank. This is a corollary
+//!   of `stopped_answers_exist` and `widened_answers_exist`: the state is the number of the next turn.
+//! - `activations_are_settled`: the rule has no second list of turns, and no second answer. Here nothing
+//!   needs to fit.
 #![tactic(auto)]
 
 mod after;
@@ -117,10 +150,12 @@ mod turn;
 pub use driver::Driver;
 pub use driver_request::DriverRequest;
 pub use laws::{
-    answers_are_driven, answers_are_one, answers_carry_over, answers_fit, arguments_are_met,
-    drivers_follow_the_rule, last_arguments_absorb, leaves_are_part, measures_fall, results_fit,
-    stopped_answers_exist, turns_are_evaluated, turns_are_in_order, turns_fit, turns_go_on,
-    widened_answers_exist, widened_answers_succeed,
+    absorbed_holds, activations_are_settled, answers_are_driven, answers_are_one,
+    answers_carry_over, answers_fit, arguments_are_met, drivers_end, drivers_follow_the_rule,
+    group_absorption_orders, group_ranks_fall, groups_absorb, groups_keep_fits, held_are_such,
+    joins_hold, last_arguments_absorb, leaves_are_part, measures_fall, one_is_held, results_fit,
+    stopped_answers_exist, tests_tell, turns_are_evaluated, turns_are_in_order, turns_fit,
+    turns_go_on, widened_answers_exist, widened_answers_succeed,
 };
 pub use policy::Policy;
 pub use turn::Turn;

@@ -10,8 +10,8 @@ use Rattle.program_common.specs.declared.outcome.Halt.{Halt}
 use Rattle.program_common.specs.Outcomes.{Gives}
 use Rattle.program_common.specs.Sources.{Specifies}
 use Rattle.domain_laws.specs.States.{has_states, state_type}
-use Rattle.domain_accepted_states.proofs.States.{accepted_have_states}
-use Rattle.domain_checked_states.proofs.States.{fields_have_numbers}
+use Rattle.analysis_problems.proofs.States.{accepted_have_states}
+use Rattle.analysis_problems.proofs.CheckedStates.{fields_have_numbers}
 
 pub given_states : (source : List ℕ) (result : Result Checked Halt) → Gives (Specifies Machine source) specification result → IfOk result (λ spec. has_states (specification spec) ≡ true)
 given_states source (Err halt) p = tt

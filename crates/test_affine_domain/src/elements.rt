@@ -12,7 +12,7 @@ ghost use Rattle.test_affine_text.specs.Settings.{IsSetting};
 
 use crate::rows::rows_of;
 use abstract_value::AbstractValue;
-use domain_accepted_states::laws::read_entries_fit;
+use analysis_problems::laws::read_entries_fit;
 use domain_affine_base::Affine;
 use domain_trait::Domain;
 use state_text::{EntryError, read_entry};

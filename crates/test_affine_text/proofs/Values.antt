@@ -7,7 +7,7 @@ use Rattle.spec_ir.specs.Specification.{Spec}
 use Rattle.semantics_values.specs.declared.entry.KeyAt.{KeyAt}
 use Rattle.abstract_value_laws.specs.Abs.{Abs, cases, made, no_case, parts, present}
 use Rattle.abstract_value_laws.specs.Fits.{CasesFit, Fits, PartsFit}
-use Rattle.abstract_value_types.specs.OfValues.{one_case}
+use Rattle.abstract_value_laws.specs.OfValues.{one_case}
 use Rattle.domain_laws.specs.declared.field.Field.{Field}
 use Rattle.domain_laws.specs.declared.field.Field.TheVariants.{Word as WordField}
 use Rattle.domain_laws.specs.States.{StateType}

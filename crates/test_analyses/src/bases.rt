@@ -4,11 +4,11 @@ ghost use Rattle.std.specs.Prelude.{◌≡◌, ◌&&◌, IsTrue, false};
 ghost use Rattle.test_analysis_cases.specs.Subjects.{IsSubject};
 
 use crate::verdicts::Cells;
+use analysis_problems::laws::accepted_have_states;
 use base_defuse::DefUse;
 use base_interval::Interval;
 use base_kset::KSet;
 use base_product::Paired;
-use domain_accepted_states::laws::accepted_have_states;
 use domain_cells::StateDomain;
 use std::alloc::{AllocError as NoMemory, Global};
 use test_analysis_cases::{Case, Program, Subject, analysed, no};

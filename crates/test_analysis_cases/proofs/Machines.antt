@@ -10,7 +10,7 @@ use Rattle.program_common.specs.declared.outcome.Halt.{Halt}
 use Rattle.program_common.specs.Outcomes.{Gives}
 use Rattle.program_common.specs.Sources.{Specifies}
 use Rattle.domain_laws.specs.States.{state_type}
-use Rattle.domain_checked_states.proofs.States.{fields_have_numbers}
+use Rattle.analysis_problems.proofs.CheckedStates.{fields_have_numbers}
 
 pub given_accepted : (source : List ℕ) (result : Result Checked Halt) → Gives (Specifies Machine source) specification result → IfOk result (λ spec. IsAccepted (specification spec))
 given_accepted source (Err halt) p = tt

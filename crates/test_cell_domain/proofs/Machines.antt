@@ -10,7 +10,7 @@ use Rattle.program_common.specs.Outcomes.{Gives}
 use Rattle.program_common.specs.Sources.{Specifies}
 use Rattle.program_emulate.proofs.Giving.{gives_accepted, gives_machine}
 use Rattle.domain_laws.specs.States.{has_states}
-use Rattle.domain_accepted_states.proofs.States.{accepted_have_states}
+use Rattle.analysis_problems.proofs.States.{accepted_have_states}
 
 pub given_states : (source : List ℕ) (result : Result Checked Halt) → Gives (Specifies Machine source) specification result → IfOk result (λ spec. has_states (specification spec) ≡ true)
 given_states source (Err halt) p = tt

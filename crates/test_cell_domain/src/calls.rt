@@ -5,8 +5,8 @@ ghost use Rattle.spec_ir.specs.Views.{specification};
 
 use crate::text::{push_element, push_state, push_tests};
 use abstract_value::AbstractValue;
+use analysis_problems::laws::read_entries_fit;
 use base_kset::KSet;
-use domain_accepted_states::laws::read_entries_fit;
 use domain_cells::StateDomain;
 use domain_trait::Domain;
 use spec_ir::Spec;

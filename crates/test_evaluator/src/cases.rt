@@ -5,7 +5,7 @@ ghost use Rattle.spec_ir.specs.Views.{specification};
 ghost use Rattle.program_common.specs.Sources.{source_cap};
 ghost use Rattle.semantics_laws.specs.Accepted.{IsAccepted};
 ghost use Rattle.support_tail_fixpoint.specs.Activation.{HasTurn};
-ghost use Rattle.abstract_calls.specs.Laws.{JoinsUnder};
+ghost use Rattle.abstract_semantics.specs.CallLaws.{JoinsUnder};
 ghost use Rattle.evaluator.specs.Calls.{MayEvaluate};
 
 use crate::arguments::{arguments, function};

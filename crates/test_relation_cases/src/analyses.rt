@@ -6,8 +6,8 @@ ghost use Rattle.test_analysis_cases.specs.Subjects.{IsSubject};
 
 use crate::domains::ShownDomain;
 use crate::verdicts::{Relations, Replacement};
+use analysis_problems::laws::accepted_have_states;
 use base_trait::Base;
-use domain_accepted_states::laws::accepted_have_states;
 use domain_product::PairDomain;
 use domain_trait::Domain;
 use std::alloc::{AllocError as NoMemory, Global};

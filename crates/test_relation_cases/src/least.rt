@@ -3,7 +3,7 @@
 ghost use Rattle.std.specs.Prelude.{IfOk, IsTrue};
 ghost use Rattle.spec_ir.specs.Views.{specification};
 
-use domain_accepted_states::laws::read_entries_fit;
+use analysis_problems::laws::read_entries_fit;
 use domain_trait::Domain;
 use spec_ir::Spec;
 use std::alloc::Global;

@@ -4,8 +4,8 @@ ghost use Rattle.std.specs.Prelude.{◌≡◌, IfOk, slice_get};
 ghost use Rattle.spec_ir.specs.Views.{specification};
 ghost use Rattle.semantics_values.specs.Types.{environment_of};
 ghost use Rattle.abstract_value_laws.specs.Fits.{Fits};
-ghost use Rattle.abstract_value_types.specs.OfValues.{case_count};
-ghost use Rattle.abstract_value_types.specs.TypeShapes.{width_of};
+ghost use Rattle.abstract_value_laws.specs.OfValues.{case_count};
+ghost use Rattle.abstract_value_laws.specs.TypeShapes.{width_of};
 ghost use Rattle.abstract_value.specs.View.{abs};
 
 use abstract_value::AbstractValue;

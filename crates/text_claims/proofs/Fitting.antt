@@ -11,10 +11,10 @@ use Rattle.state_cell_text.specs.Digits.{hex_number}
 use Rattle.state_cell_names.specs.Names.{split_once}
 use Rattle.domain_laws.specs.States.{state_type}
 use Rattle.state_text.specs.Lines.{lines}
-use Rattle.analysis_claim_laws.specs.Answers.{Telling, column_of}
-use Rattle.analysis_claim_laws.specs.Claims.{Claim, Multiple, address_of, differs, never, range, sum}
-use Rattle.analysis_claim_laws.specs.Laws.{IsClaim, IsOfCell}
-use Rattle.text_claim_faults.specs.declared.claim_error.ClaimError.{ClaimError}
+use Rattle.analysis_query_laws.specs.Answers.{Telling, column_of}
+use Rattle.analysis_query_laws.specs.Claims.{Claim, Multiple, address_of, differs, never, range, sum}
+use Rattle.analysis_query_laws.specs.Laws.{IsClaim, IsOfCell}
+use Rattle.text_faults.specs.declared.claim_error.ClaimError.{ClaimError}
 use Rattle.text_claims.specs.declared.kinds.ClaimFault.{ClaimFault}
 use Rattle.text_claims.specs.declared.kinds.ClaimFault.TheVariants as fault
 use Rattle.text_claims.specs.declared.kinds.Known.{Known}

@@ -24,7 +24,7 @@ use Rattle.domain_laws.specs.declared.field.Field as of_domain
 use Rattle.domain_laws.specs.declared.field.Field.TheVariants as field
 use Rattle.domain_laws.specs.Entries.{GivenFits, PlaceFits, field_at}
 use Rattle.domain_laws.specs.States.{behind, field_of, fields_of, map_field, state_type, types_in}
-use Rattle.analysis_claim_laws.specs.Laws.{IsOfCell}
+use Rattle.analysis_query_laws.specs.Laws.{IsOfCell}
 use Rattle.text_claims.specs.declared.kinds.Known.{Known}
 use Rattle.text_claims.specs.Cells.{at_key, cell_in, cell_of, known, known_at, of_part}
 

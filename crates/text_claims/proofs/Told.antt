@@ -2,10 +2,10 @@
 use Rattle.std.proofs.Common.{◌≡◌, ◌≢◌, ◌∙◌, ℕ, ◌+◌, Bool, List, [], ◌∷◌, Option, Some, None, Result, Ok, Err, ap, subst}
 use Rattle.spec_ir.specs.Specification.{Spec}
 use Rattle.state_text.specs.Lines.{lines}
-use Rattle.analysis_claim_laws.specs.Answers.{Telling}
-use Rattle.analysis_claim_laws.specs.Claims.{Claim}
-use Rattle.text_claim_faults.specs.declared.claim_error.ClaimError.{ClaimError}
-use Rattle.text_claim_faults.specs.declared.claim_error.ClaimError.TheVariants.{NoMemory}
+use Rattle.analysis_query_laws.specs.Answers.{Telling}
+use Rattle.analysis_query_laws.specs.Claims.{Claim}
+use Rattle.text_faults.specs.declared.claim_error.ClaimError.{ClaimError}
+use Rattle.text_faults.specs.declared.claim_error.ClaimError.TheVariants.{NoMemory}
 use Rattle.text_claims.specs.declared.kinds.ClaimFault.{ClaimFault}
 use Rattle.text_claims.specs.declared.kinds.ClaimFault.TheVariants as fault
 use Rattle.text_claims.specs.Meaning.{Meant, bad, meant, nothing, says, unknown}

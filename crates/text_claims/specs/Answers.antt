@@ -1,8 +1,8 @@
 -- The answers to claims as text.
 use Rattle.std.specs.Prelude.{ℕ, Bool, List, [], ◌∷◌, ◌++◌, codes, if◌then◌else◌}
 use Rattle.fixpoint_theory.specs.Table.{Listings}
-use Rattle.analysis_claim_laws.specs.Answers.{Telling, answer}
-use Rattle.analysis_claim_laws.specs.Claims.{Claim}
+use Rattle.analysis_query_laws.specs.Answers.{Telling, answer}
+use Rattle.analysis_query_laws.specs.Claims.{Claim}
 
 abbrev pub answer_line : Bool → List ℕ
 answer_line told = if told then codes "yes\n" else codes "open\n"

@@ -3,9 +3,9 @@ use Rattle.std.specs.Prelude.{◌≡◌, ℕ, Bool, List, Ok, IsTrue}
 use Rattle.base_trait.specs.Lists.{Each}
 use Rattle.spec_ir.specs.Specification.{Spec}
 use Rattle.domain_laws.specs.States.{state_type}
-use Rattle.analysis_claim_laws.specs.Answers.{Telling}
-use Rattle.analysis_claim_laws.specs.Claims.{Claim, address_of}
-use Rattle.analysis_claim_laws.specs.Laws.{IsClaim}
+use Rattle.analysis_query_laws.specs.Answers.{Telling}
+use Rattle.analysis_query_laws.specs.Claims.{Claim, address_of}
+use Rattle.analysis_query_laws.specs.Laws.{IsClaim}
 use Rattle.text_claims.specs.Reading.{read}
 
 -- It is one of which elements tell, of cells that the states have, at the address of a code word.

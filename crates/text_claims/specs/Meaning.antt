@@ -3,7 +3,7 @@ use Rattle.std.specs.Prelude.{ℕ, ◌^◌, ◌==◌, nat_lt, List, [], ◌∷�
 use Rattle.std.specs.List.{slice_split}
 use Rattle.spec_ir.specs.Specification.{Spec}
 use Rattle.state_cell_text.specs.Digits.{hex_number}
-use Rattle.analysis_claim_laws.specs.Claims.{Claim, differs, never, range, sum}
+use Rattle.analysis_query_laws.specs.Claims.{Claim, differs, never, range, sum}
 use Rattle.text_claims.specs.declared.kinds.Known.{Known}
 use Rattle.text_claims.specs.Cells.{cell_in}
 use Rattle.text_claims.specs.Lines.{is_space}

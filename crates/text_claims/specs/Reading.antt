@@ -5,12 +5,12 @@ use Rattle.std.specs.declared.alloc.Global.{Global}
 use Rattle.spec_ir.specs.Specification.{Spec}
 use Rattle.code_image.specs.Image.{Image, code_at}
 use Rattle.state_text.specs.Lines.{lines}
-use Rattle.analysis_claim_laws.specs.Answers.{Telling, column_of}
-use Rattle.analysis_claim_laws.specs.Claims.{Claim, Multiple, address_of, differs, never, range, sum}
+use Rattle.analysis_query_laws.specs.Answers.{Telling, column_of}
+use Rattle.analysis_query_laws.specs.Claims.{Claim, Multiple, address_of, differs, never, range, sum}
 use Rattle.analysis_claims.specs.declared.claim.Claim.{Claim as ClaimOf}
 use Rattle.analysis_claims.specs.Tables.{claim}
-use Rattle.text_claim_faults.specs.declared.claim_error.ClaimError.{ClaimError}
-use Rattle.text_claim_faults.specs.declared.claim_error.ClaimError.TheVariants.{BadLine, UnknownPlace, NoPart, NoMemory}
+use Rattle.text_faults.specs.declared.claim_error.ClaimError.{ClaimError}
+use Rattle.text_faults.specs.declared.claim_error.ClaimError.TheVariants.{BadLine, UnknownPlace, NoPart, NoMemory}
 use Rattle.text_claims.specs.declared.kinds.ClaimFault.{ClaimFault}
 use Rattle.text_claims.specs.declared.kinds.ClaimFault.TheVariants as fault
 use Rattle.text_claims.specs.Meaning.{Meant, nothing, bad, unknown, says, meant}

@@ -3,7 +3,7 @@ use Rattle.std.specs.Prelude.{ℕ, ◌+◌, ◌%◌, ◌^◌, Bool, true, false,
 use Rattle.spec_ir.specs.Specification.{Spec}
 use Rattle.state_cell_names.specs.Names.{split_once}
 use Rattle.state_cell_text.specs.Digits.{hex_number}
-use Rattle.analysis_claim_laws.specs.Claims.{Multiple}
+use Rattle.analysis_query_laws.specs.Claims.{Multiple}
 use Rattle.text_claims.specs.declared.kinds.Known.{Known}
 use Rattle.text_claims.specs.declared.sums.Term.{Term}
 use Rattle.text_claims.specs.declared.sums.Term.TheVariants as code

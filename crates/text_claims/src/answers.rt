@@ -7,7 +7,7 @@ ghost use Rattle.spec_ir.specs.Views.{specification};
 ghost use Rattle.fixpoint_theory.specs.Table.{Listing};
 ghost use Rattle.fixpoint_theory.specs.Views.{listings};
 ghost use Rattle.domain_laws.specs.States.{state_type};
-ghost use Rattle.analysis_claim_laws.specs.Laws.{IsClaim};
+ghost use Rattle.analysis_query_laws.specs.Laws.{IsClaim};
 ghost use Rattle.analysis_claims.specs.Tables as plain;
 ghost use Rattle.text_claims.specs.Answers as lines;
 

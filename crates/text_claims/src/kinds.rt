@@ -5,7 +5,7 @@ ghost use Rattle.text_claims.specs.Reading.{error_at};
 
 use analysis_claims::Claim;
 use semantics_values::KeyAt;
-use text_claim_faults::ClaimError;
+use text_faults::ClaimError;
 
 /// A cell of the states, but the counter: its field, its key, and how many bits its numbers have.
 #[derive(Clone, Copy)]

@@ -3,7 +3,7 @@
 ghost use Rattle.std.specs.Prelude.{◌≡◌, ◌<◌, ◌^◌, ◌-◌, IfOk, length};
 ghost use Rattle.base_trait.specs.Lists.{Each};
 ghost use Rattle.spec_ir.specs.Views.{specification};
-ghost use Rattle.analysis_claim_laws.specs.Answers.{Telling};
+ghost use Rattle.analysis_query_laws.specs.Answers.{Telling};
 ghost use Rattle.analysis_claims.specs.Tables as plain;
 ghost use Rattle.text_claims.specs.Laws.{IsReadClaim};
 ghost use Rattle.text_claims.specs.Reading as defined;
@@ -18,7 +18,7 @@ use code_image::Image;
 use semantics_values::KeyAt;
 use spec_ir::Spec;
 use std::alloc::Global;
-use text_claim_faults::ClaimError;
+use text_faults::ClaimError;
 
 /// Whether all cells are tracked.
 fn are_tracked<D: ClaimElement>(domain: &D, parts: &[(u32, u32, KeyAt)]) -> bool

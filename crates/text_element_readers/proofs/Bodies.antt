@@ -9,8 +9,8 @@ use Rattle.abstract_value_laws.specs.Abs.{Parts}
 use Rattle.domain_laws.specs.declared.field.Field.{Field}
 use Rattle.domain_laws.specs.States.{StateType, has_states, same_states, state_type}
 use Rattle.domain_laws.specs.Values.{FieldsFit}
-use Rattle.domain_cell_laws.specs.Calls.{is_for}
-use Rattle.domain_cell_laws.proofs.Fields.{states_told}
+use Rattle.domain_laws.specs.Calls.{is_for}
+use Rattle.domain_laws.proofs.Fields.{states_told}
 use Rattle.domain_affine_element_laws.specs.Elements.{SameMembers}
 use Rattle.text_words.specs.Readings.{Readings}
 use Rattle.text_lines.specs.Lines.{Lines}

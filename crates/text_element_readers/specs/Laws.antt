@@ -7,7 +7,7 @@ use Rattle.fixpoint_theory.specs.Elements.{Elements}
 use Rattle.fixpoint_theory.specs.Outcome.{SamePost}
 use Rattle.fixpoint_theory.specs.Pairs.{paired}
 use Rattle.domain_laws.specs.States.{StateType, has_states, state_type}
-use Rattle.domain_cell_laws.specs.Cells.{cells}
+use Rattle.domain_laws.specs.Cells.{cells}
 use Rattle.domain_affine_laws.specs.Calls.{affine_elements, cell_count}
 use Rattle.text_words.specs.Readings.{Readings}
 use Rattle.text_lines.specs.Lines.{Lines}

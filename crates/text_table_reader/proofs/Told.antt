@@ -2,8 +2,8 @@
 use Rattle.std.proofs.Common.{◌≢◌, ◌∙◌, ◌+◌, ◌-◌, ℕ, List, length, subst, sym}
 use Rattle.spec_ir.specs.Specification.{Spec}
 use Rattle.code_image.specs.Image.{Image}
-use Rattle.text_table_faults.specs.declared.table_error.TableError.{TableError}
-use Rattle.text_table_faults.specs.declared.table_error.TableError.TheVariants.{NoMemory}
+use Rattle.text_faults.specs.declared.table_error.TableError.{TableError}
+use Rattle.text_faults.specs.declared.table_error.TableError.TheVariants.{NoMemory}
 use Rattle.text_lines.specs.Lines.{lines}
 use Rattle.text_element_readers.specs.Reading.{ElementReading}
 use Rattle.text_element_readers.specs.Words.{WordReading}

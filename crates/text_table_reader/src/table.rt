@@ -26,8 +26,8 @@ use std::alloc::{AllocError as NoMemory, Global};
 use std::collections::BTreeMap;
 use support_command_line::BaseName;
 use text_element_readers::ReadElement;
+use text_faults::TableError;
 use text_lines::{LinesOf, count_lines};
-use text_table_faults::TableError;
 
 /// A table that is read, and how the blocks end that are left open.
 #[derive(Drop)]

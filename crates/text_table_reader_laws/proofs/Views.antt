@@ -6,7 +6,7 @@ use Rattle.code_image.specs.Image.{Image}
 use Rattle.fixpoint_theory.specs.Table.{Listing, Listings}
 use Rattle.fixpoint_open_tables.specs.Endings.{Endings}
 use Rattle.fixpoint_open_tables.specs.declared.ending.Ending.{Ending}
-use Rattle.text_table_faults.specs.declared.table_error.TableError.{TableError}
+use Rattle.text_faults.specs.declared.table_error.TableError.{TableError}
 use Rattle.text_lines.specs.Lines.{Lines, lines}
 use Rattle.text_element_readers.specs.Reading.{ElementReading}
 use Rattle.text_element_readers.specs.Words.{WordReading}

@@ -7,7 +7,7 @@ use Rattle.semantics_values.specs.Views.{val}
 use Rattle.semantics_values.specs.declared.value.Value.{size-Value}
 use Rattle.semantics_values.specs.declared.value.Value.TheViews.{sized-Made}
 use Rattle.abstract_value_laws.specs.Abs.{cases, made}
-use Rattle.abstract_value_types.specs.OfValues.{case_count, of_value, of_values, one_case}
+use Rattle.abstract_value_laws.specs.OfValues.{case_count, of_value, of_values, one_case}
 use Rattle.abstract_value.specs.View.{case_of}
 use Rattle.abstract_value.proofs.Falling.{part_falls}
 use Rattle.abstract_value.proofs.OfValues.{made_fits_of, map_fits_of, map_is, val_Made, values_fit_here, values_pushed, word_fits_of, word_is}

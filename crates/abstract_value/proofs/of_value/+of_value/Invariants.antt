@@ -4,7 +4,7 @@ use Rattle.semantics_values.specs.Types.{environment_of}
 use Rattle.semantics_values.specs.Values.{vals}
 use Rattle.semantics_values.specs.Views.{val}
 use Rattle.abstract_value_laws.specs.Abs.{parts_onto}
-use Rattle.abstract_value_types.specs.OfValues.{ValuesFit, of_values}
+use Rattle.abstract_value_laws.specs.OfValues.{ValuesFit, of_values}
 use Rattle.abstract_value.specs.View.{abs}
 use Rattle.abstract_value.proofs.of_value.+of_value.Given as goal
 

@@ -3,7 +3,7 @@ use Rattle.base_trait.specs.declared.uses.Stamp.TheVariants.{Entry}
 use Rattle.abstract_map_laws.specs.declared.cell.AbstractCell.{AbstractCell}
 use Rattle.semantics_values.specs.declared.value.Cell.{Cell as ConcreteCell}
 use Rattle.abstract_map_laws.proofs.Joining.{take_all}
-use Rattle.abstract_value_types.specs.OfValues as of
+use Rattle.abstract_value_laws.specs.OfValues as of
 use Rattle.abstract_value.proofs.Merging.{taken_pushed}
 use Rattle.abstract_value.proofs.of_value.cells_of.Goals as goal
 

@@ -1,5 +1,5 @@
 use Rattle.std.proofs.Common.{◌≡◌, take}
-use Rattle.abstract_value_types.specs.OfValues.{cells_of}
+use Rattle.abstract_value_laws.specs.OfValues.{cells_of}
 use Rattle.abstract_value.proofs.of_value.cells_of.Given as goal
 
 abbrev pub invariant-loop-key : goal.invariant-loop-key

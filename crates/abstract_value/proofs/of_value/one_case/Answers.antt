@@ -1,7 +1,7 @@
 use Rattle.std.proofs.Common.{◌≡◌, ◌-◌, Some, None, [], ◌∷◌, ◌++◌, map, replicate, ap, ◌∙◌}
 use Rattle.abstract_map.proofs.Whole.{if_ok}
 use Rattle.abstract_value_laws.specs.Abs.{cases, parts}
-use Rattle.abstract_value_types.specs.OfValues as of
+use Rattle.abstract_value_laws.specs.OfValues as of
 use Rattle.abstract_value.specs.View.{abs, case_of}
 use Rattle.abstract_value.proofs.OfValues.{one_seen}
 use Rattle.abstract_value.proofs.of_value.one_case.Goals as goal

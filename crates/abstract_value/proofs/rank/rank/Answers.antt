@@ -1,5 +1,5 @@
 use Rattle.std.proofs.Common.{◌-◌, ◌^◌, min, ap, sym, ◌∙◌}
-use Rattle.abstract_value_types.specs.Ranks.{leaf_rank}
+use Rattle.abstract_value_laws.specs.Ranks.{leaf_rank}
 use Rattle.abstract_value.specs.View.{abs}
 use Rattle.abstract_value.proofs.Views.{abs_Map}
 use Rattle.abstract_value.proofs.rank.rank.Goals as goal

@@ -3,7 +3,7 @@ use Rattle.spec_ir.specs.Views as view
 use Rattle.spec_ir.specs.Views.{specification}
 use Rattle.semantics_values.specs.Types.{environment_of}
 use Rattle.abstract_value_laws.specs.Abs.{cases, parts}
-use Rattle.abstract_value_types.specs.Types.{has_case, has_type, have_cases, have_types, of_data}
+use Rattle.abstract_value_laws.specs.Types.{has_case, has_type, have_cases, have_types, of_data}
 use Rattle.abstract_value.specs.View.{abs, case_of}
 use Rattle.abstract_value.proofs.Falling.{case_falls, part_falls}
 use Rattle.abstract_value.proofs.Both.{ended, failed, passed, tested, uneven}

@@ -3,7 +3,7 @@ use Rattle.spec_ir.specs.Views as view
 use Rattle.spec_ir.specs.Views.{specification}
 use Rattle.semantics_values.specs.Types.{environment_of}
 use Rattle.abstract_value_laws.specs.Abs.{cases, parts}
-use Rattle.abstract_value_types.specs.Types.{have_cases, have_types}
+use Rattle.abstract_value_laws.specs.Types.{have_cases, have_types}
 use Rattle.abstract_value.specs.View.{abs, case_of}
 use Rattle.abstract_value.proofs.typed.+has_type.Given as goal
 

@@ -1,5 +1,5 @@
 use Rattle.std.proofs.Common.{◌≡◌, ◌≤◌, drop, length}
-use Rattle.analysis_claim_laws.specs.Answers.{form_of}
+use Rattle.analysis_query_laws.specs.Answers.{form_of}
 use Rattle.analysis_claims.proofs.answering.form_of.Given as goal
 
 abbrev pub invariant-loop-left : goal.invariant-loop-left

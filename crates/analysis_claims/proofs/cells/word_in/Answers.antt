@@ -1,5 +1,5 @@
 use Rattle.std.proofs.Common.{◌≡◌, ◌-◌, ◌<◌, length, IfOk, sym, ap, subst, arith}
-use Rattle.analysis_claim_laws.specs.Cells.{word_of}
+use Rattle.analysis_query_laws.specs.Cells.{word_of}
 use Rattle.analysis_claims.proofs.Values.{fits_at, found_in, nothing_in}
 use Rattle.analysis_claims.proofs.cells.word_in.Goals as goal
 

@@ -1,5 +1,5 @@
 use Rattle.std.proofs.Common.{◌≡◌, drop}
-use Rattle.analysis_claim_laws.specs.Answers.{column_of}
+use Rattle.analysis_query_laws.specs.Answers.{column_of}
 use Rattle.analysis_claims.proofs.Columns.{shifted}
 use Rattle.analysis_claims.proofs.sums.column_of.Given as goal
 

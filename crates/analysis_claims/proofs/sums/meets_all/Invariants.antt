@@ -1,5 +1,5 @@
 use Rattle.std.proofs.Common.{◌≡◌, drop}
-use Rattle.analysis_claim_laws.specs.Affine.{meets_all}
+use Rattle.analysis_query_laws.specs.Affine.{meets_all}
 use Rattle.analysis_claims.proofs.sums.meets_all.Given as goal
 
 abbrev pub invariant-loop-i : goal.invariant-loop-i

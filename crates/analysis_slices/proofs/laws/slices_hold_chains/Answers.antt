@@ -1,5 +1,5 @@
-use Rattle.analysis_slice_laws.proofs.One.{slices_are_of_uses}
-use Rattle.analysis_slice_laws.proofs.Slices.{slices_hold_chains}
+use Rattle.analysis_query_laws.proofs.One.{slices_are_of_uses}
+use Rattle.analysis_query_laws.proofs.Slices.{slices_hold_chains}
 use Rattle.fixpoint_theory.specs.Views.{listings}
 use Rattle.analysis_slices.proofs.laws.slices_hold_chains.Goals as goal
 

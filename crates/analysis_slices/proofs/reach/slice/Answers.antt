@@ -2,7 +2,7 @@ use Rattle.std.proofs.Common.{◌∙◌, ◌<◌, ◌^◌, arith, ap}
 use Rattle.std.proofs.Common.{map as map_of}
 use Rattle.base_trait.specs.Uses.{seen}
 use Rattle.fixpoint_theory.specs.Views.{listings}
-use Rattle.analysis_slice_laws.specs.Slices.{asked_uses, listed_uses}
+use Rattle.analysis_query_laws.specs.Slices.{asked_uses, listed_uses}
 use Rattle.analysis_slices.specs.declared.slice_search.SliceSearch.{SliceSearch}
 use Rattle.analysis_slices.proofs.Loop.{is_slice, step_fine, step_smaller}
 use Rattle.analysis_slices.proofs.reach.slice.Goals as goal

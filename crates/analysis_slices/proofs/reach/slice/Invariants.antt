@@ -1,6 +1,6 @@
 use Rattle.std.proofs.Common.{◌-◌, ◌^◌, length}
 use Rattle.fixpoint_theory.specs.Views.{listings}
-use Rattle.analysis_slice_laws.specs.Slices.{asked_uses, listed_uses}
+use Rattle.analysis_query_laws.specs.Slices.{asked_uses, listed_uses}
 use Rattle.analysis_slices.proofs.Loop.{IsFine}
 use Rattle.analysis_slices.proofs.reach.slice.Given as goal
 

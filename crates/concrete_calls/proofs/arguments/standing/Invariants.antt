@@ -3,9 +3,9 @@ use Rattle.base_concrete.specs.Meaning.{concrete}
 use Rattle.spec_ir.specs.Views.{specification}
 use Rattle.semantics_values.specs.Types.{environment_of}
 use Rattle.semantics_values.specs.Views.{val}
-use Rattle.abstract_value_types.specs.OfValues.{of_value}
+use Rattle.abstract_value_laws.specs.OfValues.{of_value}
 use Rattle.abstract_value.specs.View.{abs}
-use Rattle.concrete_values.specs.Laws.{room}
+use Rattle.concrete_calls.specs.Laws.{room}
 use Rattle.concrete_calls.proofs.arguments.standing.Given as goal
 
 abbrev pub invariant-loop-value : goal.invariant-loop-value

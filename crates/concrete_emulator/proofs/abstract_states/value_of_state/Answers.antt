@@ -4,9 +4,9 @@ use Rattle.base_concrete.specs.Meaning.{concrete}
 use Rattle.spec_ir.specs.Views.{specification}
 use Rattle.semantics_values.specs.Types.{environment_of}
 use Rattle.semantics_values.specs.Views.{state}
-use Rattle.abstract_value_types.specs.OfValues.{ValueFits, of_value}
+use Rattle.abstract_value_laws.specs.OfValues.{ValueFits, of_value}
 use Rattle.abstract_value.specs.View.{abs}
-use Rattle.concrete_values.specs.Laws.{room}
+use Rattle.concrete_calls.specs.Laws.{room}
 use Rattle.concrete_emulator.proofs.Calls.{state_fits, state_shown}
 use Rattle.concrete_emulator.proofs.abstract_states.value_of_state.Goals as goal
 

@@ -7,9 +7,9 @@ use Rattle.semantics_values.specs.Types.{environment_of}
 use Rattle.semantics_values.specs.Views.{val}
 use Rattle.semantics.specs.Runs.{meaning}
 use Rattle.abstract_value_laws.specs.Abs.{Abs}
-use Rattle.abstract_value_types.specs.OfValues.{of_value}
+use Rattle.abstract_value_laws.specs.OfValues.{of_value}
 use Rattle.abstract_value.specs.View.{abs}
-use Rattle.concrete_values.specs.Laws.{AreArgumentsFor, room}
+use Rattle.concrete_calls.specs.Laws.{AreArgumentsFor, room}
 use Rattle.concrete_calls.specs.Calls.{IsCall, IsMeantBy}
 use Rattle.concrete_emulator.proofs.Calls.{arguments, deep_step, done_step, instruction_fits, machine_of, pushed}
 use Rattle.concrete_emulator.proofs.step.execute.Goals as goal

@@ -8,8 +8,8 @@ use Rattle.semantics_values.specs.Views.{val}
 use Rattle.semantics.specs.Runs.{meaning}
 use Rattle.semantics_laws.proofs.Turns.{meanings_have_types}
 use Rattle.abstract_value_laws.specs.Abs.{Abs}
-use Rattle.abstract_value_types.specs.OfValues.{ValuesFit, of_value}
-use Rattle.concrete_values.specs.Laws.{AreArgumentsFor, room}
+use Rattle.abstract_value_laws.specs.OfValues.{ValuesFit, of_value}
+use Rattle.concrete_calls.specs.Laws.{AreArgumentsFor, room}
 use Rattle.concrete_calls.specs.Calls.{IsCall, IsMeantBy}
 use Rattle.concrete_calls.proofs.Typed.{are_types, arguments_for, values_fit}
 use Rattle.concrete_function_calls.specs.Calls.{value}

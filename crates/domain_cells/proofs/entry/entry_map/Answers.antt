@@ -3,8 +3,8 @@ use Rattle.std.proofs.lemmas.List.{drop_all}
 use Rattle.base_trait.specs.Lists.{Each}
 use Rattle.semantics_values.specs.declared.entry.GivenNumber.TheVariants.{One}
 use Rattle.semantics_values.specs.declared.entry.KeyAt.TheVariants.{Whole}
-use Rattle.domain_cell_laws.specs.Entry.{map_of, with_cells}
-use Rattle.domain_cell_laws.specs.Lines.{KeyFits}
+use Rattle.domain_laws.specs.Entry.{map_of, with_cells}
+use Rattle.domain_laws.specs.Lines.{KeyFits}
 use Rattle.domain_cells.proofs.Lists.{each_get, line_width, named}
 use Rattle.domain_cells.proofs.entry.entry_map.Goals as goal
 

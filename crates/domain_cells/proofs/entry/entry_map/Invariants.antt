@@ -1,6 +1,6 @@
 use Rattle.std.proofs.Common.{◌≡◌, ◌≤◌, drop, length}
 use Rattle.abstract_map_laws.specs.Maps.{Fits}
-use Rattle.domain_cell_laws.specs.Entry.{map_of, with_cells}
+use Rattle.domain_laws.specs.Entry.{map_of, with_cells}
 use Rattle.domain_cells.proofs.entry.entry_map.Given as goal
 
 abbrev pub invariant-loop-left : goal.invariant-loop-left

@@ -3,10 +3,10 @@ use Rattle.abstract_map.proofs.Whole.{if_ok}
 use Rattle.abstract_value_laws.specs.Abs.{map, word}
 use Rattle.domain_laws.specs.declared.field.Field.TheVariants.{Word, Map}
 use Rattle.domain_laws.specs.Entries.{GivenFits}
-use Rattle.domain_cell_laws.specs.Entry.{entry_value, given, map_of, with_cells}
-use Rattle.domain_cell_laws.specs.Lines.{IsField, OfField}
-use Rattle.domain_cell_laws.proofs.Entries.{rest_fits, word_fits}
-use Rattle.domain_cell_laws.proofs.Lines.{keys_fit}
+use Rattle.domain_laws.specs.Entry.{entry_value, given, map_of, with_cells}
+use Rattle.domain_laws.specs.Lines.{IsField, OfField}
+use Rattle.domain_laws.proofs.Entries.{rest_fits, word_fits}
+use Rattle.domain_laws.proofs.Lines.{keys_fit}
 use Rattle.abstract_value.specs.View.{abs}
 use Rattle.domain_cells.proofs.entry.entry_value.Goals as goal
 

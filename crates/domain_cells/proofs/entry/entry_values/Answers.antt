@@ -1,4 +1,4 @@
-use Rattle.domain_cell_laws.specs.Entry.{entry_values}
+use Rattle.domain_laws.specs.Entry.{entry_values}
 use Rattle.domain_cells.proofs.Lists.{entry_ends, entry_pushed, field_lines, field_right}
 use Rattle.domain_cells.proofs.entry.entry_values.Goals as goal
 

@@ -1,6 +1,6 @@
 use Rattle.std.proofs.Common.{◌≡◌, ◌+◌, drop, map}
 use Rattle.abstract_value_laws.specs.Abs.{parts_onto}
-use Rattle.domain_cell_laws.specs.Entry.{entry_values}
+use Rattle.domain_laws.specs.Entry.{entry_values}
 use Rattle.abstract_value.specs.View.{abs}
 use Rattle.domain_cells.proofs.entry.entry_values.Given as goal
 

@@ -1,6 +1,6 @@
 use Rattle.std.proofs.Common.{map, ap, sym, ◌∙◌}
 use Rattle.abstract_value_laws.specs.Abs.{cases}
-use Rattle.domain_cell_laws.specs.Calls.{behind_first, fields_of}
+use Rattle.domain_laws.specs.Calls.{behind_first, fields_of}
 use Rattle.abstract_value.specs.View.{abs, case_of}
 use Rattle.abstract_value.proofs.Views.{abs_Data}
 use Rattle.domain_cells.proofs.states.behind_counter.Goals as goal

@@ -1,7 +1,7 @@
 use Rattle.std.proofs.Common.{◌+◌, ◌-◌, ◌^◌, drop, map, arith}
 use Rattle.abstract_value_laws.specs.Abs.{parts}
-use Rattle.domain_cell_laws.specs.Calls.{values_rank}
-use Rattle.abstract_value_types.specs.Ranks.{leaf_rank}
+use Rattle.domain_laws.specs.Calls.{values_rank}
+use Rattle.abstract_value_laws.specs.Ranks.{leaf_rank}
 use Rattle.abstract_value.specs.View.{abs}
 use Rattle.abstract_value.proofs.Merging.{parts_fit_here}
 use Rattle.domain_cells.proofs.Lists.{rank_end, rank_more}

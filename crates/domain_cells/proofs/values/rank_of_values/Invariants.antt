@@ -1,7 +1,7 @@
 use Rattle.std.proofs.Common.{◌≡◌, ◌+◌, ◌-◌, ◌^◌, ◌≤◌, drop, map, min}
 use Rattle.abstract_value_laws.specs.Abs.{parts}
 use Rattle.abstract_value_laws.specs.Fits.{PartsFit}
-use Rattle.domain_cell_laws.specs.Calls.{values_rank}
+use Rattle.domain_laws.specs.Calls.{values_rank}
 use Rattle.abstract_value.specs.View.{abs}
 use Rattle.domain_cells.proofs.values.rank_of_values.Given as goal
 

@@ -1,6 +1,6 @@
 use Rattle.std.proofs.Common.{◌≡◌, ◌∙◌, map, ap, rules}
 use Rattle.abstract_value.specs.View.{abs}
-use Rattle.support_group_arguments.specs.Groups.{only}
+use Rattle.support_tail_fixpoint.specs.Groups.{only}
 use Rattle.eval_group_turns.specs.Turning.{stamps_from, turning}
 use Rattle.eval_group_turns.specs.Views.{group_args}
 use Rattle.support_tail_fixpoint.specs.Activation.{start}

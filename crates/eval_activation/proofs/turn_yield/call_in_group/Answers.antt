@@ -2,10 +2,10 @@ use Rattle.std.proofs.Common.{◌≡◌, ◌∙◌, ◌+◌, ◌-◌, suc, cond,
 use Rattle.std.proofs.lemmas.List.{map-append}
 use Rattle.semantics_values.specs.Types.{environment_of}
 use Rattle.abstract_value_laws.specs.Abs.{parts}
-use Rattle.abstract_value_types.specs.Types.{have_types}
+use Rattle.abstract_value_laws.specs.Types.{have_types}
 use Rattle.abstract_value.specs.View.{abs}
-use Rattle.support_group_arguments.specs.Groups.{only}
-use Rattle.support_group_arguments.proofs.Groups.{only_is}
+use Rattle.support_tail_fixpoint.specs.Groups.{only}
+use Rattle.support_tail_fixpoint.proofs.Groups.{only_is}
 use Rattle.abstract_semantics.specs.Terms.{asks, params_of}
 use Rattle.eval_memo.specs.Ready.{AreGroupArgs, ArgsOf}
 use Rattle.eval_memo.specs.Settings.{spec_of}

@@ -1,5 +1,5 @@
 use Rattle.std.proofs.Common.{◌≡◌, ◌-◌, ◌++◌, map, option_map}
-use Rattle.support_group_arguments.specs.Groups.{only}
+use Rattle.support_tail_fixpoint.specs.Groups.{only}
 use Rattle.eval_activation.specs.Views.{all_abs}
 use Rattle.eval_activation.proofs.turn_yield.call_in_group.Given as goal
 

@@ -1,6 +1,6 @@
 use Rattle.std.proofs.Common.{◌≡◌, option_map, sym, subst, rules}
 use Rattle.abstract_value.specs.View.{abs}
-use Rattle.support_group_arguments.specs.Groups.{join_some, merge_each}
+use Rattle.support_tail_fixpoint.specs.Groups.{join_some, merge_each}
 use Rattle.abstract_value_laws.specs.Calls.{join_of}
 use Rattle.abstract_semantics.specs.Terms.{merge_all}
 use Rattle.eval_memo.specs.Ready.{YieldFits}

@@ -2,7 +2,7 @@ use Rattle.std.proofs.Common.{◌≤◌, length, sym, ap, ◌∙◌, rules}
 use Rattle.std.specs.Prelude.{option_map}
 use Rattle.std.proofs.lemmas.List.{length-map}
 use Rattle.abstract_value_laws.specs.Calls.{absorbs_of}
-use Rattle.support_group_arguments.specs.Groups.{held, some_absorbs}
+use Rattle.support_tail_fixpoint.specs.Groups.{held, some_absorbs}
 use Rattle.abstract_semantics.specs.Calls.{all_absorb}
 use Rattle.eval_group_turns.specs.Fitting.{ListFits}
 use Rattle.eval_group_turns.specs.Views.{all_abs, each_abs}

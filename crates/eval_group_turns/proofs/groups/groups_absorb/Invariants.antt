@@ -1,6 +1,6 @@
 use Rattle.std.proofs.Common.{◌≡◌, drop}
 use Rattle.abstract_value_laws.specs.Calls.{absorbs_of}
-use Rattle.support_group_arguments.specs.Groups.{each_absorbs}
+use Rattle.support_tail_fixpoint.specs.Groups.{each_absorbs}
 use Rattle.abstract_semantics.specs.Calls.{all_absorb}
 use Rattle.eval_group_turns.specs.Views.{each_abs}
 use Rattle.eval_group_turns.proofs.groups.groups_absorb.Given as goal

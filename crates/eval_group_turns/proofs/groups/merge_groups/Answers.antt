@@ -1,7 +1,7 @@
 use Rattle.std.proofs.Common.{◌≡◌, ◌+◌, ◌<◌, ◌≤◌, ◌++◌, drop, length, sym, ap, ◌∙◌, append-nil, rules}
 use Rattle.std.specs.Prelude.{max, option_map}
 use Rattle.std.proofs.lemmas.List.{length-map}
-use Rattle.support_group_arguments.specs.Groups.{held, join_some, merge_each}
+use Rattle.support_tail_fixpoint.specs.Groups.{held, join_some, merge_each}
 use Rattle.abstract_value.specs.Ways.{merged}
 use Rattle.abstract_semantics.specs.Terms.{merge_all}
 use Rattle.eval_group_turns.specs.Fitting.{ListFits}

@@ -1,5 +1,5 @@
 use Rattle.std.proofs.Common.{◌≡◌, ◌++◌, drop}
-use Rattle.support_group_arguments.specs.Groups.{merge_each}
+use Rattle.support_tail_fixpoint.specs.Groups.{merge_each}
 use Rattle.abstract_value.specs.Ways.{merged}
 use Rattle.abstract_semantics.specs.Terms.{merge_all}
 use Rattle.eval_group_turns.specs.Views.{each_abs}

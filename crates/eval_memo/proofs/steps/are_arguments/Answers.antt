@@ -5,7 +5,7 @@ use Rattle.std.proofs.lemmas.List.{length-map}
 use Rattle.spec_ir.specs.Views.{fun_of, specification}
 use Rattle.semantics_values.specs.Types.{environment_of}
 use Rattle.abstract_value_laws.specs.Abs.{parts}
-use Rattle.abstract_value_types.specs.Types.{have_types}
+use Rattle.abstract_value_laws.specs.Types.{have_types}
 use Rattle.abstract_value.specs.View.{abs}
 use Rattle.abstract_semantics.specs.Terms.{params_in, params_of}
 use Rattle.eval_memo.proofs.steps.are_arguments.Goals as goal

@@ -3,7 +3,7 @@ use Rattle.spec_ir.specs.Views.{specification}
 use Rattle.semantics_values.specs.Types.{environment_of}
 use Rattle.abstract_value_laws.specs.Abs.{cases, made, parts}
 use Rattle.abstract_value_laws.specs.Fits.{Fits}
-use Rattle.abstract_value_types.specs.OfValues.{one_case}
+use Rattle.abstract_value_laws.specs.OfValues.{one_case}
 use Rattle.abstract_value.specs.View.{abs, case_of}
 use Rattle.abstract_value.proofs.Views.{abs_Data}
 use Rattle.eval_operations.proofs.Fitting.{made_is, one_fits, parts_fit}

@@ -1,6 +1,6 @@
 use Rattle.std.proofs.Common.{length}
 use Rattle.spec_ir.specs.Views.{specification}
-use Rattle.abstract_group_ranks.specs.Ranks.{rank_of}
+use Rattle.abstract_semantics.specs.GroupRanks.{rank_of}
 use Rattle.eval_memo.specs.Memos.{entries}
 use Rattle.evaluator.proofs.evaluation.evaluate_counted.Given as goal
 

@@ -3,7 +3,7 @@ use Rattle.std.proofs.lemmas.List.Elements.{All-nil}
 use Rattle.base_trait.specs.Uses.{uses_of}
 use Rattle.abstract_value_laws.specs.Fits.{Fits}
 use Rattle.abstract_value.specs.View.{abs}
-use Rattle.abstract_calls.specs.Answers.{answers}
+use Rattle.abstract_semantics.specs.CallAnswers.{answers}
 use Rattle.eval_memo.proofs.Growth.{grown_itself}
 use Rattle.evaluator.proofs.Starting.{alone_failed, alone_gave, is_there, no_function, not_there}
 use Rattle.evaluator.proofs.evaluation.evaluate_unkept.Goals as goal

@@ -6,7 +6,7 @@ use Rattle.program_domain_tasks.specs.Read.{task_of}
 use Rattle.abstract_value_laws.specs.Abs.{parts}
 use Rattle.abstract_value.specs.View.{abs}
 use Rattle.domain_cells.specs.Views.{context_of, states_of}
-use Rattle.domain_cell_laws.specs.Calls as cell
+use Rattle.domain_laws.specs.Calls as cell
 use Rattle.program_common.specs.Outcomes.{answer_of}
 use Rattle.program_base_tasks.proofs.Ties.{cells_tie, cells_told, gives_comes, own_cells, work_comes}
 use Rattle.program_base_tasks.proofs.named.over_cells.Goals as goal

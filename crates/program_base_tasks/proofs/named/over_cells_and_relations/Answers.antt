@@ -6,12 +6,12 @@ use Rattle.program_domain_tasks.specs.Read.{task_of}
 use Rattle.abstract_value_laws.specs.Abs.{parts}
 use Rattle.abstract_value.specs.View.{abs}
 use Rattle.domain_cells.specs.Views.{context_of, states_of}
-use Rattle.domain_cell_laws.specs.Calls as cell
+use Rattle.domain_laws.specs.Calls as cell
 use Rattle.domain_affine_laws.specs.Calls as relation
 use Rattle.domain_affine_base.specs.Meaning.{affine}
 use Rattle.domain_product_laws.specs.Domain.{may_pair}
-use Rattle.analysis_claim_laws.specs.Affine.{affine_tell}
-use Rattle.analysis_claim_laws.specs.Pairs.{pairs_tell}
+use Rattle.analysis_query_laws.specs.Affine.{affine_tell}
+use Rattle.analysis_query_laws.specs.Pairs.{pairs_tell}
 use Rattle.program_common.specs.Outcomes.{answer_of}
 use Rattle.program_base_tasks.proofs.Ties.{both_for, cells_tie, cells_told, gives_comes, own_cells, own_pair, own_relations, pair_tie, relations_tie, work_comes}
 use Rattle.program_base_tasks.proofs.named.over_cells_and_relations.Goals as goal

@@ -3,7 +3,7 @@ use Rattle.support_command_line.specs.Bases.{base_text}
 use Rattle.spec_ir.specs.Views.{specification}
 use Rattle.program_domain_tasks.specs.Read.{task_of}
 use Rattle.domain_affine_laws.specs.Calls as relation
-use Rattle.analysis_claim_laws.specs.Affine.{affine_tell}
+use Rattle.analysis_query_laws.specs.Affine.{affine_tell}
 use Rattle.program_common.specs.Outcomes.{answer_of}
 use Rattle.program_base_tasks.proofs.Ties.{gives_comes, own_relations, relations_tie, work_comes}
 use Rattle.program_base_tasks.proofs.named.over_relations.Goals as goal

@@ -5,7 +5,7 @@ use Rattle.state_text.specs.Reading.{entry_of}
 use Rattle.program_common.specs.Outcomes.{answer_of}
 use Rattle.domain_laws.specs.States.{state_type}
 use Rattle.base_trait.specs.Lists.{Each}
-use Rattle.analysis_claim_laws.specs.Laws.{IsClaim}
+use Rattle.analysis_query_laws.specs.Laws.{IsClaim}
 use Rattle.analysis_claims.specs.Tables.{claim}
 use Rattle.fixpoint_theory.specs.Views.{listings}
 use Rattle.text_claims.specs.Answers.{answers}

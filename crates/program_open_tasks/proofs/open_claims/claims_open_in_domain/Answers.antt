@@ -6,7 +6,7 @@ use Rattle.spec_ir.specs.Views.{specification}
 use Rattle.base_trait.specs.Lists.{Each}
 use Rattle.domain_laws.specs.States.{state_type}
 use Rattle.fixpoint_theory.specs.Views.{listings}
-use Rattle.analysis_claim_laws.specs.Laws.{IsClaim}
+use Rattle.analysis_query_laws.specs.Laws.{IsClaim}
 use Rattle.analysis_claims.specs.Tables.{claim}
 use Rattle.text_claims.specs.Answers.{answers}
 use Rattle.text_claims.specs.Reading.{claims_of, has_word, read}

@@ -1,7 +1,7 @@
 use Rattle.std.proofs.Common.{◌≡◌, true, map, rules}
 use Rattle.semantics_values.specs.Types.{environment_of}
 use Rattle.abstract_value_laws.specs.Abs.{parts}
-use Rattle.abstract_value_types.specs.Types.{have_types}
+use Rattle.abstract_value_laws.specs.Types.{have_types}
 use Rattle.abstract_value.specs.View.{abs}
 use Rattle.eval_operations.proofs.Fitting.{parts_fit}
 use Rattle.abstract_semantics.specs.Terms.{params_of}

@@ -1,7 +1,7 @@
 use Rattle.std.proofs.Common.{length, arith}
 use Rattle.spec_ir.specs.Views.{specification}
 use Rattle.domain_laws.specs.States.{state_type}
-use Rattle.analysis_claim_laws.specs.Laws.{IsClaim}
+use Rattle.analysis_query_laws.specs.Laws.{IsClaim}
 use Rattle.analysis_claims.specs.Tables.{claim}
 use Rattle.text_claims.proofs.Items.{each_item}
 use Rattle.text_claims.proofs.answers.answers_text.Goals as goal

@@ -4,8 +4,8 @@ use Rattle.spec_ir.specs.Views.{specification}
 use Rattle.semantics_values.specs.Types.{environment_of}
 use Rattle.semantics_values.specs.Views.{val}
 use Rattle.abstract_value_laws.specs.Fits.{Fits}
-use Rattle.abstract_value_types.specs.OfValues.{of_value}
-use Rattle.abstract_value_types.proofs.Concrete.{value_is_fit}
+use Rattle.abstract_value_laws.specs.OfValues.{of_value}
+use Rattle.abstract_value_laws.proofs.Concrete.{value_is_fit}
 use Rattle.abstract_map.proofs.Whole.{if_ok}
 use Rattle.abstract_value.specs.View.{abs}
 use Rattle.abstract_value.proofs.value.AbstractValue.of_value.Goals as goal

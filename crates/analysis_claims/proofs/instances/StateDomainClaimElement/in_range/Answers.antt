@@ -2,7 +2,7 @@ use Rattle.std.proofs.Common.{sym, subst}
 use Rattle.spec_ir.specs.Views.{specification}
 use Rattle.semantics_values.specs.declared.entry.GivenNumber.TheVariants.{Range}
 use Rattle.domain_cells.specs.Views.{context_of, states_of}
-use Rattle.analysis_claim_laws.specs.Laws.{IsOfCell}
+use Rattle.analysis_query_laws.specs.Laws.{IsOfCell}
 use Rattle.analysis_claims.specs.Instance.{same_type}
 use Rattle.analysis_claims.specs.Seen.{plain_values}
 use Rattle.analysis_claims.proofs.Values.{has_word}

@@ -2,7 +2,7 @@ use Rattle.std.proofs.Common.{take}
 use Rattle.std.proofs.Common.{map as map_of}
 use Rattle.std.specs.List.{filter}
 use Rattle.base_trait.specs.Uses.{seen}
-use Rattle.analysis_slice_laws.specs.Slices.{is_asked, is_from}
+use Rattle.analysis_query_laws.specs.Slices.{is_asked, is_from}
 use Rattle.analysis_slices.specs.Found.{IsAdded}
 use Rattle.analysis_slices.proofs.slice_search.SliceSearch.add_asked.Given as goal
 

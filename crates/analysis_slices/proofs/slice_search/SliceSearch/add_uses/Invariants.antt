@@ -1,6 +1,6 @@
 use Rattle.std.proofs.Common.{take, map}
 use Rattle.base_trait.specs.Uses.{seen}
-use Rattle.analysis_slice_laws.specs.Slices.{is_from}
+use Rattle.analysis_query_laws.specs.Slices.{is_from}
 use Rattle.analysis_slices.specs.Found.{IsAdded}
 use Rattle.analysis_slices.proofs.slice_search.SliceSearch.add_uses.Given as goal
 

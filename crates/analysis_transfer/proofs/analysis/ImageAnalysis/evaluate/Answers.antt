@@ -3,7 +3,7 @@ use Rattle.abstract_value.specs.View.{abs}
 use Rattle.base_trait.specs.Uses.{uses_of}
 use Rattle.support_tail_fixpoint.specs.declared.policy.Policy.TheVariants.{Widen}
 use Rattle.abstract_semantics.specs.Calls.{AreArguments}
-use Rattle.abstract_calls.specs.Answers.{answers}
+use Rattle.abstract_semantics.specs.CallAnswers.{answers}
 use Rattle.analysis_transfer.specs.Analysis.{problem}
 use Rattle.analysis_transfer.proofs.Evaluated.{from_none}
 use Rattle.analysis_transfer.proofs.analysis.ImageAnalysis.evaluate.Goals as goal

@@ -1,6 +1,6 @@
 use Rattle.std.proofs.Common.{◌≡◌, IfOk, rules, subst}
 use Rattle.spec_ir.specs.Views.{specification}
-use Rattle.domain_cell_laws.specs.Calls.{fields_of}
+use Rattle.domain_laws.specs.Calls.{fields_of}
 use Rattle.domain_affine_element_laws.specs.Closed.{closed_of}
 use Rattle.domain_affine_element_laws.specs.Elements.{SameMembers}
 use Rattle.domain_affine_laws.specs.Calls.{cell_count}

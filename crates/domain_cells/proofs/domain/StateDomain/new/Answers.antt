@@ -1,6 +1,6 @@
 use Rattle.std.proofs.Common.{ap₂}
 use Rattle.spec_ir.specs.Views.{specification}
-use Rattle.domain_cell_laws.proofs.Fields.{made_for}
+use Rattle.domain_laws.proofs.Fields.{made_for}
 use Rattle.domain_cells.proofs.domain.StateDomain.new.Goals as goal
 
 pub returns-clause-made : goal.returns-clause-made

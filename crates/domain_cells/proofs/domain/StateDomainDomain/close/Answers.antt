@@ -3,9 +3,9 @@ use Rattle.spec_ir.specs.Views.{specification}
 use Rattle.abstract_value_laws.specs.Abs.{parts}
 use Rattle.abstract_map.proofs.Whole.{if_ok}
 use Rattle.domain_laws.specs.Values.{FieldsFit, IsStateValue}
-use Rattle.domain_cell_laws.specs.Calls.{fields_of}
-use Rattle.domain_cell_laws.proofs.Domain.{states_are}
-use Rattle.domain_cell_laws.proofs.Opened.{closed_fits}
+use Rattle.domain_laws.specs.Calls.{fields_of}
+use Rattle.domain_laws.proofs.Domain.{states_are}
+use Rattle.domain_laws.proofs.Opened.{closed_fits}
 use Rattle.abstract_value.specs.View.{abs}
 use Rattle.domain_cells.specs.Views.{states_of}
 use Rattle.domain_cells.proofs.domain.StateDomainDomain.close.Goals as goal

@@ -6,11 +6,11 @@ use Rattle.abstract_map.proofs.Whole.{if_ok}
 use Rattle.domain_laws.specs.Entries.{LinesFit}
 use Rattle.domain_laws.specs.States.{is_field}
 use Rattle.domain_laws.specs.Values.{FieldsFit}
-use Rattle.domain_cell_laws.specs.Entry.{entry_values}
-use Rattle.domain_cell_laws.proofs.Domain.{fields_are, it_joins, states_are}
-use Rattle.domain_cell_laws.proofs.Entries.{values_fit}
-use Rattle.domain_cell_laws.proofs.Fields.{fields_told}
-use Rattle.domain_cell_laws.proofs.Lines.{all_fit}
+use Rattle.domain_laws.specs.Entry.{entry_values}
+use Rattle.domain_laws.proofs.Domain.{fields_are, it_joins, states_are}
+use Rattle.domain_laws.proofs.Entries.{values_fit}
+use Rattle.domain_laws.proofs.Fields.{fields_told}
+use Rattle.domain_laws.proofs.Lines.{all_fit}
 use Rattle.abstract_value.specs.View.{abs}
 use Rattle.domain_cells.specs.Views.{states_of}
 use Rattle.domain_cells.proofs.domain.StateDomainDomain.entry.Goals as goal

@@ -4,7 +4,7 @@ use Rattle.abstract_value_laws.specs.Abs.{parts}
 use Rattle.abstract_value_laws.specs.Calls.{join_parts}
 use Rattle.abstract_map.proofs.Whole.{if_ok}
 use Rattle.domain_laws.specs.Values.{FieldsFit}
-use Rattle.domain_cell_laws.proofs.Cells.{joined_fit}
+use Rattle.domain_laws.proofs.Cells.{joined_fit}
 use Rattle.abstract_value.specs.View.{abs}
 use Rattle.domain_cells.proofs.domain.StateDomainDomain.join.Goals as goal
 

@@ -3,7 +3,7 @@ use Rattle.abstract_value_laws.specs.Abs.{parts}
 use Rattle.abstract_value_laws.specs.Calls.{widen_parts}
 use Rattle.abstract_map.proofs.Whole.{if_ok}
 use Rattle.domain_laws.specs.Values.{FieldsFit}
-use Rattle.domain_cell_laws.proofs.Cells.{widened_fit}
+use Rattle.domain_laws.proofs.Cells.{widened_fit}
 use Rattle.abstract_value.specs.View.{abs}
 use Rattle.domain_cells.proofs.domain.StateDomainDomain.widen.Goals as goal
 

@@ -1,4 +1,0 @@
-pub mod Activated
-pub mod Arguments
-pub mod Driving
-pub mod Right

@@ -1,5 +1,0 @@
-use Rattle.abstract_value_types.proofs.Keyed.{join_keys_fit}
-use Rattle.abstract_value_types.proofs.laws.join_keys_fit.Goals as goal
-
-pub returns : goal.returns
-returns g c = join_keys_fit g.B.Base.algebra

@@ -1,5 +1,0 @@
-use Rattle.abstract_value_types.proofs.Noted.{leaf_ranks}
-use Rattle.abstract_value_types.proofs.laws.leaf_ranks.Goals as goal
-
-pub returns : goal.returns
-returns g c = leaf_ranks g.B.Base.algebra

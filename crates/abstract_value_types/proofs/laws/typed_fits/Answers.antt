@@ -1,5 +1,0 @@
-use Rattle.abstract_value_types.proofs.Typed.{typed_fits}
-use Rattle.abstract_value_types.proofs.laws.typed_fits.Goals as goal
-
-pub returns : goal.returns
-returns c = typed_fits

@@ -1,5 +1,0 @@
-use Rattle.analysis_claim_laws.proofs.Relations.{relations_tell_truly}
-use Rattle.analysis_claim_laws.proofs.laws.relations_tell_truly.Goals as goal
-
-pub returns : goal.returns
-returns c = relations_tell_truly

@@ -1,5 +1,0 @@
-use Rattle.analysis_claim_laws.proofs.Relations.{sums_are_exact}
-use Rattle.analysis_claim_laws.proofs.laws.sums_are_exact.Goals as goal
-
-pub returns : goal.returns
-returns c = sums_are_exact

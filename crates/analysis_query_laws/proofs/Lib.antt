@@ -1,0 +1,13 @@
+pub mod Begins
+pub mod Cells
+pub mod Chains
+pub mod Forms
+pub mod Holding
+pub mod One
+pub mod Pairs
+pub mod Relations
+pub mod Restamped
+pub mod Runs
+pub mod Slices
+pub mod Steps
+pub mod There

@@ -1,0 +1,10 @@
+pub mod Affine
+pub mod SliceLaws
+pub mod Answers
+pub mod Cells
+pub mod Chains
+pub mod Claims
+pub mod Laws
+pub mod Pairs
+pub mod Restamped
+pub mod Slices

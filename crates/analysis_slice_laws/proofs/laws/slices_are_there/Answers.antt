@@ -1,5 +1,0 @@
-use Rattle.analysis_slice_laws.proofs.There.{slices_are_there}
-use Rattle.analysis_slice_laws.proofs.laws.slices_are_there.Goals as goal
-
-pub returns : goal.returns
-returns c = slices_are_there

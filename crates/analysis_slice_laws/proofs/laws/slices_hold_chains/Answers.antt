@@ -1,5 +1,0 @@
-use Rattle.analysis_slice_laws.proofs.Slices.{slices_hold_chains}
-use Rattle.analysis_slice_laws.proofs.laws.slices_hold_chains.Goals as goal
-
-pub returns : goal.returns
-returns g c = slices_hold_chains g.D.B.Base.algebra (g.D.PlainDomain.elements c.args.domain.now)

@@ -1,5 +1,0 @@
-use Rattle.analysis_table_invariants.proofs.Notes.{nothing_keeps}
-use Rattle.analysis_table_invariants.proofs.laws.nothing_keeps.Goals as goal
-
-pub returns : goal.returns
-returns c = nothing_keeps

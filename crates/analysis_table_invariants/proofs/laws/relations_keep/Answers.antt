@@ -1,5 +1,0 @@
-use Rattle.analysis_table_invariants.proofs.Affine.{relations_keep}
-use Rattle.analysis_table_invariants.proofs.laws.relations_keep.Goals as goal
-
-pub returns : goal.returns
-returns c = λ code t. relations_keep t code

@@ -1,5 +1,0 @@
-pub mod Domains
-pub mod Laws
-pub mod Notes
-pub mod Tables
-pub mod Values

@@ -1,0 +1,17 @@
+pub mod Affine
+pub mod Cells
+pub mod Evaluated
+pub mod Forms
+pub mod Maps
+pub mod Merged
+pub mod Notes
+pub mod Pairs
+pub mod Plays
+pub mod Reading
+pub mod Shown
+pub mod Steps
+pub mod Tables
+pub mod Transfers
+pub mod Truth
+pub mod Uses
+pub mod Verdicts

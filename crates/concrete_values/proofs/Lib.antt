@@ -1,5 +1,0 @@
-pub mod Exact
-pub mod Meant
-pub mod Same
-pub mod Single
-pub mod Views

@@ -1,5 +1,0 @@
-use Rattle.concrete_values.proofs.Meant.{calls_are_meant}
-use Rattle.concrete_values.proofs.laws.calls_are_meant.Goals as goal
-
-pub returns : goal.returns
-returns c = calls_are_meant

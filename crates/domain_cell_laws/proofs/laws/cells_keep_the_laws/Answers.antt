@@ -1,5 +1,0 @@
-use Rattle.domain_cell_laws.proofs.Domain.{cells_keep_the_laws}
-use Rattle.domain_cell_laws.proofs.laws.cells_keep_the_laws.Goals as goal
-
-pub returns : goal.returns
-returns g c = cells_keep_the_laws g.B.Base.algebra g.met.B.Base.laws

@@ -1,0 +1,10 @@
+pub mod Accepted
+pub mod Agreement
+pub mod Back
+pub mod Bases
+pub mod CodeWords
+pub mod Joins
+pub mod Memory
+pub mod OpenTexts
+pub mod Runs
+pub mod Told

@@ -1,9 +1,0 @@
-pub mod Accepted
-pub mod Agreement
-pub mod Bases
-pub mod CodeWords
-pub mod Joins
-pub mod Memory
-pub mod OpenTexts
-pub mod Runs
-pub mod Told

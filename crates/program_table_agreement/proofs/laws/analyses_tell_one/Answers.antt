@@ -1,5 +1,0 @@
-use Rattle.program_table_agreement.proofs.Agreement.{analyses_tell_one}
-use Rattle.program_table_agreement.proofs.laws.analyses_tell_one.Goals as goal
-
-pub returns : goal.returns
-returns c = analyses_tell_one

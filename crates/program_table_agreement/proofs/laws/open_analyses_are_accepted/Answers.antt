@@ -1,5 +1,0 @@
-use Rattle.program_table_agreement.proofs.Accepted.{open_analyses_are_accepted}
-use Rattle.program_table_agreement.proofs.laws.open_analyses_are_accepted.Goals as goal
-
-pub returns : goal.returns
-returns c = open_analyses_are_accepted

@@ -1,5 +1,0 @@
-use Rattle.program_table_agreement.proofs.Agreement.{tables_are_told}
-use Rattle.program_table_agreement.proofs.laws.tables_are_told.Goals as goal
-
-pub returns : goal.returns
-returns c = tables_are_told

@@ -1,5 +1,0 @@
-use Rattle.program_table_agreement.proofs.Agreement.{texts_are_read_back}
-use Rattle.program_table_agreement.proofs.laws.texts_are_read_back.Goals as goal
-
-pub returns : goal.returns
-returns c = texts_are_read_back

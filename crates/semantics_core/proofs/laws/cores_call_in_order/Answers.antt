@@ -1,5 +1,0 @@
-use Rattle.semantics_core.proofs.Order.{cores_call_in_order}
-use Rattle.semantics_core.proofs.laws.cores_call_in_order.Goals as goal
-
-pub returns : goal.returns
-returns c = cores_call_in_order

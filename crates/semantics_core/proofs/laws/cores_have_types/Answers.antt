@@ -1,5 +1,0 @@
-use Rattle.semantics_core.proofs.CoreTyped.{cores_have_types}
-use Rattle.semantics_core.proofs.laws.cores_have_types.Goals as goal
-
-pub returns : goal.returns
-returns c = cores_have_types

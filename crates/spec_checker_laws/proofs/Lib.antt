@@ -1,4 +1,0 @@
-pub mod Counts
-pub mod Decided
-pub mod One
-pub mod There

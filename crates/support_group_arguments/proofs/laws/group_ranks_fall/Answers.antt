@@ -1,6 +1,0 @@
-use Rattle.std.proofs.Common.{IsTrue}
-use Rattle.support_group_arguments.proofs.Ranks.{group_ranks_fall}
-use Rattle.support_group_arguments.proofs.laws.group_ranks_fall.Goals as goal
-
-pub returns : goal.returns
-returns g c = λ fits. group_ranks_fall (λ i x. IsTrue (fits i x))

@@ -1,5 +1,0 @@
-use Rattle.support_group_arguments.proofs.Groups.{one_is_held}
-use Rattle.support_group_arguments.proofs.laws.one_is_held.Goals as goal
-
-pub returns : goal.returns
-returns g c = one_is_held

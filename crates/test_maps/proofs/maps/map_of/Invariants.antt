@@ -1,5 +1,0 @@
-use Rattle.test_maps.specs.Bytes.{IsOfBytes}
-use Rattle.test_maps.proofs.maps.map_of.Given as goal
-
-abbrev pub invariant-loop-key : goal.invariant-loop-key
-invariant-loop-key g l = IsOfBytes g.B.Base.algebra l.ctx g.B.Base.CAP l.map

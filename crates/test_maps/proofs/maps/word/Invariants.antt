@@ -1,4 +1,0 @@
-use Rattle.test_maps.proofs.maps.word.Given as goal
-
-abbrev pub invariant-loop-n : goal.invariant-loop-n
-invariant-loop-n g l = g.B.Base.algebra.words.fits l.ctx 8 l.out

@@ -1,5 +1,0 @@
-//! Tests of the parser over tokens of real texts. They stand apart, since a crate with tests is proved a second time with them.
-#![tactic(auto)]
-
-#[cfg(test)]
-mod tests;

@@ -1,0 +1,5 @@
+use Rattle.test_values.specs.Bytes.{IsOfBytes}
+use Rattle.test_values.proofs.maps.numbered.Given as goal
+
+abbrev pub invariant-loop-key : goal.invariant-loop-key
+invariant-loop-key g l = IsOfBytes g.B.Base.algebra l.ctx g.B.Base.CAP l.map

@@ -1,5 +1,0 @@
-use Rattle.text_element_round_trip.proofs.Words.{pairs_words_tell}
-use Rattle.text_element_round_trip.proofs.laws.pairs_words_tell.Goals as goal
-
-pub returns : goal.returns
-returns g c = pairs_words_tell g.A.WrittenWords.write g.B.WrittenWords.write g.A.WrittenWords.reads g.B.WrittenWords.reads g.A.WrittenWords.Fits g.B.WrittenWords.Fits

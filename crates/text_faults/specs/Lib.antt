@@ -1,0 +1,2 @@
+pub mod ClaimFaultLines
+pub mod TableFaultLines

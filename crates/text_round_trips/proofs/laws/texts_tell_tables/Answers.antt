@@ -1,0 +1,5 @@
+use Rattle.text_round_trips.proofs.Tables.{texts_tell_tables}
+use Rattle.text_round_trips.proofs.laws.texts_tell_tables.Goals as goal
+
+pub returns : goal.returns
+returns g c = texts_tell_tables g.T.PlainTexts.Reads g.T.PlainTexts.word_in g.T.PlainTexts.IsText g.T.PlainTexts.word_text g.T.PlainTexts.elements g.T.PlainTexts.IsPrintable g.T.PlainTexts.WordFits

@@ -1,0 +1,10 @@
+pub mod Analyses
+pub mod Fields
+pub mod FirstTexts
+pub mod Laws
+pub mod Machines
+pub mod OpenAnalyses
+pub mod RoundTrips
+pub mod TableLaws
+pub mod Words
+pub mod Writable

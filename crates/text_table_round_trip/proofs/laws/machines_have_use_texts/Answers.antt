@@ -1,5 +1,0 @@
-use Rattle.text_table_round_trip.proofs.Machines.{machines_have_use_texts}
-use Rattle.text_table_round_trip.proofs.laws.machines_have_use_texts.Goals as goal
-
-pub returns : goal.returns
-returns c = machines_have_use_texts

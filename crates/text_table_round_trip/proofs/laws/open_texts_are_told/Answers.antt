@@ -1,5 +1,0 @@
-use Rattle.text_table_round_trip.proofs.Tables.{open_texts_are_told}
-use Rattle.text_table_round_trip.proofs.laws.open_texts_are_told.Goals as goal
-
-pub returns : goal.returns
-returns g c = open_texts_are_told g.T.PlainTexts.Reads g.T.PlainTexts.word_in g.T.PlainTexts.IsText g.T.PlainTexts.word_text g.T.PlainTexts.elements g.T.PlainTexts.IsPrintable g.T.PlainTexts.WordFits

@@ -1,5 +1,0 @@
-use Rattle.text_table_round_trip.proofs.Tables.{texts_are_read}
-use Rattle.text_table_round_trip.proofs.laws.texts_are_read.Goals as goal
-
-pub returns : goal.returns
-returns g c = texts_are_read g.T.PlainTexts.Reads g.T.PlainTexts.word_in g.T.PlainTexts.IsText g.T.PlainTexts.word_text g.T.PlainTexts.elements g.T.PlainTexts.IsPrintable g.T.PlainTexts.WordFits
