@@ -8,6 +8,7 @@ there were and how many of them have open blocks, and each answer that is anothe
 
     python3 examples/open_runs.py crates/tsl_cli/out/tsl_cli
 """
+import glob
 import os
 import subprocess
 import sys
@@ -28,8 +29,10 @@ def held(name):
 def programs():
     """Gives the programs: a name, the specification, the code, the entry, and the words of the order and the address."""
     little = ("--order", "little")
-    yield "programs/adler32_rv", "@rv", held("programs/adler32_rv.code"), held("programs/adler32_rv.entry"), "1000", little
-    yield "programs/crc32_ppc", "@ppc", held("programs/crc32_ppc.code"), held("programs/crc32_ppc.entry"), "1000", ()
+    for path in sorted(glob.glob(f"{HERE}/programs/*.code")):
+        name = "programs/" + os.path.basename(path)[: -len(".code")]
+        isa = name.rpartition("_")[2]
+        yield name, "@" + isa, held(name + ".code"), held(name + ".entry"), "1000", little if isa == "rv" else ()
     yield "c/adler32_rv", "@rv", held("c/adler32_rv.code"), held("c/any_text_rv.entry"), "1000", little
     yield "c/adler32_ppc", "@ppc", held("c/adler32_ppc.code"), ANY_TEXT.encode(), "1000", ()
 
