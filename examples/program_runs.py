@@ -1,5 +1,5 @@
 #!/usr/bin/env python3
-"""Runs and analyses the programs of examples/programs: program_runs.py PROGRAM [NAME..]
+"""Runs and analyses the programs of examples/programs: program_runs.py [--transfers] PROGRAM [NAME..]
 
 The run of each from its entry has to end in its state, byte for byte. Prints a row for each, as the table of docs/PERFORMANCE.md: the steps of the
 run, and what comes of its analysis over each base. The status is 1 where a run ends otherwise, or a table is not accepted by `check`.
@@ -12,9 +12,13 @@ run, and what comes of its analysis over each base. The status is 1 where a run 
 | `N w` | there is one with `--widen 64`, and none without it |
 | `k of N` | there is none: with `--open` it has N blocks, and k of them are left open |
 | `k of N, j of M w` | the second is that with `--widen 64` and `--open`, where it is another |
+
+With --transfers each table has behind it, in parentheses, how many transfers its analysis makes. gdb counts the calls of TRANSFER: one for each
+transfer, and then one for each block of the table.
 """
 import glob
 import os
+import re
 import subprocess
 import sys
 import tempfile
@@ -23,6 +27,8 @@ HERE = os.path.dirname(os.path.abspath(__file__))
 BASES = ("kset", "interval", "kset+affine", "interval+affine", "strides", "strides+affine")
 WIDE = ("--widen", "64")
 REFUSED = (9, 10)
+TRANSFER = "^analysis_transfer::analysis::ImageAnalysisAnalyser::transfer::"
+COUNTED = ("[setattr(it, 'ignore_count', 1 << 30) for it in gdb.breakpoints()]", "print('calls', sum(it.hit_count for it in gdb.breakpoints()))")
 
 
 class Example:
@@ -42,8 +48,9 @@ class Example:
 class Runs:
     """Runs of the program, with how many went wrong."""
 
-    def __init__(self, program, folder):
-        self.program, self.table, self.wrong = os.path.abspath(program), f"{folder}/table", 0
+    def __init__(self, program, folder, is_counting):
+        self.program, self.table, self.is_counting = os.path.abspath(program), f"{folder}/table", is_counting
+        self.wrong = 0
 
     def answer(self, command, example, *options, table=()):
         words = [self.program, command, *example.words, *table, *example.options, *options]
@@ -54,13 +61,20 @@ class Runs:
         self.wrong += 1
         print(f"{example.name}: {what}", flush=True)
 
-    def check(self, example, text, *options):
-        """Has the table checked, which is the answer of an analysis."""
+    def check(self, example, text, options):
+        """Has the table checked that is the answer of an analysis."""
         with open(self.table, "wb") as it:
             it.write(text)
-        given = [it for at, it in enumerate(options) if it != "--widen" and options[at - 1] != "--widen"]
+        given = [it for it in options if it not in WIDE]
         if self.answer("check", example, *given, table=[self.table]) != (0, b"accepted\n"):
             self.goes_wrong(example, f"its table with {' '.join(options)} is not accepted")
+
+    def transfers(self, example, blocks, options):
+        """How many transfers an analysis makes up to its table, in parentheses."""
+        words = " ".join(["run analyse", *example.words, *example.options, *options, "> /dev/null"])
+        orders = [f"rbreak {TRANSFER}", f"python {COUNTED[0]}", words, f"python {COUNTED[1]}"]
+        ended = subprocess.run(["gdb", "-nx", "-batch", *(it for order in orders for it in ("-ex", order)), self.program], capture_output=True, text=True, check=False)
+        return f" ({int(re.search('^calls (.*)', ended.stdout, re.MULTILINE)[1]) - blocks})"
 
     def steps(self, example):
         """The steps of the run, whose state has to be the one that is kept."""
@@ -69,35 +83,35 @@ class Runs:
             self.goes_wrong(example, f"its run ends with status {status}, and in another state")
         return text.split(b"\n")[0].split()[-1].decode()
 
-    def blocks(self, example, *options):
-        """How many blocks the table has, and how many of them are left open; none, where there is no table."""
+    def table_of(self, example, *options):
+        """What a cell says of the table of an analysis; nothing, where there is no table."""
         status, text = self.answer("analyse", example, *options)
         if status in REFUSED:
-            return None
+            return ""
         if status:
             self.goes_wrong(example, f"its analysis with {' '.join(options)} ends with status {status}")
-            return None
-        self.check(example, text, *options)
+            return ""
+        self.check(example, text, options)
         lines = text.split(b"\n")
-        return sum(line.startswith(b"at ") for line in lines), sum(line.startswith((b"open ", b"undecodable ")) for line in lines)
+        blocks, left_open = (sum(line.startswith(marks) for line in lines) for marks in ((b"at ",), (b"open ", b"undecodable ")))
+        told = f"{left_open} of {blocks}" if left_open else str(blocks)
+        return told + (" w" if "--widen" in options else "") + (self.transfers(example, blocks, options) if self.is_counting else "")
 
     def cell(self, example, base):
         options = ("--base", base)
-        closed = self.blocks(example, *options)
-        if closed:
-            return str(closed[0])
-        wide = self.blocks(example, *options, *WIDE)
-        if wide:
-            return f"{wide[0]} w"
-        ways = [self.blocks(example, *options, *more, "--open") or (0, 0) for more in ((), WIDE)]
-        texts = [f"{is_open} of {all_of_them}" for all_of_them, is_open in ways]
-        return texts[0] if texts[0] == texts[1] else f"{texts[0]}, {texts[1]} w"
+        told = self.table_of(example, *options) or self.table_of(example, *options, *WIDE)
+        if told:
+            return told
+        first, second = self.table_of(example, *options, "--open"), self.table_of(example, *options, *WIDE, "--open")
+        return first if first.split(" (")[0] + " w" == second.split(" (")[0] else f"{first}, {second}"
 
 
-def main(program, *names):
+def main(words):
+    is_counting = words[0] == "--transfers"
+    program, *names = words[1:] if is_counting else words
     paths = sorted(it[: -len(".code")] for it in glob.glob(f"{HERE}/programs/*.code"))
     with tempfile.TemporaryDirectory() as folder:
-        runs = Runs(program, folder)
+        runs = Runs(program, folder, is_counting)
         for example in map(Example, paths):
             if not names or example.name in names:
                 steps = runs.steps(example)
@@ -108,4 +122,4 @@ def main(program, *names):
 if __name__ == "__main__":
     if len(sys.argv) < 2:
         raise SystemExit(__doc__)
-    sys.exit(main(*sys.argv[1:]))
+    sys.exit(main(sys.argv[1:]))
