@@ -16,7 +16,7 @@ import tempfile
 
 HERE = os.path.dirname(os.path.abspath(__file__))
 BASES = ("const", "kset", "interval", "affine", "defuse", "const+interval", "kset+interval", "kset+affine", "kset+defuse", "interval+affine",
-         "interval+defuse", "affine+defuse", "bits", "kset+bits", "interval+bits", "bits+defuse")
+         "interval+defuse", "affine+defuse", "bits", "kset+bits", "interval+bits", "bits+defuse", "strides", "strides+affine", "strides+defuse")
 # (the call of `keep` in examples/c, with any text)
 ANY_TEXT = "pc 1068\nspr[LR] fffffffc\ngpr[1] 8000\ngpr[3] any\ngpr[4] any\nmem[*] any\n"
 
