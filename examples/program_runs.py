@@ -13,8 +13,7 @@ run, and what comes of its analysis over each base. The status is 1 where a run 
 | `k of N` | there is none: with `--open` it has N blocks, and k of them are left open |
 | `k of N, j of M w` | the second is that with `--widen 64` and `--open`, where it is another |
 
-With --transfers each table has behind it, in parentheses, how many transfers its analysis makes. gdb counts the calls of TRANSFER: one for each
-transfer, and then one for each block of the table.
+With --transfers each table has behind it, in parentheses, how many transfers its analysis makes. gdb counts the calls of TRANSFER.
 """
 import glob
 import os
@@ -69,12 +68,12 @@ class Runs:
         if self.answer("check", example, *given, table=[self.table]) != (0, b"accepted\n"):
             self.goes_wrong(example, f"its table with {' '.join(options)} is not accepted")
 
-    def transfers(self, example, blocks, options):
+    def transfers(self, example, options):
         """How many transfers an analysis makes up to its table, in parentheses."""
         words = " ".join(["run analyse", *example.words, *example.options, *options, "> /dev/null"])
         orders = [f"rbreak {TRANSFER}", f"python {COUNTED[0]}", words, f"python {COUNTED[1]}"]
         ended = subprocess.run(["gdb", "-nx", "-batch", *(it for order in orders for it in ("-ex", order)), self.program], capture_output=True, text=True, check=False)
-        return f" ({int(re.search('^calls (.*)', ended.stdout, re.MULTILINE)[1]) - blocks})"
+        return f" ({re.search('^calls (.*)', ended.stdout, re.MULTILINE)[1]})"
 
     def steps(self, example):
         """The steps of the run, whose state has to be the one that is kept."""
@@ -95,7 +94,7 @@ class Runs:
         lines = text.split(b"\n")
         blocks, left_open = (sum(line.startswith(marks) for line in lines) for marks in ((b"at ",), (b"open ", b"undecodable ")))
         told = f"{left_open} of {blocks}" if left_open else str(blocks)
-        return told + (" w" if "--widen" in options else "") + (self.transfers(example, blocks, options) if self.is_counting else "")
+        return told + (" w" if "--widen" in options else "") + (self.transfers(example, options) if self.is_counting else "")
 
     def cell(self, example, base):
         options = ("--base", base)

@@ -44,10 +44,6 @@ not_told : (b : Bool) → IsTrue (not b) → b ≡ false
 not_told true h = cc
 not_told false h = refl
 
-told_not : (b : Bool) → b ≡ false → IsTrue (not b)
-told_not true h = cc
-told_not false h = refl
-
 -- what holds of each cell of the new map holds of those that it alone lists
 pub news_each : {W N : Type 0} (P : AbstractCell W N → Type 0) (old new : Map W N) → EachCell P new → Each P (news old new)
 news_each P old new h = each_filter P (cell new) (λ k. not (has_key (keys old) k)) (keys new) (λ k t. each_cell P new.rest new.cells k h.0 h.1)

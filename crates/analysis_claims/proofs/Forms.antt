@@ -6,9 +6,6 @@ use Rattle.domain_affine_laws.specs.Opened.{is_cell}
 use Rattle.analysis_query_laws.specs.Answers.{column_of, form_of, with_multiple}
 use Rattle.analysis_query_laws.specs.Claims.{Multiple}
 
-pub constant_is : (k c : ℕ) → slice_set (replicate (k + 1) 0) 0 c ≡ c ∷ replicate k 0
-constant_is k c = let next : k + 1 ≡ suc k = omega arith in ap (λ n. slice_set (replicate n 0) 0 c) next
-
 pub place_is : (m j : ℕ) (form : List ℕ) → slice_set form (j + 1) ((slice_index form (j + 1) + m) % 2 ^ 32) ≡ with_multiple m (Some j) form
 place_is m j form = let next : j + 1 ≡ suc j = omega arith in ap (λ n. slice_set form n ((slice_index form n + m) % 2 ^ 32)) next
 

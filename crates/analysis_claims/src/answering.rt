@@ -68,7 +68,8 @@ fn sum_told<D: ClaimElement>(
     parts: &[(u32, u32, KeyAt)],
 ) -> Result<bool, NoMemory>
     requires { (D.elements domain.now).fits (D.view x.now) }
-    ensures { IfOk result (λ r. r ≡ ((D.telling domain.now).takes_sums && (D.telling domain.now).meets x.now (told_of.form_of (D.telling domain.now).tracked c parts.now))) }
+    ensures { IfOk result (λ r. r ≡ ((D.telling domain.now).takes_sums && (D.telling domain.now).meets x.now
+        (told_of.form_of (D.telling domain.now).tracked c parts.now))) }
 {
     if !domain.takes_sums() {
         return Ok(false);

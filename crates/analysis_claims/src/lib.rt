@@ -5,9 +5,9 @@
 //! cells, elements of affine relations of sums of tracked cells, and pairs of what either part does (`ClaimElement`). What they tell is what
 //! `analysis_query_laws` defines.
 //!
-//! Over intervals, the element `x: 3..7` tells that x is in 0..7 and is not 8, and not that it is in 4..7. Over affine relations, the element of the rows
-//! (1, 2, 5) and (0, 1, 1) over the cells a and b tells that b - a - 3 is 0: 5 - 2 - 3 is 0 over the first row, where the constant counts
-//! once, and 1 - 1 over the second, where it does not.
+//! Over intervals, the element `x: 3..7` tells that x is in 0..7 and is not 8, and not that it is in 4..7. Over affine relations, the
+//! element of the rows (1, 2, 5) and (0, 1, 1) over the cells a and b tells that b - a - 3 is 0: 5 - 2 - 3 is 0 over the first row, where
+//! the constant counts once, and 1 - 1 over the second, where it does not.
 //!
 //! *What is proved.* Each call of `ClaimElement` gives what is told by definition. What is told is true of each state of which the element holds
 //! (`truly`, a law of the trait). So where a table is true of every run, a yes is true of every state at the claim's address, in every run from a

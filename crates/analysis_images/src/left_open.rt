@@ -36,10 +36,13 @@ pub fn analyse_open<'a, D: Domain, L: Ledger>(
 ) -> Result<OpenReport<D::Element, <D::B as Base>::Word>, NoMemory>
     requires ready { ⟦<ImageAnalysis<'a, D> as Analyser>⟧.IsReady analysis.now }
     ensures value { IfOk result (λ r. IsReportOf (left_open (⟦<ImageAnalysis<'a, D> as Analyser>⟧.analysis analysis.now)) D.view r.report) }
-    ensures closed { IfOk result (λ r. IsClosedButOpen (⟦<ImageAnalysis<'a, D> as Analyser>⟧.analysis analysis.now) (listings D.view r.report.table) (get nat_cmp r.endings)) }
-    ensures runs { IfOk result (λ r. IsTrueUntilOpen D.B.algebra (D.elements analysis.now.domain.now) (problem analysis.now) (listings D.view r.report.table) (get nat_cmp r.endings)) }
+    ensures closed { IfOk result (λ r. IsClosedButOpen (⟦<ImageAnalysis<'a, D> as Analyser>⟧.analysis analysis.now) (listings D.view r.report.table)
+        (get nat_cmp r.endings)) }
+    ensures runs { IfOk result (λ r. IsTrueUntilOpen D.B.algebra (D.elements analysis.now.domain.now) (problem analysis.now)
+        (listings D.view r.report.table) (get nat_cmp r.endings)) }
     ensures fits { IfOk result (λ r. TableFits (⟦<ImageAnalysis<'a, D> as Analyser>⟧.analysis analysis.now) (listings D.view r.report.table)) }
-    ensures most { steps.new ≤ steps.old + (length (problem analysis.now).addresses * (height_of (⟦<ImageAnalysis<'a, D> as Analyser>⟧.analysis analysis.now) + (problem analysis.now).joins + 1) + (length (problem analysis.now).addresses + length (problem analysis.now).addresses)) }
+    ensures most { steps.new ≤ steps.old + (length (problem analysis.now).addresses *
+        (height_of (⟦<ImageAnalysis<'a, D> as Analyser>⟧.analysis analysis.now) + (problem analysis.now).joins + 1) + length (problem analysis.now).addresses) }
 {
     fixpoint_open_tables::analyse(alloc, analysis, steps)
 }
@@ -59,8 +62,10 @@ pub fn check_open<'a, D: Domain, L: Ledger>(
     requires ready { ⟦<ImageAnalysis<'a, D> as Analyser>⟧.IsReady analysis.now }
     requires table { TableFits (⟦<ImageAnalysis<'a, D> as Analyser>⟧.analysis analysis.now) (listings D.view table.now) }
     ensures value { IfOk result (IsVerdict (⟦<ImageAnalysis<'a, D> as Analyser>⟧.analysis analysis.now) (listings D.view table.now) (get nat_cmp endings.now)) }
-    ensures accepted { IfOk result (λ v. (v ≡ Verdict.Accepted) ↔ IsClosedButOpen (⟦<ImageAnalysis<'a, D> as Analyser>⟧.analysis analysis.now) (listings D.view table.now) (get nat_cmp endings.now)) }
-    ensures runs { IfOk result (λ v. v ≡ Verdict.Accepted → IsTrueUntilOpen D.B.algebra (D.elements analysis.now.domain.now) (problem analysis.now) (listings D.view table.now) (get nat_cmp endings.now)) }
+    ensures accepted { IfOk result (λ v. (v ≡ Verdict.Accepted) ↔ IsClosedButOpen (⟦<ImageAnalysis<'a, D> as Analyser>⟧.analysis analysis.now)
+        (listings D.view table.now) (get nat_cmp endings.now)) }
+    ensures runs { IfOk result (λ v. v ≡ Verdict.Accepted → IsTrueUntilOpen D.B.algebra (D.elements analysis.now.domain.now) (problem analysis.now)
+        (listings D.view table.now) (get nat_cmp endings.now)) }
     ensures most { steps.new ≤ steps.old + (btree_map_len table.now.blocks + btree_map_len table.now.blocks) }
 {
     fixpoint_open_tables::check(alloc, analysis, table, endings, steps)

@@ -1,8 +1,9 @@
 //! Analyses of a code image in a domain, checks of their tables, and what both promise, in the words of the meaning.
 //!
-//! `analyse` and `check` are those of `fixpoint_worklist` and `fixpoint_table_check`, of an `ImageAnalysis` (`analysis_transfer`) in any `Domain`. Besides what
-//! is proved there, a table that `analyse` answers, and one that `check` accepts, is *true of the runs* of the machine (`IsTrueOfRuns`,
-//! `analysis_transfer_laws` specs/Runs). From every state that the entry describes, after any number of steps, under every bound on turns:
+//! `analyse` and `check` are those of `fixpoint_worklist` and `fixpoint_table_check`, of an `ImageAnalysis` (`analysis_transfer`) in any
+//! `Domain`. Besides what is proved there, a table that `analyse` answers, and one that `check` accepts, is *true of the runs* of the
+//! machine (`IsTrueOfRuns`, `analysis_transfer_laws` specs/Runs). From every state that the entry describes, after any number of steps,
+//! under every bound on turns:
 //!
 //! - the element at each code address describes every state that the meaning puts there;
 //! - no code word is met that has no decoding;
@@ -25,10 +26,10 @@
 //!
 //! # Left open
 //!
-//! `analyse_open` and `check_open` are `analyse` and `check` of `fixpoint_open_tables`: where a code word has no decoding, or an instruction may lead to
-//! more addresses than the limit, the block stands without next addresses and exits, and the rest is analysed. A table that is answered, and one
-//! that is accepted with the endings of its blocks, is true of the runs up to and with the first state at such an address (`IsTrueUntilOpen`,
-//! `analysis_transfer_laws` specs/OpenRuns); with no open address that is the truth above.
+//! `analyse_open` and `check_open` are `analyse` and `check` of `fixpoint_open_tables`: where a code word has no decoding, or an
+//! instruction may lead to more addresses than the limit, the block stands without next addresses and exits, and the rest is analysed. A
+//! table that is answered, and one that is accepted with the endings of its blocks, is true of the runs up to and with the first state at
+//! such an address (`IsTrueUntilOpen`, `analysis_transfer_laws` specs/OpenRuns); with no open address that is the truth above.
 #![tactic(auto)]
 
 mod left_open;

@@ -32,12 +32,14 @@ pub fn analyse<'a, D: Domain, L: Ledger>(
     requires ready { ⟦<ImageAnalysis<'a, D> as Analyser>⟧.IsReady analysis.now }
     ensures value { IsAnswer (⟦<ImageAnalysis<'a, D> as Analyser>⟧.analysis analysis.now) D.view result }
     ensures closed { IfOk result (λ r. IsClosed (⟦<ImageAnalysis<'a, D> as Analyser>⟧.analysis analysis.now) (listings D.view r.table)) }
-    ensures sound { IfOk result (λ r. IsSoundTable (⟦<ImageAnalysis<'a, D> as Analyser>⟧.analysis analysis.now) (⟦<ImageAnalysis<'a, D> as Analyser>⟧.machine analysis.now) (listings D.view r.table)) }
+    ensures sound { IfOk result (λ r. IsSoundTable (⟦<ImageAnalysis<'a, D> as Analyser>⟧.analysis analysis.now)
+        (⟦<ImageAnalysis<'a, D> as Analyser>⟧.machine analysis.now) (listings D.view r.table)) }
     ensures runs { IfOk result (λ r. IsTrueOfRuns D.B.algebra (D.elements analysis.now.domain.now) (problem analysis.now) (listings D.view r.table)) }
     ensures fits { IfOk result (λ r. TableFits (⟦<ImageAnalysis<'a, D> as Analyser>⟧.analysis analysis.now) (listings D.view r.table)) }
     ensures image { IfOk result (λ r. FitsImage (⟦<ImageAnalysis<'a, D> as Analyser>⟧.analysis analysis.now) (listings D.view r.table)) }
-    ensures one { IfOk result (λ r. steps.new ≡ steps.old + (vec_len r.trace + btree_map_len r.table.blocks)) }
-    ensures most { steps.new ≤ steps.old + (length (problem analysis.now).addresses * (height_of (⟦<ImageAnalysis<'a, D> as Analyser>⟧.analysis analysis.now) + (problem analysis.now).joins + 1) + length (problem analysis.now).addresses) }
+    ensures one { IfOk result (λ r. steps.new ≡ steps.old + vec_len r.trace) }
+    ensures most { steps.new ≤ steps.old + length (problem analysis.now).addresses *
+        (height_of (⟦<ImageAnalysis<'a, D> as Analyser>⟧.analysis analysis.now) + (problem analysis.now).joins + 1) }
 {
     fixpoint_worklist::analyse(alloc, analysis, steps)
 }
@@ -55,9 +57,12 @@ pub fn check<'a, D: Domain, L: Ledger>(
     requires ready { ⟦<ImageAnalysis<'a, D> as Analyser>⟧.IsReady analysis.now }
     requires table { TableFits (⟦<ImageAnalysis<'a, D> as Analyser>⟧.analysis analysis.now) (listings D.view table.now) }
     ensures value { IfOk result (λ v. v ≡ verdict_of (⟦<ImageAnalysis<'a, D> as Analyser>⟧.analysis analysis.now) (listings D.view table.now)) }
-    ensures accepted { IfOk result (λ v. (v ≡ Verdict.Accepted) ↔ IsClosed (⟦<ImageAnalysis<'a, D> as Analyser>⟧.analysis analysis.now) (listings D.view table.now)) }
-    ensures sound { IfOk result (λ v. v ≡ Verdict.Accepted → IsSoundTable (⟦<ImageAnalysis<'a, D> as Analyser>⟧.analysis analysis.now) (⟦<ImageAnalysis<'a, D> as Analyser>⟧.machine analysis.now) (listings D.view table.now)) }
-    ensures runs { IfOk result (λ v. v ≡ Verdict.Accepted → IsTrueOfRuns D.B.algebra (D.elements analysis.now.domain.now) (problem analysis.now) (listings D.view table.now)) }
+    ensures accepted { IfOk result (λ v. (v ≡ Verdict.Accepted) ↔ IsClosed (⟦<ImageAnalysis<'a, D> as Analyser>⟧.analysis analysis.now)
+        (listings D.view table.now)) }
+    ensures sound { IfOk result (λ v. v ≡ Verdict.Accepted → IsSoundTable (⟦<ImageAnalysis<'a, D> as Analyser>⟧.analysis analysis.now)
+        (⟦<ImageAnalysis<'a, D> as Analyser>⟧.machine analysis.now) (listings D.view table.now)) }
+    ensures runs { IfOk result (λ v. v ≡ Verdict.Accepted → IsTrueOfRuns D.B.algebra (D.elements analysis.now.domain.now) (problem analysis.now)
+        (listings D.view table.now)) }
     ensures one { IfOk result (λ v. v ≡ Verdict.Accepted → steps.new ≡ steps.old + btree_map_len table.now.blocks) }
     ensures most { steps.new ≤ steps.old + btree_map_len table.now.blocks }
 {

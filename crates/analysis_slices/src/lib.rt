@@ -1,9 +1,9 @@
 //! Slices of tables: from which addresses the cells come that an instruction reads.
 //!
-//! `slice` answers exactly the slice that `analysis_query_laws` defines (`IsSlice`, specs/Slices). It is a search. Addresses that were found are *pending*
-//! until the uses at them were *followed*. At first the stamps of the uses that are asked for are pending. Then the least pending address is
-//! taken, and the stamps of all uses at it that were not followed yet are added, until nothing is pending. Each use of the table is looked
-//! at at most twice.
+//! `slice` answers exactly the slice that `analysis_query_laws` defines (`IsSlice`, specs/Slices). It is a search. Addresses that were
+//! found are *pending* until the uses at them were *followed*. At first the stamps of the uses that are asked for are pending. Then the
+//! least pending address is taken, and the stamps of all uses at it that were not followed yet are added, until nothing is pending. Each
+//! use of the table is looked at at most twice.
 //!
 //! In the table whose block of 4096 uses `R[0]` from the entry, that of 4100 `R[1]` from 4096, and that of 4104 `R[2]` from 4100, the slice
 //! at 4104 for `R[2]` goes: pending 4100; followed 4100, pending 4096; followed 4096 and 4100, and the entry. So it is 4096, 4100, and the entry.

@@ -2,6 +2,7 @@
 use Rattle.std.proofs.Common.{◌≡◌, ℕ, ◌<◌, ◌^◌, List, [], Some, None, IsTrue, inl}
 use Rattle.base_trait.specs.Algebra.{Algebra}
 use Rattle.base_trait.specs.Laws.{Laws}
+use Rattle.base_trait.specs.Precision.{joined_turns, unrolled_turns}
 use Rattle.base_trait.specs.Lists.{Each, IsAmong}
 use Rattle.abstract_map_laws.specs.Calls.{join_of as join_map, update_of, widen_of as widen_map}
 use Rattle.abstract_map_laws.specs.Keys.{Keys}
@@ -86,8 +87,8 @@ module _ {E W N C : Type 0} (B : Algebra W N C) (laws : Laws W N C B) (cap : ℕ
           let args = are_arguments B laws cap D M p calls h a lt x fit code_word instruction e in
           record {
             notes = has_notes is.interp.result_type (calls a p.machine.interp xs)
-                (call_kept B laws M.context cap p.spec a IsIn keeps (λ y z k l. widened_maps B M.context (IsFieldMap p.spec F) widens y z k l) (inl h.joins) h.posed.accepted ⊥ (Widen 64 2) (calls a)
-                (none_fails B M.context cap 64 2) (h.right a) p.machine.interp is.interp xs is.interp_there args arguments_in);
+                (call_kept B laws M.context cap p.spec a IsIn keeps (λ y z k l. widened_maps B M.context (IsFieldMap p.spec F) widens y z k l) (inl h.joins) h.posed.accepted ⊥ (Widen unrolled_turns joined_turns) (calls a)
+                (none_fails B M.context cap unrolled_turns joined_turns) (h.right a) p.machine.interp is.interp xs is.interp_there args arguments_in);
             logged = call_logged B laws M.context cap p.spec a IsIn keeps (λ y z k l. widened_maps B M.context (IsFieldMap p.spec F) widens y z k l) (inl h.joins) h.posed.accepted
-                (Widen 64 2) (calls a) (h.right a) (IsUseOf p.spec) (reads_used B laws M.context p.spec (has_word p) F notes) p.machine.interp is.interp xs is.interp_there args arguments_in;
+                (Widen unrolled_turns joined_turns) (calls a) (h.right a) (IsUseOf p.spec) (reads_used B laws M.context p.spec (has_word p) F notes) p.machine.interp is.interp xs is.interp_there args arguments_in;
           }

@@ -59,5 +59,6 @@ pub fn relations_keep()
 
 /// Pairs keep what both parts keep.
 pub fn pairs_keep<A: PrintableDomain, B: PrintableDomain>(first: &A, second: &B)
-    ensures { PairsKeep A.B.algebra B.B.algebra (A.elements first.now) (B.elements second.now) (A.meaning first.now) (B.meaning second.now) A.NoteFits B.NoteFits A.ElementFits B.ElementFits }
+    ensures { PairsKeep A.B.algebra B.B.algebra (A.elements first.now) (B.elements second.now) (A.meaning first.now) (B.meaning second.now)
+        A.NoteFits B.NoteFits A.ElementFits B.ElementFits }
 {}

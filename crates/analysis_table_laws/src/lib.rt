@@ -35,7 +35,7 @@
 //! | `cells_keep`, `relations_keep`, `pairs_keep` | so do elements |
 //!
 //! Evaluations keep that maps are those of fields, and that their notes have F (proofs/Evaluated), and logs have uses of cells of states
-//! alone (proofs/Reading). The elements that a worklist state reaches have K, since worklist states are those of elements that have it (proofs/Worklist states).
+//! alone (proofs/Reading). The elements that a worklist state reaches have K, since worklist states are those of elements that have it (proofs/Plays).
 #![tactic(auto)]
 
 mod domain;

@@ -3,6 +3,7 @@ use Rattle.std.proofs.Common.{◌≡◌, ℕ, ◌<◌, ◌^◌, List, [], Option
 use Rattle.support_tail_fixpoint.specs.Answer.{IfGives, Succeeds, fails, gives}
 use Rattle.base_trait.specs.Algebra.{Algebra}
 use Rattle.base_trait.specs.Laws.{Laws}
+use Rattle.base_trait.specs.Precision.{joined_turns, unrolled_turns}
 use Rattle.base_trait.specs.Uses.{Seen}
 use Rattle.semantics_values.specs.States.{State}
 use Rattle.semantics_values.specs.Values.{Val}
@@ -58,5 +59,5 @@ module _ {E W N C : Type 0} (B : Algebra W N C) (laws : Laws W N C B) (cap : ℕ
       → calls a p.machine.interp (arguments B cap M p a x instruction) ≡ fails f → ⊥
   not_deep a x code_word instruction f lt fit e deep =
       subst Succeeds deep
-      (widened_calls_succeed B laws p.spec M.context cap a 64 2 (calls a) p.machine.interp (arguments B cap M p a x instruction) h.posed.accepted (inl h.joins) (h.right a)
+      (widened_calls_succeed B laws p.spec M.context cap a unrolled_turns joined_turns (calls a) p.machine.interp (arguments B cap M p a x instruction) h.posed.accepted (inl h.joins) (h.right a)
       (are_arguments B laws cap D M p calls h a lt x fit code_word instruction e))

@@ -1,18 +1,16 @@
 -- Outcomes of the code, from those of its parts.
 use Rattle.std.proofs.Common.{◌≡◌, ℕ, List, [], Option, Some, None, Result, Ok, Err, IfOk, refl, sym, ap, subst, ◌∙◌}
-use Rattle.support_tail_fixpoint.specs.Answer.{fails, gives}
 use Rattle.base_trait.specs.Algebra.{Algebra}
 use Rattle.base_trait.specs.Uses.{Seen}
 use Rattle.semantics_values.specs.States.{State}
 use Rattle.abstract_value_laws.specs.Abs.{Abs}
-use Rattle.abstract_semantics.specs.Answers.{Answer}
 use Rattle.fixpoint_theory.specs.Elements.{Elements}
 use Rattle.fixpoint_theory.specs.Outcome.{IfPost, IsDecoded, Outcome, SameOutcome, moves, too_many, undecodable}
 use Rattle.fixpoint_theory.specs.Views.{outcome}
 use Rattle.fixpoint_theory.specs.declared.transfer.Transferred.{Transferred}
 use Rattle.domain_laws.specs.Domain.{Meaning}
 use Rattle.analysis_transfer_laws.specs.Problem.{Problem}
-use Rattle.analysis_transfer_laws.specs.Transfer.{counter_of, moved, moved_to, outcome_of, uses_in}
+use Rattle.analysis_transfer_laws.specs.Transfer.{counter_of, moved, moved_to, uses_in}
 use Rattle.analysis_transfer.specs.Outcomes.{IsOutcome}
 
 module _ {X E W N C : Type 0} (B : Algebra W N C) (D : Elements E State) (M : Meaning E W N C) (p : Problem) (view : X → E) (r : Transferred X W) where
@@ -45,21 +43,7 @@ module _ {E W N C : Type 0} (B : Algebra W N C) (M : Meaning E W N C) (p : Probl
   pub uncounted : counter_of state ≡ None → moves [] None (uses_in p log) ≡ moved B M p before state log (counter_of state)
   uncounted e = ap (moved B M p before state log) (sym e)
 
--- what an instruction makes of an element has a decoding
-pub has_decoding : {E W N C : Type 0} (B : Algebra W N C) (M : Meaning E W N C) (p : Problem) (before : E) (answer : Answer (Abs W N)) → IsDecoded (outcome_of B M p before answer)
-has_decoding B M p before (fails i) = tt
-has_decoding B M p before (gives None log) = tt
-has_decoding {E} {W} B M p before (gives (Some state) log) = at (counter_of state)
-  where
-    at_members : (counter : W) (o : Option (List ℕ)) → IsDecoded (moved_to B M p before state log counter o)
-    at_members counter None = tt
-    at_members counter (Some targets) = tt
-
-    at : (o : Option (ℕ × W)) → IsDecoded (moved B M p before state log o)
-    at None = tt
-    at (Some counter) = at_members counter.1 (B.words.members M.context counter.0 counter.1 p.limit)
-
--- so does an outcome that is the same
+-- an outcome that is the same as one with a decoding has one
 decoded_too : {E S W : Type 0} (D : Elements E S) (given told : Outcome E W) → SameOutcome D given told → IsDecoded told → IsDecoded given
 decoded_too D (undecodable v) (undecodable w) same has = has
 decoded_too D (undecodable v) (too_many w us) same has = same

@@ -2,6 +2,7 @@
 use Rattle.std.specs.Prelude.{◌≡◌, ℕ, Bool, List, IsTrue}
 use Rattle.support_tail_fixpoint.specs.declared.policy.Policy.TheVariants.{Widen}
 use Rattle.base_trait.specs.Algebra.{Algebra}
+use Rattle.base_trait.specs.Precision.{joined_turns, unrolled_turns}
 use Rattle.spec_ir.specs.Specification.{Spec}
 use Rattle.spec_ir.specs.Views.{specification}
 use Rattle.eval_code.specs.Code.{IsCodeOf}
@@ -32,6 +33,6 @@ module _ {D B E W N C : Type 0} (it : ImageAnalysis D B E W N C) where
     pub decoder_is : IsDecoderOf problem.spec.rows it.decoder.now
     pub fields_are : it.fields.now ≡ (state_type problem.spec).fields
 
--- what a call of a function by the instruction at an address gives: of the turns of an activation 64 go as they come, and 2 are joined before all widen
+-- what a call of a function by the instruction at an address gives
 abbrev pub calls_of : {E W N C : Type 0} → Algebra W N C → ℕ → Meaning E W N C → Problem → ℕ → ℕ → List (Abs W N) → Answer (Abs W N)
-calls_of B cap M p at = answers B M.context cap p.spec at (Widen 64 2)
+calls_of B cap M p at = answers B M.context cap p.spec at (Widen unrolled_turns joined_turns)

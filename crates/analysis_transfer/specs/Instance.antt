@@ -4,6 +4,7 @@ use Rattle.std.proofs.Common.{inl}
 use Rattle.support_tail_fixpoint.specs.declared.policy.Policy.TheVariants.{Widen}
 use Rattle.base_trait.specs.Algebra.{Algebra}
 use Rattle.base_trait.specs.Laws.{Laws}
+use Rattle.base_trait.specs.Precision.{joined_turns, unrolled_turns}
 use Rattle.spec_ir.specs.Specification.{Spec}
 use Rattle.semantics_values.specs.States.{State}
 use Rattle.abstract_value_laws.specs.Abs.{Abs}
@@ -30,7 +31,7 @@ module _ {X Y Z U V T E W N C : Type 0} (B : Algebra W N C) (laws : Laws W N C B
     joins = ready.joins;
     posed = ready.posed;
     domain = domain;
-    right = λ at. answers_are_right B laws (problem it).spec M.context cap at (Widen 64 2) ready.posed.accepted (inl ready.joins) tt ready.joins;
+    right = λ at. answers_are_right B laws (problem it).spec M.context cap at (Widen unrolled_turns joined_turns) ready.posed.accepted (inl ready.joins) tt ready.joins;
   }
 
   pub keeps_the_laws : AnalysisLaws (analysis_of B cap D M (problem it) calls)

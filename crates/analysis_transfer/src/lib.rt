@@ -21,9 +21,9 @@
 //!
 //! # What is proved
 //!
-//! Each part gives what `analysis_transfer_laws` defines (specs/Transfer there), over any domain. An analysis is ready (`IsReady`, specs/Analysis) where the
-//! problem is well posed, the domain is for the specification, its base joins, and code, decoder and fields are the specification's. Then it
-//! keeps the laws of an analysis, and is sound for the machine of the meaning.
+//! Each part gives what `analysis_transfer_laws` defines (specs/Transfer there), over any domain. An analysis is ready (`IsReady`,
+//! specs/Analysis) where the problem is well posed, the domain is for the specification, its base joins, and code, decoder and fields are
+//! the specification's. Then it keeps the laws of an analysis, and is sound for the machine of the meaning.
 #![tactic(auto)]
 
 mod analysis;

@@ -22,7 +22,7 @@ use crate::counter::counter_of;
 use crate::targets::targets;
 use abstract_value::AbstractValue;
 use analysis_uses::merged_uses;
-use base_trait::{Base, Log, Use};
+use base_trait::{Base, JOINED_TURNS, Log, UNROLLED_TURNS, Use};
 use domain_trait::Domain;
 use eval_memo::{EvalError, Setting};
 use evaluator::eval_anew;
@@ -57,8 +57,10 @@ impl<'a, D: Domain> ImageAnalysis<'a, D> {
         requires code { IsTrue (is_code (problem self.now).addresses at) }
         requires fits { (D.elements self.now.domain.now).fits (D.view x.now) }
         requires decoded { decoded self.now.machine.instr (problem self.now).spec.rows word ≡ Some (val instruction.now) }
-        ensures { IfOk result (λ r. IsOutcome (D.elements self.now.domain.now) D.view r (plain.outcome_of D.B.algebra (D.meaning self.now.domain.now) (problem self.now) (D.view x.now)
-            (calls_of D.B.algebra D.B.CAP (D.meaning self.now.domain.now) (problem self.now) at self.now.machine.interp (plain.arguments D.B.algebra D.B.CAP (D.meaning self.now.domain.now) (problem self.now) at (D.view x.now) (val instruction.now))))) }
+        ensures { IfOk result (λ r. IsOutcome (D.elements self.now.domain.now) D.view r
+            (plain.outcome_of D.B.algebra (D.meaning self.now.domain.now) (problem self.now) (D.view x.now)
+            (calls_of D.B.algebra D.B.CAP (D.meaning self.now.domain.now) (problem self.now) at self.now.machine.interp
+            (plain.arguments D.B.algebra D.B.CAP (D.meaning self.now.domain.now) (problem self.now) at (D.view x.now) (val instruction.now))))) }
     {
         let ctx = self.domain.ctx(alloc)?;
         let args = self.arguments(alloc, &ctx, at, x, word, instruction)?;
@@ -90,7 +92,8 @@ impl<'a, D: Domain> ImageAnalysis<'a, D> {
         requires context { ctx.now ≡ (D.meaning self.now.domain.now).context }
         requires fits { (D.elements self.now.domain.now).fits (D.view x.now) }
         requires decoded { decoded self.now.machine.instr (problem self.now).spec.rows word ≡ Some (val instruction.now) }
-        ensures { IfOk result (λ r. map abs r.items ≡ plain.arguments D.B.algebra D.B.CAP (D.meaning self.now.domain.now) (problem self.now) at (D.view x.now) (val instruction.now)) }
+        ensures { IfOk result (λ r. map abs r.items ≡ plain.arguments D.B.algebra D.B.CAP (D.meaning self.now.domain.now) (problem self.now) at
+            (D.view x.now) (val instruction.now)) }
     {
         let mut args = Vec::with_capacity(alloc, 2)?;
         args.push(AbstractValue::of_value(alloc, ctx, self.spec, instruction)?)?;
@@ -109,9 +112,11 @@ impl<'a, D: Domain> ImageAnalysis<'a, D> {
     ) -> Result<Option<AbstractValue<D::B>>, EvalError>
         requires ready { IsReady self.now D.B.algebra (D.is_for self.now.domain.now) }
         requires context { ctx.now ≡ (D.meaning self.now.domain.now).context }
-        requires args { AreArguments D.B.algebra (D.meaning self.now.domain.now).context D.B.CAP (problem self.now).spec self.now.machine.interp (map abs args.items) }
+        requires args { AreArguments D.B.algebra (D.meaning self.now.domain.now).context D.B.CAP (problem self.now).spec self.now.machine.interp
+            (map abs args.items) }
         requires log { uses_of log.old ≡ [] }
-        ensures { Gives abs result (uses_of log.new) (calls_of D.B.algebra D.B.CAP (D.meaning self.now.domain.now) (problem self.now) at self.now.machine.interp (map abs args.items)) }
+        ensures { Gives abs result (uses_of log.new) (calls_of D.B.algebra D.B.CAP (D.meaning self.now.domain.now) (problem self.now) at
+            self.now.machine.interp (map abs args.items)) }
     {
         let setting = Setting {
             spec: self.spec,
@@ -119,8 +124,8 @@ impl<'a, D: Domain> ImageAnalysis<'a, D> {
             ctx,
             at,
             policy: Policy::Widen {
-                unroll: 64,
-                delay: 2,
+                unroll: UNROLLED_TURNS,
+                delay: JOINED_TURNS,
             },
         };
         eval_anew(alloc, &setting, self.machine.interp, args, log)
@@ -139,7 +144,9 @@ impl<'a, D: Domain> ImageAnalysis<'a, D> {
         requires context { ctx.now ≡ (D.meaning self.now.domain.now).context }
         requires fits { (D.elements self.now.domain.now).fits (D.view before.now) }
         requires state { IsCountedState D.B.algebra (D.meaning self.now.domain.now).context D.B.CAP (state_type (problem self.now).spec) (abs state.now) }
-        ensures { IfOk result (λ r. IsOutcome (D.elements self.now.domain.now) D.view r (plain.moved D.B.algebra (D.meaning self.now.domain.now) (problem self.now) (D.view before.now) (abs state.now) (uses_of log.now) (counter_of (abs state.now)))) }
+        ensures { IfOk result (λ r. IsOutcome (D.elements self.now.domain.now) D.view r
+            (plain.moved D.B.algebra (D.meaning self.now.domain.now) (problem self.now) (D.view before.now) (abs state.now) (uses_of log.now)
+            (counter_of (abs state.now)))) }
     {
         match counter_of(state) {
             Some((_w, counter)) => self.outcome_behind(alloc, ctx, before, state, log, counter),
@@ -162,7 +169,8 @@ impl<'a, D: Domain> ImageAnalysis<'a, D> {
         requires fits { (D.elements self.now.domain.now).fits (D.view before.now) }
         requires state { IsStateValue D.B.algebra (D.meaning self.now.domain.now).context D.B.CAP (state_type (problem self.now).spec) (abs state.now) }
         requires counter { D.B.algebra.words.fits (D.meaning self.now.domain.now).context 32 counter.now }
-        ensures { IfOk result (λ r. IsOutcome (D.elements self.now.domain.now) D.view r (plain.moved_to D.B.algebra (D.meaning self.now.domain.now) (problem self.now) (D.view before.now) (abs state.now) (uses_of log.now) counter.now
+        ensures { IfOk result (λ r. IsOutcome (D.elements self.now.domain.now) D.view r
+            (plain.moved_to D.B.algebra (D.meaning self.now.domain.now) (problem self.now) (D.view before.now) (abs state.now) (uses_of log.now) counter.now
             (D.B.algebra.words.members (D.meaning self.now.domain.now).context 32 counter.now self.now.limit))) }
     {
         match targets::<D::B>(alloc, ctx, counter, self.limit)? {

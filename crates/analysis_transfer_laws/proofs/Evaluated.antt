@@ -5,6 +5,7 @@ use Rattle.std.proofs.lemmas.Bool.{lt-ltb as less_is, le-leb as at_most_is}
 use Rattle.spec_match_compiler.proofs.Truth.{both}
 use Rattle.base_trait.specs.Algebra.{Algebra}
 use Rattle.base_trait.specs.Laws.{Laws}
+use Rattle.base_trait.specs.Precision.{joined_turns, unrolled_turns}
 use Rattle.base_trait.specs.Lists.{AreAmong, Each}
 use Rattle.base_trait.specs.declared.uses.Stamp.{Stamp}
 use Rattle.base_trait.specs.declared.uses.Stamp.TheVariants.{At}
@@ -145,13 +146,13 @@ module _ {E W N C : Type 0} (B : Algebra W N C) (laws : Laws W N C B) (cap : ℕ
       let stamps = D.listed x in
       record {
         kept = subst (λ ty. IsKept ⊥ (IsOf B M.context cap env (KeysFit env) ty) [] (calls a f xs)) is.returns
-            (call_kept B laws M.context cap p.spec a (KeysFit env) (keeps_keys B M.context cap env a) (λ y z k l. widen_keys_fit B M.context env y z k l) (inl h.joins) h.posed.accepted ⊥ (Widen 64 2) (calls a)
-            (none_fails B M.context cap 64 2) (h.right a) f is.interp xs is.interp_there args keyed_args);
-        lists = calls_list_stamps B laws p.spec M.context cap a (Widen 64 2) (calls a) stamps f xs h.posed.accepted (inl h.joins) tt (h.right a) args (parts_list B (At a ∷ stamps) xs listed_args);
+            (call_kept B laws M.context cap p.spec a (KeysFit env) (keeps_keys B M.context cap env a) (λ y z k l. widen_keys_fit B M.context env y z k l) (inl h.joins) h.posed.accepted ⊥ (Widen unrolled_turns joined_turns) (calls a)
+            (none_fails B M.context cap unrolled_turns joined_turns) (h.right a) f is.interp xs is.interp_there args keyed_args);
+        lists = calls_list_stamps B laws p.spec M.context cap a (Widen unrolled_turns joined_turns) (calls a) stamps f xs h.posed.accepted (inl h.joins) tt (h.right a) args (parts_list B (At a ∷ stamps) xs listed_args);
         logged = call_logged B laws M.context cap p.spec a (ListsStamps B (At a ∷ stamps)) (keeps_stamps B laws M.context cap env a stamps) (λ y z k l. widen_lists B laws M.context (At a ∷ stamps) y z k l) (inl h.joins) h.posed.accepted
-            (Widen 64 2) (calls a) (h.right a) (λ u. AreAmong u.stamps (At a ∷ stamps)) (reads_listed B laws M.context env (At a ∷ stamps)) f is.interp xs is.interp_there args listed_args;
+            (Widen unrolled_turns joined_turns) (calls a) (h.right a) (λ u. AreAmong u.stamps (At a ∷ stamps)) (reads_listed B laws M.context env (At a ∷ stamps)) f is.interp xs is.interp_there args listed_args;
         unstamped = λ none. call_logged B laws M.context cap p.spec a (KeysFit env) (keeps_keys B M.context cap env a) (λ y z k l. widen_keys_fit B M.context env y z k l) (inl h.joins) h.posed.accepted
-            (Widen 64 2) (calls a) (h.right a) (λ u. ⊥) (reads_none B laws M.context env (KeysFit env) none) f is.interp xs is.interp_there args keyed_args;
+            (Widen unrolled_turns joined_turns) (calls a) (h.right a) (λ u. ⊥) (reads_none B laws M.context env (KeysFit env) none) f is.interp xs is.interp_there args keyed_args;
       }
 
   -- a value that has a counter is a state

@@ -5,6 +5,7 @@ use Rattle.std.proofs.lemmas.Bool.{false≢true}
 use Rattle.spec_match_compiler.proofs.Truth.{both}
 use Rattle.base_trait.specs.Algebra.{Algebra}
 use Rattle.base_trait.specs.Laws.{Laws}
+use Rattle.base_trait.specs.Precision.{joined_turns, unrolled_turns}
 use Rattle.base_trait.specs.Lists.{Each}
 use Rattle.base_trait.specs.Uses.{AreCovering, Read, Seen}
 use Rattle.spec_ir.specs.declared.ty.Ty.TheVariants.{Data as DataTy}
@@ -141,7 +142,7 @@ module _ {E W N C : Type 0} (B : Algebra W N C) (laws : Laws W N C B) (cap : ℕ
         ) in
         answer_described (calls s.pc f (arguments B cap M p s.pc x instruction)) (meaning p.spec s.pc d f vs [])
         (evaluated B laws cap D M p calls h s.pc x code_word instruction lt fit e)
-        (calls_are_sound B laws p.spec M.context cap s.pc 64 2 (calls s.pc) (M.valuation s) d (suc (length p.spec.funs)) f is.interp (arguments B cap M p s.pc x instruction) vs [] h.posed.accepted h.joins (h.right s.pc) is.interp_there
+        (calls_are_sound B laws p.spec M.context cap s.pc unrolled_turns joined_turns (calls s.pc) (M.valuation s) d (suc (length p.spec.funs)) f is.interp (arguments B cap M p s.pc x instruction) vs [] h.posed.accepted h.joins (h.right s.pc) is.interp_there
         (are_arguments B laws cap D M p calls h s.pc lt x fit code_word instruction e) typed_args describe)
         (subst (λ ty. IsOutcomeOf env ty (meaning p.spec s.pc d f vs [])) is.returns (meanings_have_types p.spec s.pc d f is.interp vs [] h.posed.accepted is.interp_there typed_args refl))
 

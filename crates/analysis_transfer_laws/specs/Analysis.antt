@@ -2,6 +2,7 @@
 use Rattle.std.specs.Prelude.{ℕ, List}
 use Rattle.support_tail_fixpoint.specs.declared.policy.Policy.TheVariants.{Widen}
 use Rattle.base_trait.specs.Algebra.{Algebra}
+use Rattle.base_trait.specs.Precision.{joined_turns, unrolled_turns}
 use Rattle.semantics_values.specs.States.{State}
 use Rattle.semantics_values.specs.Types.{environment_of}
 use Rattle.semantics.specs.Entries.{IsEntryState}
@@ -26,7 +27,7 @@ of_states spec D = record D { holds = λ x s. IsState spec s × D.holds x s }
 module _ {E W N C : Type 0} (B : Algebra W N C) (cap : ℕ) (D : Elements E State) (M : Meaning E W N C) (p : Problem) where
   -- `calls` is at each address the reinterpretation under widening.
   abbrev pub AreReinterpreted : (calls : ℕ → ℕ → List (Abs W N) → Answer (Abs W N)) → Type 0
-  AreReinterpreted calls = (a : ℕ) → AreRight B M.context cap p.spec a (Widen 64 2) (calls a)
+  AreReinterpreted calls = (a : ℕ) → AreRight B M.context cap p.spec a (Widen unrolled_turns joined_turns) (calls a)
 
   abbrev pub analysis_of : (calls : ℕ → ℕ → List (Abs W N) → Answer (Abs W N)) → Analysis E W State
   analysis_of calls = record {

@@ -7,7 +7,7 @@ use super::known::{Known, without};
 use super::members::members;
 use super::operations::{of_one, of_two};
 use super::range::range;
-use base_trait::{Base, Tri};
+use base_trait::{Base, MOST_LISTED, Tri};
 use std::alloc::{AllocError as NoMemory, Global};
 use word_operations::{BinaryOperation, UnaryOperation, WordComparison};
 
@@ -24,6 +24,7 @@ impl Base for Bits {
     ghost use Rattle.base_trait.specs.Laws.{IsExtension};
     ghost use Rattle.base_trait.specs.NoNotes.{no_notes};
     ghost use Rattle.base_trait.specs.Notes.{own_calls};
+    ghost use Rattle.base_trait.specs.Precision.{most_listed};
     ghost use Rattle.base_bits.specs.Join.{join_of};
     ghost use Rattle.base_bits.specs.Known.{any, exact, Fits};
     ghost use Rattle.base_bits.specs.Instance.{bits_laws};
@@ -37,9 +38,9 @@ impl Base for Bits {
 
     type Ctx = ();
 
-    const CAP: u64 = 256;
+    const CAP: u64 = MOST_LISTED;
 
-    ghost CAP = { 256 };
+    ghost CAP = { most_listed };
 
     ghost algebra = { bits };
 

@@ -2,7 +2,7 @@
 
 use super::stamps::Stamps;
 use base_kset::{KSet, Set};
-use base_trait::{Base, Tri};
+use base_trait::{Base, MOST_LISTED, Tri};
 use std::alloc::{AllocError as NoMemory, Global};
 use word_operations::{BinaryOperation, UnaryOperation, WordComparison};
 
@@ -12,6 +12,7 @@ pub struct DefUse;
 impl Base for DefUse {
     ghost use Rattle.std.specs.Prelude.{refl};
     ghost use Rattle.base_trait.specs.Notes.{own_calls};
+    ghost use Rattle.base_trait.specs.Precision.{most_listed};
     ghost use Rattle.base_defuse.specs.Instance.{defuse_laws, same_notes_is};
     ghost use Rattle.base_defuse.specs.Meaning.{defuse};
     ghost use Rattle.base_defuse.specs.Notes.{stamp_notes};
@@ -23,9 +24,9 @@ impl Base for DefUse {
 
     type Ctx = ();
 
-    const CAP: u64 = 256;
+    const CAP: u64 = MOST_LISTED;
 
-    ghost CAP = { 256 };
+    ghost CAP = { most_listed };
 
     ghost algebra = { defuse };
 

@@ -8,7 +8,7 @@ use super::range::Range;
 use super::sext::sext;
 use super::trunc::trunc;
 use super::widen::{rank, widen};
-use base_trait::{Base, Tri};
+use base_trait::{Base, MOST_LISTED, Tri};
 use std::alloc::{AllocError as NoMemory, Global};
 use word_operations::{BinaryOperation, UnaryOperation, WordComparison};
 
@@ -23,6 +23,7 @@ impl Base for Interval {
     ghost use Rattle.base_trait.specs.Laws.{IsExtension};
     ghost use Rattle.base_trait.specs.Notes.{own_calls};
     ghost use Rattle.base_trait.specs.NoNotes.{no_notes};
+    ghost use Rattle.base_trait.specs.Precision.{most_listed};
     ghost use Rattle.base_interval.specs.Join.{join_of};
     ghost use Rattle.base_interval.specs.Instance.{interval_laws};
     ghost use Rattle.base_interval.specs.Meaning.{interval};
@@ -38,9 +39,9 @@ impl Base for Interval {
 
     type Ctx = ();
 
-    const CAP: u64 = 256;
+    const CAP: u64 = MOST_LISTED;
 
-    ghost CAP = { 256 };
+    ghost CAP = { most_listed };
 
     ghost algebra = { interval };
 

@@ -1,11 +1,11 @@
 //! What is known of the numbers of an interval.
 
-ghost use Rattle.std.specs.Prelude.{◌≡◌, ◌+◌, ◌≤◌, ◌^◌, IfOk};
-ghost use Rattle.std.specs.List.{range_with_len};
+ghost use Rattle.std.specs.Prelude.{◌≡◌, ◌≤◌, IfOk};
 ghost use Rattle.base_trait.specs.Lists.{items_of};
 ghost use Rattle.base_interval.specs.Members.{exact_of, members_of};
 
 use super::range::Range;
+use base_trait::successive_numbers;
 use std::alloc::{AllocError as NoMemory, Global};
 
 /// The number, where it is one alone.
@@ -22,20 +22,8 @@ pub(crate) fn members(alloc: Global, x: Range, limit: u32) -> Result<Option<Vec<
 {
     let steps = x.hi - x.lo;
     if steps < limit as u64 {
-        Ok(Some(numbers(alloc, x.lo, steps + 1)?))
+        Ok(Some(successive_numbers(alloc, x.lo, steps + 1)?))
     } else {
         Ok(None)
     }
-}
-
-/// As many successive numbers, from `low` on.
-fn numbers(alloc: Global, low: u64, size: u64) -> Result<Vec<u64>, NoMemory>
-    requires { low + size ≤ 2 ^ 64 }
-    ensures { IfOk result (λ v. v.items ≡ range_with_len low size) }
-{
-    let mut out = Vec::new(alloc);
-    for i in 0..size {
-        out.push(low + i)?;
-    }
-    Ok(out)
 }

@@ -2,9 +2,9 @@
 
 use super::changes::Change;
 use super::operations::{both, image, product};
-use super::reading::{all, compare, copy_of, has, has_all};
+use super::reading::{compare, copy_of, has, has_all};
 use super::set::Set;
-use base_trait::{Base, Tri, dispatch};
+use base_trait::{Base, MOST_LISTED, Tri, all_numbers, dispatch};
 use std::alloc::{AllocError as NoMemory, Global};
 use word_operations::{BinaryOperation, UnaryOperation, WordComparison};
 
@@ -23,6 +23,7 @@ impl<const K: usize> Base for KSet<K> {
     ghost use Rattle.base_trait.specs.Laws.{IsExtension};
     ghost use Rattle.base_trait.specs.NoNotes.{no_notes};
     ghost use Rattle.base_trait.specs.Notes.{own_calls};
+    ghost use Rattle.base_trait.specs.Precision.{most_listed};
     ghost use Rattle.base_kset.specs.Instance.{kset_laws};
     ghost use Rattle.base_kset.specs.Meaning.{absorbs_set, Fits, kset};
     ghost use Rattle.base_kset.specs.Same.{same_set_is};
@@ -34,9 +35,9 @@ impl<const K: usize> Base for KSet<K> {
 
     type Ctx = ();
 
-    const CAP: u64 = 256;
+    const CAP: u64 = MOST_LISTED;
 
-    ghost CAP = { 256 };
+    ghost CAP = { most_listed };
 
     ghost algebra = { kset K };
 
@@ -229,7 +230,7 @@ impl<const K: usize> Base for KSet<K> {
         limit: u32,
     ) -> Result<Option<Vec<u64>>, NoMemory> {
         let Some(numbers) = x.listed() else {
-            return all(alloc, w, limit);
+            return all_numbers(alloc, w, limit);
         };
         if numbers.len() <= limit as usize {
             Ok(Some(copy_of(alloc, numbers)?))

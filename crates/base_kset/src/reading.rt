@@ -1,9 +1,9 @@
 //! What is known of a set.
 
-ghost use Rattle.std.specs.Prelude.{◌≡◌, ◌<◌, ◌^◌, IfOk, Some, None, nat_le, if◌then◌else◌};
-ghost use Rattle.std.specs.List.{list_any, list_all, range_with_len};
+ghost use Rattle.std.specs.Prelude.{◌≡◌, ◌<◌, ◌^◌, IfOk};
+ghost use Rattle.std.specs.List.{list_any, list_all};
 ghost use Rattle.word_operations.specs.Width.{IsWidth};
-ghost use Rattle.base_trait.specs.Lists.{Each, items_of};
+ghost use Rattle.base_trait.specs.Lists.{Each};
 ghost use Rattle.base_kset.specs.Meaning.{compared, outcome, some_pair, Fits};
 ghost use Rattle.base_kset.specs.Sets.{has};
 
@@ -90,33 +90,6 @@ pub(crate) fn copy_of(alloc: Global, numbers: &[u64]) -> Result<Vec<u64>, NoMemo
     let mut out = Vec::new(alloc);
     for x in numbers {
         out.push(*x)?;
-    }
-    Ok(out)
-}
-
-/// Every number of `w` bits, or none where they are more than `limit`.
-pub(crate) fn all(alloc: Global, w: u32, limit: u32) -> Result<Option<Vec<u64>>, NoMemory>
-    requires { IsWidth w }
-    ensures { IfOk result (λ r. items_of r ≡ (if nat_le (2 ^ w) limit then Some (range_with_len 0 (2 ^ w)) else None)) }
-{
-    if w >= 32 {
-        return Ok(None);
-    }
-    let count = 1u64 << w;
-    if count <= limit as u64 {
-        Ok(Some(numbers_below(alloc, count)?))
-    } else {
-        Ok(None)
-    }
-}
-
-/// The numbers below `end`.
-fn numbers_below(alloc: Global, end: u64) -> Result<Vec<u64>, NoMemory>
-    ensures { IfOk result (λ v. v.items ≡ range_with_len 0 end) }
-{
-    let mut out = Vec::new(alloc);
-    for n in 0..end {
-        out.push(n)?;
     }
     Ok(out)
 }

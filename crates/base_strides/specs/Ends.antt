@@ -13,13 +13,13 @@ use Rattle.base_trait.specs.Lists.{Each, IsAmong}
 use Rattle.base_trait.proofs.Lists.{among_either, each_at}
 use Rattle.base_trait.proofs.Tests.{from_either}
 use Rattle.base_kset.specs.Instance.{rows_among}
-use Rattle.base_kset.specs.Meaning.{Fits as FitsSet, compared as set_compared}
+use Rattle.base_kset.specs.Meaning.{compared as set_compared}
 use Rattle.base_kset.specs.Sets.{images, items_or_none, products, set_of, set_with, union}
 use Rattle.base_strides.specs.Changes.{IsChange, changed_stretch, width_after, width_before}
 use Rattle.base_strides.specs.Gcd.{gcd, gcd_is}
 use Rattle.base_strides.specs.Held.{span_part}
 use Rattle.base_strides.specs.Joins.{hull_part}
-use Rattle.base_strides.specs.Meaning.{Fits, span, on_one, on_two, of_stretch, compared, compared_stretches, join_of, grown, widened}
+use Rattle.base_strides.specs.Meaning.{Fits, span, on_one, on_two, of_stretch, compared, join_of, grown, widened}
 use Rattle.base_strides.specs.Rows.{op1_row, op2_row, sext_row, trunc_row}
 use Rattle.base_strides.specs.Sound.{IsPart, HoldsWord, row_sound, op1_sound, sext_row_sound, trunc_sound}
 use Rattle.base_strides.specs.Steps.{set_chosen, other_chosen, room_chosen, set_few, map_few}
@@ -31,9 +31,6 @@ use Rattle.base_strides.specs.declared.changes.Change.TheVariants.{Operation, Si
 use Rattle.base_strides.specs.declared.stretch.Stretch.{Stretch}
 
 -- ---- sets
-pub set_fits : (w : ℕ) (x : Word) → Fits w x → FitsSet 16 w (set_part x)
-set_fits w (Listed s) h = h
-set_fits w (Strided x) h = tt
 
 pub items_below : (w : ℕ) (x : Word) → Fits w x → Each (λ n. n < 2 ^ w) (items_or_none (set_part x))
 items_below w (Listed s) h = h.below
@@ -64,11 +61,6 @@ change_ends (Sign from to) x k f =
     part_ends to (sext_row from to (span x)) (sext_row_sound from to (span x).hi (span x) k (end_held from (span x) (span_part from x f))).part
 change_ends (Cut from to) x k f = part_ends to (trunc_row to (span x)) (trunc_sound to (span x).hi (span x) (span_part from x f).whole).part
 
--- of a stretch, by its ends
-pub one_by_span : (f : ℕ → ℕ) (row : Stretch → Stretch) (x : Word) → IsTrue (is_none (set_part x)) → of_stretch (row (span x)) ≡ on_one f row x
-one_by_span f row (Listed s) h = cc
-one_by_span f row (Strided x) h = refl
-
 -- of a set, by its numbers: the results are no more
 pub one_by_numbers : (w : ℕ) (f : ℕ → ℕ) (row : Stretch → Stretch) (x : Word) → Fits w x → is_none (set_part x) ≡ false
     → word_of (images 16 f (set_part x)) (one 0) ≡ on_one f row x
@@ -83,24 +75,9 @@ row_ends op w x y width f g =
     part_ends w (op2_row op w (span x) (span y))
     (row_sound op w (span x).hi (span y).hi (span x) (span y) (record { width = width; left = end_held w (span x) (span_part w x f); right = end_held w (span y) (span_part w y g) })).part
 
--- of a stretch, by the spans
-pub by_spans : (f : ℕ → ℕ → ℕ) (row : Stretch → Stretch → Stretch) (x y : Word) → IsTrue (is_none (set_part x) || is_none (set_part y))
-    → of_stretch (row (span x) (span y)) ≡ on_two f row x y
-by_spans f row (Listed s) (Listed t) h = cc
-by_spans f row (Listed s) (Strided y) h = refl
-by_spans f row (Strided x) y h = refl
-
 -- of two sets, by their numbers
 abbrev pub results_of : (ℕ → ℕ → ℕ) → Word → Word → List ℕ
 results_of f x y = flat_map (λ n. map (f n) (items_or_none (set_part y))) (items_or_none (set_part x))
-
-pub by_set : (f : ℕ → ℕ → ℕ) (row : Stretch → Stretch → Stretch) (x y : Word) → is_none (set_part x) ≡ false → is_none (set_part y) ≡ false
-    → is_none (products 16 f (set_part x) (set_part y)) ≡ false → word_of (products 16 f (set_part x) (set_part y)) (one 0) ≡ on_two f row x y
-by_set f row (Listed s) (Listed t) h k e =
-    let all = flat_map (λ n. map (f n) t) s in
-    set_chosen (nat_le (length (set_of all)) 16) (set_of all) (of_stretch (hull all)) e
-by_set f row (Listed s) (Strided y) h k e = cc
-by_set f row (Strided x) y h k e = cc
 
 pub by_hull : (f : ℕ → ℕ → ℕ) (row : Stretch → Stretch → Stretch) (x y : Word) → is_none (set_part x) ≡ false → is_none (set_part y) ≡ false
     → IsTrue (is_none (products 16 f (set_part x) (set_part y))) → of_stretch (hull (results_of f x y)) ≡ on_two f row x y
@@ -148,11 +125,6 @@ hull_from_first f (x ∷ xs) [] h k = absurd (omega arith)
 hull_from_first f (x ∷ xs) (y ∷ ys) h k = ap (λ z. hull_with z (map (f x) ys ++ flat_map (λ n. map (f n) (y ∷ ys)) xs)) (one_again (f x y))
 
 -- ---- comparisons
-pub compared_spans : (k : WordComparison) (w : ℕ) (x y : Word) → IsTrue (is_none (set_part x) || is_none (set_part y))
-    → compared_stretches k w (span x) (span y) ≡ compared k w x y
-compared_spans k w (Listed s) (Listed t) h = cc
-compared_spans k w (Listed s) (Strided y) h = refl
-compared_spans k w (Strided x) y h = refl
 
 pub compared_sets : (k : WordComparison) (w : ℕ) (x y : Word) → is_none (set_part x) ≡ false → is_none (set_part y) ≡ false
     → set_compared k w (set_part x) (set_part y) ≡ compared k w x y
@@ -174,12 +146,6 @@ union_ends w (Listed (n ∷ s)) (Listed t) f g h k = subst (IsEnds w) (hull_more
 union_ends w (Listed s) (Strided y) f g h k = cc
 union_ends w (Strided x) y f g h k = cc
 
-pub join_by_set : (x y : Word) → is_none (set_part x) ≡ false → is_none (set_part y) ≡ false → is_none (union 16 (set_part x) (set_part y)) ≡ false
-    → word_of (union 16 (set_part x) (set_part y)) (one 0) ≡ join_of x y
-join_by_set (Listed s) (Listed t) h k e = set_chosen (nat_le (length (set_with s t)) 16) (set_with s t) (of_stretch (hull (s ++ t))) e
-join_by_set (Listed s) (Strided y) h k e = cc
-join_by_set (Strided x) y h k e = cc
-
 pub join_by_hull : (w : ℕ) (x y : Word) → Fits w x → is_none (set_part x) ≡ false → is_none (set_part y) ≡ false
     → IsTrue (is_none (union 16 (set_part x) (set_part y))) → of_stretch (union_hull x y) ≡ join_of x y
 join_by_hull w (Listed []) (Listed t) f h k e = let some = f.some in absurd (omega (arith, some))
@@ -188,11 +154,6 @@ join_by_hull w (Listed (n ∷ s)) (Listed t) f h k e =
     ∙ other_chosen (nat_le (length (set_with (n ∷ s) t)) 16) (set_with (n ∷ s) t) (of_stretch (hull ((n ∷ s) ++ t))) e
 join_by_hull w (Listed s) (Strided y) f h k e = cc
 join_by_hull w (Strided x) y f h k e = cc
-
-pub join_by_spans : (x y : Word) → IsTrue (is_none (set_part x) || is_none (set_part y)) → of_stretch (hull_of (span x) (span y)) ≡ join_of x y
-join_by_spans (Listed s) (Listed t) h = cc
-join_by_spans (Listed s) (Strided y) h = refl
-join_by_spans (Strided x) y h = refl
 
 pub join_ends : (w : ℕ) (x y : Word) → Fits w x → Fits w y → IsEnds w (hull_of (span x) (span y))
 join_ends w x y f g = part_ends w (hull_of (span x) (span y)) (hull_part w (span x) (span y) (span_part w x f) (span_part w y g))

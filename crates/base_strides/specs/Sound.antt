@@ -7,7 +7,7 @@ use Rattle.std.proofs.lemmas.Bool.{cases_lt}
 use Rattle.std.proofs.lemmas.Bool.Decides.{nat_tests}
 use Rattle.std.proofs.lemmas.Nat.{div-add-mod', mul-le, and_mask, and_comm, and-not}
 use Rattle.word_operations.proofs.Bounds.{shr_s_low, rot_l_exact, sext_low, sext_high}
-use Rattle.word_operations.proofs.Fits.{zext_of_fits, sext_of_fits}
+use Rattle.word_operations.proofs.Fits.{sext_of_fits}
 use Rattle.word_operations.specs.declared.kinds.UnaryOperation.{UnaryOperation}
 use Rattle.word_operations.specs.declared.kinds.UnaryOperation.TheVariants.{Neg, Not}
 use Rattle.word_operations.specs.declared.kinds.BinaryOperation.{BinaryOperation}
@@ -386,6 +386,3 @@ sext_row_sound from to n x widths h =
     side : crosses from (range x) ≡ false → (2 * n < 2 ^ from) ⊎ (2 ^ from ≤ 2 * n) → (2 * n < 2 ^ from) ⊎ (2 ^ from ≤ 2 * x.lo)
     side e (inl low) = inl low
     side e (inr high) = let below = h.holds.below in inr (grind (arith, nat_tests))
-
-pub zext_row_sound : (from to n : ℕ) (x : Stretch) → IsExtension from to → HoldsWord from x n → HoldsWord to x n
-zext_row_sound from to n x widths h = record { holds = h.holds; part = record { whole = h.part.whole; fits = zext_of_fits from to x.hi widths.order h.part.fits } }

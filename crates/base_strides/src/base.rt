@@ -11,7 +11,7 @@ use super::stretch::Stretch;
 use super::width::greatest;
 use super::word::{StridedSet, absorbs};
 use base_kset::KSet;
-use base_trait::{Base, Tri};
+use base_trait::{Base, MOST_LISTED, Tri};
 use std::alloc::{AllocError as NoMemory, Global};
 use word_operations::{BinaryOperation, UnaryOperation, WordComparison};
 
@@ -30,6 +30,7 @@ impl Base for Strides {
     ghost use Rattle.base_trait.specs.Laws.{IsExtension};
     ghost use Rattle.base_trait.specs.NoNotes.{no_notes};
     ghost use Rattle.base_trait.specs.Notes.{own_calls};
+    ghost use Rattle.base_trait.specs.Precision.{most_listed};
     ghost use Rattle.base_strides.specs.Instance.{strides_laws};
     ghost use Rattle.base_strides.specs.Meaning.{Fits, join_of, of_stretch, on_one, on_two, strides, widen_of};
     ghost use Rattle.base_strides.specs.Rows.{op1_row, op2_row, sext_row, trunc_row};
@@ -43,9 +44,9 @@ impl Base for Strides {
 
     type Ctx = Stops;
 
-    const CAP: u64 = 256;
+    const CAP: u64 = MOST_LISTED;
 
-    ghost CAP = { 256 };
+    ghost CAP = { most_listed };
 
     ghost algebra = { strides };
 

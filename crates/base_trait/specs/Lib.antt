@@ -6,5 +6,6 @@ pub mod NoNotes
 pub mod Notes
 pub mod OneStamp
 pub mod PairedNotes
+pub mod Precision
 pub mod Stamps
 pub mod Uses

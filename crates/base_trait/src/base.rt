@@ -7,6 +7,7 @@ ghost use Rattle.base_trait.specs.Notes.{HaveSameCalls};
 ghost use Rattle.base_trait.specs.Identity.{IsIdentity};
 ghost use Rattle.base_trait.specs.Laws.{IsExtension, Laws};
 ghost use Rattle.base_trait.specs.Lists.{IsGrown, items_of};
+ghost use Rattle.base_trait.specs.Precision.{most_listed};
 ghost use Rattle.base_trait.specs.Uses.{uses_of};
 
 use super::context::Context;
@@ -301,7 +302,7 @@ pub trait Base {
     }
 
     /// A base that joins lists at most 256 cells of a map. One that does not has a key for each.
-    ghost capacity: { CAP ≡ (if algebra.joins then 256 else 2 ^ 32) };
+    ghost capacity: { CAP ≡ (if algebra.joins then most_listed else 2 ^ 32) };
 
     /// The calls of notes are those of their type.
     ghost same_calls: { HaveSameCalls algebra.notes Self.Note.notes };

@@ -23,7 +23,8 @@
 //! are the best.
 //!
 //! *What is written once.* Notes and contexts have their calls by their types (`CellNote`, `Context`), so no base
-//! repeats them. `dispatch` is the table from the kinds of operations to the functions of an instance.
+//! repeats them. `dispatch` is the table from the kinds of operations to the functions of an instance. `all_numbers` and `successive_numbers`
+//! list the numbers of words that have no list of their own.
 #![tactic(auto)]
 
 mod base;
@@ -31,11 +32,15 @@ mod context;
 mod dispatch;
 pub mod laws;
 mod note;
+mod numbers;
+mod precision;
 mod tri;
 mod uses;
 
 pub use base::Base;
 pub use context::Context;
 pub use note::CellNote;
+pub use numbers::{all_numbers, successive_numbers};
+pub use precision::{JOINED_TURNS, MOST_LISTED, UNROLLED_TURNS};
 pub use tri::Tri;
 pub use uses::{Log, Stamp, Use};

@@ -1,19 +1,13 @@
 -- Rows of groups.
 use Rattle.std.proofs.Common.{◌≡◌, ℕ, ◌+◌, ◌<◌, Bool, true, false, Option, Some, None, List, [], ◌∷◌, ◌++◌, length, take, refl, ap, sym, ◌∙◌, map}
-use Rattle.std.specs.Prelude.{slice_get, is_some, option_map, not, ◌&&◌, if◌then◌else◌}
-use Rattle.std.specs.List.{list_all}
+use Rattle.std.specs.Prelude.{slice_get, is_some, option_map, if◌then◌else◌}
 use Rattle.spec_ir.specs.Specification.{Row}
-use Rattle.semantics.specs.Decode.{agrees, argument_of, fields_in, instruction_of, guard_holds, meets_row, row_met}
+use Rattle.semantics.specs.Decode.{argument_of, fields_in, instruction_of, meets_row, row_met}
 use Rattle.spec_ir.specs.declared.row.Arg.{Arg}
 use Rattle.semantics_values.specs.Values.{Val, made, vals}
 use Rattle.code_image.specs.Decoders.{has_fields}
-use Rattle.code_image.specs.Rows.{Fixes}
 use Rattle.code_image.proofs.Steps.{element}
-use Rattle.code_image.specs.Tree.{bit, picked, with_row, IsMissed, Tree, fork, group_at, LosesNone}
-
-not_same : (b : Bool) → b ≡ not b → ⊥
-not_same true e = cc
-not_same false e = cc
+use Rattle.code_image.specs.Tree.{picked, with_row}
 
 -- what a word meets behind a row depends on what it meets in the rest
 row_met-with : (code : ℕ) (row : Option Row) (xs ys : List Row) → row_met code xs ≡ row_met code ys → row_met code (with_row row xs) ≡ row_met code (with_row row ys)
@@ -67,23 +61,3 @@ bare_args instr case f (a ∷ args) e = cc
 
 pub bare_row : (instr code : ℕ) (row : Row) → has_fields (Some (instruction_of instr code row)) ≡ false → row.args ≡ []
 bare_row instr code row e = bare_args instr row.case (argument_of (fields_in code row.parts)) row.args e
-
--- a row that fixes another value at a bit
-pub missed_by : (rows : List Row) (number n : ℕ) (row : Row) (v : Bool) → slice_get rows number ≡ Some row → Fixes row.parts n v → IsMissed rows number n (not v)
-missed_by rows number n row v at fixes code rest e = ap (λ r. row_met code (with_row r rest)) at ∙ by (agrees code row.parts) refl
-  where
-    by : (b : Bool) → agrees code row.parts ≡ b → (if b && list_all (guard_holds (fields_in code row.parts)) row.guards then Some row else row_met code rest) ≡ row_met code rest
-    by true agree = absurd (not_same v (sym (fixes code agree) ∙ e))
-    by false agree = refl
-
--- a tree of two parts of a group
-pub fork_loses_none : (rows : List Row) (n : ℕ) (without_ with_ : Tree) (zeros ones all : List Row)
-    → LosesNone rows without_ zeros → LosesNone rows with_ ones
-    → ((code : ℕ) → bit code n ≡ false → row_met code zeros ≡ row_met code all)
-    → ((code : ℕ) → bit code n ≡ true → row_met code ones ≡ row_met code all)
-    → LosesNone rows (fork n without_ with_) all
-fork_loses_none rows n without_ with_ zeros ones all lz lo z o code = by (bit code n) refl
-  where
-    by : (b : Bool) → bit code n ≡ b → row_met code (picked rows (if b then group_at code with_ else group_at code without_)) ≡ row_met code all
-    by true e = lo code ∙ o code e
-    by false e = lz code ∙ z code e

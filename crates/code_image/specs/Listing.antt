@@ -1,24 +1,15 @@
 -- The listing of code: a line for each word.
-use Rattle.std.specs.Prelude.{ℕ, zero, suc, ◌+◌, ◌*◌, ◌/◌, ◌%◌, ◌^◌, Option, Some, None, List, [], ◌∷◌, ◌++◌, codes}
-use Rattle.std.specs.Char.{digit_char}
+use Rattle.std.specs.Prelude.{ℕ, Option, Some, None, List, [], ◌∷◌, ◌++◌, codes}
 use Rattle.spec_ir.specs.declared.ty.Ty.{Ty}
 use Rattle.spec_ir.specs.declared.ty.Ty.TheVariants.{Data as DataTy}
 use Rattle.spec_ir.specs.Environment.{Environment, Case}
+pub use Rattle.spec_ir.specs.Hex.{digits_of, hex_digits}
 use Rattle.spec_ir.specs.Texts.{case_at}
 use Rattle.spec_ir.specs.Specification.{Spec}
 use Rattle.semantics_values.specs.Values.{Val, Vals, word, made, val_then}
 use Rattle.semantics_values.specs.Types.{environment_of}
 use Rattle.code_image.specs.Decoders.{decoding}
 use Rattle.code_image.specs.Image.{Image, addresses, code_at}
-
--- the last n hex digits of a number, in lower case, the most significant first
-abbrev pub hex_digits : ℕ → ℕ → List ℕ
-hex_digits zero v = []
-hex_digits (suc n) v = digit_char ((v / 2 ^ (4 * n)) % 16) ∷ hex_digits n v
-
--- how many hex digits a word of w bits has
-abbrev pub digits_of : ℕ → ℕ
-digits_of w = (w + 3) / 4
 
 -- ` NAME=HEX` of a field
 abbrev pub field_text : List ℕ → Val → List ℕ

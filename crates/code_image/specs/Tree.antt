@@ -1,5 +1,6 @@
 -- Decode rows in groups: a tree that asks for bits of a word.
-use Rattle.std.specs.Prelude.{◌≡◌, ℕ, ◌^◌, ◌/◌, ◌%◌, Bool, ◌==◌, Option, Some, None, List, [], ◌∷◌, slice_get, if◌then◌else◌}
+use Rattle.std.specs.Prelude.{◌≡◌, ℕ, Bool, Option, Some, None, List, [], ◌∷◌, slice_get, if◌then◌else◌}
+pub use Rattle.spec_ir.specs.Rows.{bit}
 use Rattle.spec_ir.specs.Specification.{Row}
 use Rattle.semantics.specs.Decode.{row_met}
 
@@ -7,10 +8,6 @@ use Rattle.semantics.specs.Decode.{row_met}
 pub data Tree : Type 0 where
   group : List ℕ → Tree
   fork : ℕ → Tree → Tree → Tree
-
--- whether a number has a bit, the least significant being bit 0
-abbrev pub bit : ℕ → ℕ → Bool
-bit v n = ((v / 2 ^ n) % 2) == 1
 
 -- the group of a word
 abbrev pub group_at : ℕ → Tree → List ℕ

@@ -69,7 +69,8 @@ fn row_met_at(rows: &[Row], number: usize, word: u32) -> Option<&Row>
 /// The instruction of a row for a word.
 pub fn instruction(alloc: Global, spec: &Spec, row: u32, word: u32) -> Result<Value, AllocError>
     requires { row < length (specification spec.now).rows }
-    ensures { IfOk result (λ v. option_map (decode.instruction_of (instr_of spec.now.machine) word) (slice_get (specification spec.now).rows row) ≡ Some (val v)) }
+    ensures { IfOk result (λ v. option_map (decode.instruction_of (instr_of spec.now.machine) word) (slice_get (specification spec.now).rows row)
+        ≡ Some (val v)) }
 {
     build_instruction(alloc, instr_of(spec), &spec.rows[row as usize], word)
 }

@@ -80,7 +80,8 @@ fn push_instruction(
     spec: &Spec,
     instruction: Option<&Value>,
 ) -> Result<(), AllocError>
-    ensures { OnOk result (out.new.items ≡ out.old.items ++ listing.instruction_text (environment_of (specification spec.now)) (option_map (λ v. val v.now) instruction.entry)) }
+    ensures { OnOk result (out.new.items ≡ out.old.items ++ listing.instruction_text (environment_of (specification spec.now))
+        (option_map (λ v. val v.now) instruction.entry)) }
 {
     match instruction {
         None => push_text(out, "-"),

@@ -60,7 +60,8 @@ pub(crate) fn place(
 /// The place of the first segment whose base is greater.
 fn first_above(segments: &[Segment], base: u32) -> usize
     ensures within { result ≤ length segments.now }
-    ensures place { (s : image.Segment) → s.base ≡ base → image.placed s (map segment_of segments.now) ≡ take result (map segment_of segments.now) ++ s ∷ drop result (map segment_of segments.now) }
+    ensures place { (s : image.Segment) → s.base ≡ base → image.placed s (map segment_of segments.now)
+        ≡ take result (map segment_of segments.now) ++ s ∷ drop result (map segment_of segments.now) }
 {
     for (i, s) in segments.iter().enumerate() {
         if base < s.base {
@@ -72,7 +73,8 @@ fn first_above(segments: &[Segment], base: u32) -> usize
 
 /// The word of a segment at an address.
 pub(crate) fn word_at(order: Order, s: &Segment, address: u32) -> Option<u32>
-    ensures { result ≡ (if image.has_word (segment_of s.now) address then Some (image.word_of order (drop (address - s.now.base) s.now.bytes.items)) else None) }
+    ensures { result ≡ (if image.has_word (segment_of s.now) address then Some (image.word_of order (drop (address - s.now.base) s.now.bytes.items))
+        else None) }
 {
     if address % 4 != 0 || address < s.base {
         return None;

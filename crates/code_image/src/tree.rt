@@ -114,7 +114,8 @@ fn part_of(
     bit: u32,
     value: bool,
 ) -> Result<Vec<usize>, AllocError>
-    ensures { IfOk result (λ r. (code : ℕ) → spec.bit code bit ≡ value → row_met code (picked (map row_of rows.now) r.items) ≡ row_met code (picked (map row_of rows.now) group.now)) }
+    ensures { IfOk result (λ r. (code : ℕ) → spec.bit code bit ≡ value
+        → row_met code (picked (map row_of rows.now) r.items) ≡ row_met code (picked (map row_of rows.now) group.now)) }
 {
     let mut out = Vec::new(alloc);
     for number in group {

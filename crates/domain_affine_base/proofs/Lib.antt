@@ -1,4 +1,3 @@
 pub mod Differences
 pub mod Exact
-pub mod Ranges
 pub mod Sums

@@ -7,7 +7,7 @@ use super::members::{exact, may, members};
 use super::operations::{of_one, of_two};
 use super::tracked::Tracked;
 use super::word::Word;
-use base_trait::{Base, Tri};
+use base_trait::{Base, MOST_LISTED, Tri};
 use std::alloc::{AllocError as NoMemory, Global};
 use word_operations::{BinaryOperation, UnaryOperation, WordComparison};
 
@@ -22,6 +22,7 @@ impl Base for Affine {
     ghost use Rattle.base_trait.specs.Laws.{IsExtension};
     ghost use Rattle.base_trait.specs.NoNotes.{no_notes};
     ghost use Rattle.base_trait.specs.Notes.{own_calls};
+    ghost use Rattle.base_trait.specs.Precision.{most_listed};
     ghost use Rattle.domain_affine_base.specs.Instance.{affine_laws};
     ghost use Rattle.domain_affine_base.specs.Meaning.{affine};
     ghost use Rattle.domain_affine_base.specs.Same.{same_word_is};
@@ -32,9 +33,9 @@ impl Base for Affine {
 
     type Ctx = Tracked;
 
-    const CAP: u64 = 256;
+    const CAP: u64 = MOST_LISTED;
 
-    ghost CAP = { 256 };
+    ghost CAP = { most_listed };
 
     ghost algebra = { affine };
 

@@ -1,12 +1,12 @@
 //! What is known of the numbers of a word.
 
-ghost use Rattle.std.specs.Prelude.{◌≡◌, ◌^◌, IfOk, Some, None, nat_le, if◌then◌else◌};
-ghost use Rattle.std.specs.List.{range_with_len};
+ghost use Rattle.std.specs.Prelude.{◌≡◌, IfOk};
 ghost use Rattle.base_trait.specs.Lists.{items_of};
 ghost use Rattle.word_operations.specs.Width.{IsWidth};
 ghost use Rattle.domain_affine_base.specs.Members.{exact_of, may_be, members_of};
 
 use super::word::Word;
+use base_trait::all_numbers;
 use std::alloc::{AllocError as NoMemory, Global};
 
 /// The number of a constant.
@@ -42,33 +42,6 @@ pub(crate) fn members(
     match x {
         Word::Const(_n) if limit == 0 => Ok(None),
         Word::Const(n) => Ok(Some(vec![in alloc; *n]?)),
-        _ => all(alloc, w, limit),
+        _ => all_numbers(alloc, w, limit),
     }
-}
-
-/// Every number of `w` bits, or none where they are more than `limit`.
-fn all(alloc: Global, w: u32, limit: u32) -> Result<Option<Vec<u64>>, NoMemory>
-    requires { IsWidth w }
-    ensures { IfOk result (λ r. items_of r ≡ (if nat_le (2 ^ w) limit then Some (range_with_len 0 (2 ^ w)) else None)) }
-{
-    if w >= 32 {
-        return Ok(None);
-    }
-    let count = 1u64 << w;
-    if count <= limit as u64 {
-        Ok(Some(below(alloc, count)?))
-    } else {
-        Ok(None)
-    }
-}
-
-/// The numbers below `end`.
-fn below(alloc: Global, end: u64) -> Result<Vec<u64>, NoMemory>
-    ensures { IfOk result (λ v. v.items ≡ range_with_len 0 end) }
-{
-    let mut out = Vec::new(alloc);
-    for n in 0..end {
-        out.push(n)?;
-    }
-    Ok(out)
 }

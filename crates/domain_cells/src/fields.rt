@@ -1,27 +1,16 @@
 //! The fields of states.
 
-ghost use Rattle.std.specs.Prelude.{◌≡◌, ◌≤◌, ◌^◌, IfOk, IsTrue, length, map, slice_get, true};
+ghost use Rattle.std.specs.Prelude.{◌≡◌, ◌≤◌, ◌^◌, IfOk, IsTrue, map, slice_get, true};
 ghost use Rattle.std.specs.List.{list_all};
-ghost use Rattle.spec_ir.specs.Texts.{cases_of};
 ghost use Rattle.spec_ir.specs.Views.{specification};
 ghost use Rattle.semantics_values.specs.Types.{environment_of, key_count};
 ghost use Rattle.domain_laws.specs.States as states;
 ghost use Rattle.domain_laws.specs.States.{is_field, state_types};
 
 use domain_laws::Field;
-use spec_ir::{Spec, Ty};
+use spec_ir::{Spec, Ty, case_count};
 use std::alloc::{AllocError as NoMemory, Global};
 use syntax_lexer::Text;
-
-/// How many constructors a datatype has.
-fn constructors(spec: &Spec, number: u32) -> usize
-    ensures { result ≡ length (cases_of (slice_get (specification spec.now).datas number)) }
-{
-    match spec.datas.get(number as usize) {
-        Some(data) => data.cases.len(),
-        None => 0,
-    }
-}
 
 /// How many keys a type has, where they are at most 2^32.
 fn key_count(spec: &Spec, ty: Ty) -> u64
@@ -30,7 +19,7 @@ fn key_count(spec: &Spec, ty: Ty) -> u64
 {
     match ty {
         Ty::Word(w) => 1 << w,
-        Ty::Data(data) => constructors(spec, data) as u64,
+        Ty::Data(data) => case_count(spec, data) as u64,
         Ty::Bool | Ty::Map(_) => 0,
     }
 }

@@ -9,7 +9,7 @@
 //! goes on gives `State(4100, 5..14, 5..5)`, and that closes to 5..14, 5..5. The counter is dropped: an element has the
 //! address at which it stands.
 //!
-//! *Worlds.* Words of a state value may be forms over the numbers that some cells, the tracked ones, had before the
+//! *Valuations.* Words of a state value may be forms over the numbers that some cells, the tracked ones, had before the
 //! instruction. The valuation of a state is the list of these numbers. What an element opens to describes the state in the valuation
 //! of that state, and what closes describes the next state in the valuation before.
 //!

@@ -40,8 +40,9 @@ fn table_of<A: Described, L: Ledger>(
     ensures closed { IfOk result (λ r. IsClosed (left_open (A.analysis analyser.now)) (listings A.view r.table)) }
     ensures fits { IfOk result (λ r. TableFits (A.analysis analyser.now) (listings A.view r.table)) }
     ensures image { IfOk result (λ r. FitsImage (left_open (A.analysis analyser.now)) (listings A.view r.table)) }
-    ensures one { IfOk result (λ r. steps.new ≡ steps.old + (vec_len r.trace + btree_map_len r.table.blocks)) }
-    ensures most { steps.new ≤ steps.old + (length (A.analysis analyser.now).code * (height_of (A.analysis analyser.now) + (A.analysis analyser.now).joins + 1) + length (A.analysis analyser.now).code) }
+    ensures one { IfOk result (λ r. steps.new ≡ steps.old + vec_len r.trace) }
+    ensures most { steps.new ≤ steps.old + length (A.analysis analyser.now).code *
+        (height_of (A.analysis analyser.now) + (A.analysis analyser.now).joins + 1) }
 {
     let open = LeftOpen { of: analyser };
     match fixpoint_worklist::analyse(alloc, &open, steps) {
@@ -84,11 +85,13 @@ pub fn analyse<A: Described, L: Ledger>(
     requires ready { A.IsReady analyser.now }
     ensures value { IfOk result (λ r. IsReportOf (left_open (A.analysis analyser.now)) A.view r.report) }
     ensures closed { IfOk result (λ r. IsClosedButOpen (A.analysis analyser.now) (listings A.view r.report.table) (get nat_cmp r.endings)) }
-    ensures sound { IfOk result (λ r. IsSoundUntilOpen (A.analysis analyser.now) (A.machine analyser.now) (listings A.view r.report.table) (get nat_cmp r.endings)) }
+    ensures sound { IfOk result (λ r. IsSoundUntilOpen (A.analysis analyser.now) (A.machine analyser.now) (listings A.view r.report.table)
+        (get nat_cmp r.endings)) }
     ensures fits { IfOk result (λ r. TableFits (A.analysis analyser.now) (listings A.view r.report.table)) }
     ensures image { IfOk result (λ r. FitsImage (A.analysis analyser.now) (listings A.view r.report.table)) }
-    ensures count { IfOk result (λ r. steps.new ≤ steps.old + (vec_len r.report.trace + (btree_map_len r.report.table.blocks + btree_map_len r.report.table.blocks))) }
-    ensures most { steps.new ≤ steps.old + (length (A.analysis analyser.now).code * (height_of (A.analysis analyser.now) + (A.analysis analyser.now).joins + 1) + (length (A.analysis analyser.now).code + length (A.analysis analyser.now).code)) }
+    ensures count { IfOk result (λ r. steps.new ≤ steps.old + (vec_len r.report.trace + btree_map_len r.report.table.blocks)) }
+    ensures most { steps.new ≤ steps.old + (length (A.analysis analyser.now).code *
+        (height_of (A.analysis analyser.now) + (A.analysis analyser.now).joins + 1) + length (A.analysis analyser.now).code) }
 {
     let report = table_of(alloc, analyser, steps)?;
     are_few(analyser, &report.table);

@@ -61,7 +61,8 @@ fn ending_of<A: Analyser, L: Ledger>(
     requires ready { A.IsReady analyser.now }
     requires code { IsTrue (is_code (A.analysis analyser.now).code at) }
     requires fits { (A.analysis analyser.now).elements.fits (A.view block.now.elem) }
-    requires tells { all ≡ false → Tells (left_open (A.analysis analyser.now)) (listing A.view block.now) (opened ((A.analysis analyser.now).transfer at (A.view block.now.elem))) }
+    requires tells { all ≡ false → Tells (left_open (A.analysis analyser.now)) (listing A.view block.now)
+        (opened ((A.analysis analyser.now).transfer at (A.view block.now.elem))) }
     ensures value { IfOk result (λ e. e ≡ ending_of ((A.analysis analyser.now).transfer at (A.view block.now.elem))) }
     ensures most { steps.new ≤ steps.old + 1 }
 {

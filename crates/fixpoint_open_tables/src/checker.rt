@@ -81,8 +81,10 @@ where
     requires table { TableFits (A.analysis analyser.now) (listings A.view table.now) }
     requires same { IsIdentity A.Shown.eq }
     ensures value { IfOk result (IsVerdict (A.analysis analyser.now) (listings A.view table.now) (get nat_cmp endings.now)) }
-    ensures accepted { IfOk result (λ v. (v ≡ Verdict.Accepted) ↔ IsClosedButOpen (A.analysis analyser.now) (listings A.view table.now) (get nat_cmp endings.now)) }
-    ensures sound { IfOk result (λ v. v ≡ Verdict.Accepted → IsSoundUntilOpen (A.analysis analyser.now) (A.machine analyser.now) (listings A.view table.now) (get nat_cmp endings.now)) }
+    ensures accepted { IfOk result (λ v. (v ≡ Verdict.Accepted) ↔ IsClosedButOpen (A.analysis analyser.now) (listings A.view table.now)
+        (get nat_cmp endings.now)) }
+    ensures sound { IfOk result (λ v. v ≡ Verdict.Accepted → IsSoundUntilOpen (A.analysis analyser.now) (A.machine analyser.now)
+        (listings A.view table.now) (get nat_cmp endings.now)) }
     ensures most { steps.new ≤ steps.old + (btree_map_len table.now.blocks + btree_map_len table.now.blocks) }
 {
     let verdict = fixpoint_table_check::check(alloc, &LeftOpen { of: analyser }, table, steps)?;

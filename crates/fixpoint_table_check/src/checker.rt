@@ -24,7 +24,8 @@ fn is_entry_open<A: Analyser>(
 ) -> Result<bool, NoMemory>
     requires ready { A.IsReady analyser.now }
     requires table { TableFits (A.analysis analyser.now) (listings A.view table.now) }
-    ensures { IfOk result (λ b. b ≡ is_open (A.analysis analyser.now) (listings A.view table.now) (A.analysis analyser.now).entry (A.analysis analyser.now).start) }
+    ensures { IfOk result (λ b. b ≡ is_open (A.analysis analyser.now) (listings A.view table.now) (A.analysis analyser.now).entry
+        (A.analysis analyser.now).start) }
 {
     let entry = analyser.entry(alloc)?;
     Ok(is_open(analyser, table, &entry, analyser.start()))

@@ -45,7 +45,8 @@ pub(crate) fn fault_of<A: Analyser, L: Ledger>(
     requires table { TableFits (A.analysis analyser.now) (listings A.view table.now) }
     requires code { IsTrue (is_code (A.analysis analyser.now).code at) }
     requires fits { (A.analysis analyser.now).elements.fits (A.view block.now.elem) }
-    ensures value { IfOk result (λ v. v ≡ fault_of (A.analysis analyser.now) (listings A.view table.now) at (listing A.view block.now) ((A.analysis analyser.now).transfer at (A.view block.now.elem))) }
+    ensures value { IfOk result (λ v. v ≡ fault_of (A.analysis analyser.now) (listings A.view table.now) at (listing A.view block.now)
+        ((A.analysis analyser.now).transfer at (A.view block.now.elem))) }
     ensures one { IfOk result (λ v. v ≡ None → steps.new ≡ steps.old + 1) }
     ensures most { steps.new ≤ steps.old + 1 }
 {

@@ -3,5 +3,6 @@ pub mod Finishing
 pub mod Fitting
 pub mod Likeness
 pub mod Pending
+pub mod Settled
 pub mod Tables
 pub mod Traces

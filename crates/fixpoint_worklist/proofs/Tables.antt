@@ -1,6 +1,6 @@
 -- The table of what was reached.
 use Rattle.std.proofs.Common.{◌≡◌, ◌∙◌, ℕ, ◌+◌, ◌≤◌, List, [], ◌∷◌, length, Option, None, Some, IsTrue, arith, inl, inr, nat_cmp, sym, subst, ap, refl}
-use Rattle.std.specs.Prelude.{All, map, option_map}
+use Rattle.std.specs.Prelude.{All, IsSomeAnd, map, option_map}
 use Rattle.std.specs.declared.cmp.Ordering.TheVariants.{Less}
 use Rattle.std.specs.BTreeMap.{BTreeMap, IsOrdered, btree_map_len, get}
 use Rattle.std.specs.List.Sorted.{IsStrictlySortedBy}
@@ -14,23 +14,20 @@ use Rattle.base_trait.specs.Lists.{IsAmong, IsAscending, IsAscendingFrom}
 use Rattle.base_trait.proofs.Lists.{ascending_shorter}
 use Rattle.fixpoint_theory.specs.Analysis.{Analysis, AnalysisLaws}
 use Rattle.fixpoint_theory.specs.Code.{is_code}
-use Rattle.fixpoint_theory.specs.Outcome.{Moves, Outcome, moves, too_many, undecodable}
-use Rattle.fixpoint_theory.specs.WorklistState.{WorklistState, Reached, begin, worklist_state}
+use Rattle.fixpoint_theory.specs.WorklistState.{WorklistState, Reached}
 use Rattle.fixpoint_theory.specs.Table.{IsBlockOf, IsTableOf, Listing, TableFits, Tells}
 use Rattle.fixpoint_theory.specs.Views.{listing, listings}
 use Rattle.fixpoint_theory.specs.declared.table.Block.{Block}
 use Rattle.fixpoint_theory.specs.declared.table.Table.{Table}
-use Rattle.fixpoint_theory.proofs.Closing.{IsAnswered, begin_fine, begin_settled, legal_fine, legal_settled}
 use Rattle.fixpoint_theory.proofs.Bounded.{code_among}
-use Rattle.fixpoint_worklist.specs.Answers.{IsTraceOf}
-use Rattle.fixpoint_worklist.specs.Finishing.{IsMade, IsMadeOf}
+use Rattle.fixpoint_worklist.specs.Finishing.{IsMade, IsMadeOf, told_block}
+use Rattle.fixpoint_worklist.specs.Settled.{IsToldOf, told_listing}
+use Rattle.fixpoint_worklist.specs.declared.place.Told.{Told}
 use Rattle.fixpoint_worklist.specs.Fitting.{AllFit, IsFit}
 use Rattle.fixpoint_worklist.specs.Likeness.{AllLike, IsLike}
-use Rattle.fixpoint_worklist.specs.Views.{IsReached, worklist_state_in, reached_at}
+use Rattle.fixpoint_worklist.specs.Views.{worklist_state_in, reached_at}
 use Rattle.fixpoint_worklist.specs.declared.place.Place.{Place}
 use Rattle.fixpoint_worklist.specs.declared.worklist.Worklist.{Worklist}
-use Rattle.fixpoint_worklist.proofs.Fitting.{fit_if_fine}
-use Rattle.fixpoint_worklist.proofs.Traces.{has_too}
 
 -- ---- few addresses
 ascends_from_sorted : (low : ℕ) (ks : List ℕ) → All (λ k. low ≤ k) ks → IsStrictlySortedBy nat_cmp ks → IsAscendingFrom low ks
@@ -64,64 +61,44 @@ few_places {X} code m ascends sorted inside =
     omega (arith, few, same)
 
 module _ {E P W S : Type 0} (view : E → P) (A : Analysis P W S) (laws : AnalysisLaws A) where
-  answered_moves : (p : WorklistState P) (given : Outcome P W) → IsAnswered A laws p given → Moves given
-  answered_moves p (undecodable w) answered = answered
-  answered_moves p (too_many w us) answered = answered
-  answered_moves p (moves ts post us) answered = tt
-
-  moves_from : (a : ℕ) (x y : Option (Reached P)) (r : Reached P) → IsFit A a x → IsFit A a y → ((s : Reached P) → y ≡ Some s → Moves (A.transfer a s.elem)) → IsLike A x y
-      → x ≡ Some r → Moves (A.transfer a r.elem)
-  moves_from a None y r fx fy has like is = cc
-  moves_from a (Some t) None r fx fy has like is = absurd like
-  moves_from a (Some t) (Some s) r fx fy has like is =
-      let same : t ≡ r = cc in
-      let back = laws.elements.same_back t.elem s.elem like.elem in
-      subst (λ (t : Reached P). Moves (A.transfer a t.elem)) same
-      (has_too A (A.transfer a s.elem) (A.transfer a t.elem) (laws.transfer_same a s.elem t.elem fx.0 fy.1 fx.1 back) (has s refl))
-
-  -- After a complete legal trace each transfer has targets.
-  pub all_move : (p : WorklistState P) (trace : List ℕ) → AllFit A p → IsTraceOf A p trace → (a : ℕ) (r : Reached P) → p a ≡ Some r → Moves (A.transfer a r.elem)
-  all_move p trace fit done a r is =
-      let q = worklist_state A trace in
-      let settled = legal_settled A laws (begin A) trace (begin_fine A laws) (begin_settled A laws) done.legal in
-      let fine = fit_if_fine A laws q (legal_fine A laws (begin A) trace (begin_fine A laws)) in
-      moves_from a (p a) (q a) r (fit a) (fine a) (λ s stands. answered_moves q (A.transfer a s.elem) (settled a s stands (done.complete a s stands))) (done.like a) is
+  told_made : (a : ℕ) (elem : E) (told : Option Told) (made : Option (Block E)) → made ≡ option_map (told_block elem) told
+      → IsSomeAnd told (λ t. Tells A (told_listing (view elem) t) (A.transfer a (view elem))) → IsSomeAnd made (λ b. (view b.elem ≡ view elem) × Tells A (listing view b) (A.transfer a (view elem)))
+  told_made a elem None made is h = absurd h
+  told_made a elem (Some t) made is h = subst (λ m. IsSomeAnd m (λ b. (view b.elem ≡ view elem) × Tells A (listing view b) (A.transfer a (view elem)))) (sym is) (refl, h)
 
   made_table : (a : ℕ) (x : Option (Place E)) (y : Option (Block E)) (z : Option (Reached P)) (reach : Place E → Reached P)
-      → ((p : Place E) → (reach p).elem ≡ view p.elem) → IsMade view A a x y → IsLike A (option_map reach x) z → IsBlockOf A a (option_map (listing view) y) z
-  made_table a None None None reach elems made like = tt
-  made_table a None None (Some s) reach elems made like = like
-  made_table a None (Some b) z reach elems made like = absurd made
-  made_table a (Some p) None z reach elems made like = absurd made
-  made_table a (Some p) (Some b) None reach elems made like = like
-  made_table a (Some p) (Some b) (Some s) reach elems made like = (
-    subst (λ e. A.elements.same e s.elem) (elems p ∙ sym made.elem) like.elem,
-    subst (λ e. Tells A (listing view b) (A.transfer a e)) (sym made.elem) made.tells,
-  )
+      → ((p : Place E) → (reach p).elem ≡ view p.elem) → ((p : Place E) → x ≡ Some p → IsToldOf view A a p) → IsMade x y → IsLike A (option_map reach x) z → IsBlockOf A a (option_map (listing view) y) z
+  made_table a None None None reach elems told made like = tt
+  made_table a None None (Some s) reach elems told made like = like
+  made_table a None (Some b) z reach elems told made like = cc
+  made_table a (Some p) None z reach elems told made like = absurd (told_made a p.elem p.told None made (told p refl))
+  made_table a (Some p) (Some b) None reach elems told made like = like
+  made_table a (Some p) (Some b) (Some s) reach elems told made like =
+      let block = told_made a p.elem p.told (Some b) made (told p refl) in (
+        subst (λ e. A.elements.same e s.elem) (elems p ∙ sym block.0) like.elem,
+        subst (λ e. Tells A (listing view b) (A.transfer a e)) (sym block.0) block.1,
+      )
 
   -- The blocks of what is reached are the table of its worklist state.
-  pub table_made : (w : Worklist E) (t : Table E) (q : WorklistState P) → IsMadeOf view A w.places t.blocks → AllLike A (worklist_state_in view w) q → IsTableOf A (listings view t) q
-  table_made w t q made like a = made_table a (get nat_cmp w.places a) (get nat_cmp t.blocks a) (q a) (reached_at view w.pending a) (λ p. refl) (made a) (like a)
-
-  -- There are few reached addresses.
-  pub few_reached : (w : Worklist E) → AllFit A (worklist_state_in view w) → IsReached w → btree_map_len w.places ≤ length A.code
-  few_reached w fine reached =
-      few_places A.code w.places laws.code.ascends reached.1
-      (λ a p is. let here : IsFit A a (Some (reached_at view w.pending a p)) = subst (IsFit A a) (ap (option_map (reached_at view w.pending a)) is) (fine a) in here.0)
+  pub table_made : (w : Worklist E) (t : Table E) (q : WorklistState P) → ((a : ℕ) (p : Place E) → get nat_cmp w.places a ≡ Some p → IsToldOf view A a p) → IsMadeOf w.places t.blocks
+      → AllLike A (worklist_state_in view w) q → IsTableOf A (listings view t) q
+  table_made w t q told made like a = made_table a (get nat_cmp w.places a) (get nat_cmp t.blocks a) (q a) (reached_at view w.pending a) (λ p. refl) (told a) (made a) (like a)
 
   made_fits : (a : ℕ) (x : Option (Place E)) (y : Option (Block E)) (b : Listing P) → ((p : Place E) → x ≡ Some p → IsTrue (is_code A.code a) × A.elements.fits (view p.elem))
-      → IsMade view A a x y → option_map (listing view) y ≡ Some b → IsTrue (is_code A.code a) × A.elements.fits b.elem
-  made_fits a x None b fine made is = cc
-  made_fits a None (Some c) b fine made is = absurd made
-  made_fits a (Some p) (Some c) b fine made is =
+      → ((p : Place E) → x ≡ Some p → IsToldOf view A a p) → IsMade x y → option_map (listing view) y ≡ Some b → IsTrue (is_code A.code a) × A.elements.fits b.elem
+  made_fits a x None b fine told made is = cc
+  made_fits a None (Some c) b fine told made is = cc
+  made_fits a (Some p) (Some c) b fine told made is =
       let here = fine p refl in
       let one : listing view c ≡ b = cc in
-      let elem : view p.elem ≡ b.elem = sym made.elem ∙ ap (λ (b : Listing P). b.elem) one in
+      let block = told_made a p.elem p.told (Some c) made (told p refl) in
+      let elem : view p.elem ≡ b.elem = sym block.0 ∙ ap (λ (b : Listing P). b.elem) one in
       (here.0, subst A.elements.fits elem here.1)
 
   -- The elements of the table fit.
-  pub table_fits : (w : Worklist E) (t : Table E) → AllFit A (worklist_state_in view w) → IsMadeOf view A w.places t.blocks → TableFits A (listings view t)
-  table_fits w t fine made a b is =
+  pub table_fits : (w : Worklist E) (t : Table E) → AllFit A (worklist_state_in view w) → ((a : ℕ) (p : Place E) → get nat_cmp w.places a ≡ Some p → IsToldOf view A a p) → IsMadeOf w.places t.blocks
+      → TableFits A (listings view t)
+  table_fits w t fine told made a b is =
       made_fits a (get nat_cmp w.places a) (get nat_cmp t.blocks a) b
       (λ p stands. let here : IsFit A a (Some (reached_at view w.pending a p)) = subst (IsFit A a) (ap (option_map (reached_at view w.pending a)) stands) (fine a) in here)
-      (made a) is
+      (told a) (made a) is

@@ -2,5 +2,6 @@ pub mod Answers
 pub mod Finishing
 pub mod Fitting
 pub mod Likeness
+pub mod Settled
 pub mod Steps
 pub mod Views

@@ -1,7 +1,6 @@
 //! Worklist analysis.
 
 ghost use Rattle.std.specs.Prelude.{◌≡◌, ◌+◌, ◌*◌, ◌≤◌, ℕ, List, IfOk, OnOk, vec_len, length};
-ghost use Rattle.std.specs.BTreeMap.{btree_map_len};
 ghost use Rattle.base_trait.specs.Uses.{Seen};
 ghost use Rattle.fixpoint_theory.specs.Analysis.{Analysis, height_of};
 ghost use Rattle.fixpoint_theory.specs.Elements.{Elements};
@@ -12,6 +11,7 @@ ghost use Rattle.fixpoint_theory.specs.Views.{listings};
 ghost use Rattle.fixpoint_worklist.specs.Fitting.{AllFit};
 ghost use Rattle.fixpoint_worklist.specs.Answers.{IsAnswer};
 ghost use Rattle.fixpoint_worklist.specs.Likeness.{AllLike};
+ghost use Rattle.fixpoint_worklist.specs.Settled.{AreSettled};
 ghost use Rattle.fixpoint_worklist.specs.Views.{IsReached, worklist_state_in};
 
 use crate::arrive::arrive;
@@ -32,15 +32,16 @@ fn arrive_at_entry<A: Analyser>(
     requires ready { A.IsReady analyser.now }
     ensures value { IfOk result (λ w. AllLike (A.analysis analyser.now) (worklist_state_in A.view w) (begin (A.analysis analyser.now))) }
     ensures fine { IfOk result (λ w. AllFit (A.analysis analyser.now) (worklist_state_in A.view w)) }
+    ensures settled { IfOk result (AreSettled A.view (A.analysis analyser.now)) }
     ensures reached { IfOk result IsReached }
 {
-    let mut work = empty_worklist(analyser, alloc);
+    let mut work = empty_worklist::<A>(alloc);
     let entry = analyser.entry(alloc)?;
     arrive(analyser, alloc, &mut work, &entry, analyser.start())?;
     Ok(work)
 }
 
-/// Transfers the least pending address until none is pending, and then each reached address once more. What the table
+/// Transfers the least pending address until none is pending. The table lists of each reached address what its last transfer told. What it
 /// says holds of every run of the machine.
 pub fn analyse<A: Described, L: Ledger>(
     alloc: Global,
@@ -53,8 +54,9 @@ pub fn analyse<A: Described, L: Ledger>(
     ensures sound { IfOk result (λ r. IsSoundTable (A.analysis analyser.now) (A.machine analyser.now) (listings A.view r.table)) }
     ensures fits { IfOk result (λ r. TableFits (A.analysis analyser.now) (listings A.view r.table)) }
     ensures image { IfOk result (λ r. FitsImage (A.analysis analyser.now) (listings A.view r.table)) }
-    ensures one { IfOk result (λ r. steps.new ≡ steps.old + (vec_len r.trace + btree_map_len r.table.blocks)) }
-    ensures most { steps.new ≤ steps.old + (length (A.analysis analyser.now).code * (height_of (A.analysis analyser.now) + (A.analysis analyser.now).joins + 1) + length (A.analysis analyser.now).code) }
+    ensures one { IfOk result (λ r. steps.new ≡ steps.old + vec_len r.trace) }
+    ensures most { steps.new ≤ steps.old + length (A.analysis analyser.now).code *
+        (height_of (A.analysis analyser.now) + (A.analysis analyser.now).joins + 1) }
 {
     let mut work = arrive_at_entry(analyser, alloc)?;
     let trace = run(analyser, alloc, &mut work, steps)?;
@@ -62,7 +64,7 @@ pub fn analyse<A: Described, L: Ledger>(
         places,
         pending: _pending,
     } = work;
-    let blocks = blocks_of(analyser, alloc, places, steps)?;
+    let blocks = blocks_of(alloc, places)?;
     Ok(Report {
         table: Table { blocks },
         trace,

@@ -7,6 +7,7 @@ ghost use Rattle.fixpoint_theory.specs.Elements.{Elements};
 ghost use Rattle.fixpoint_theory.specs.WorklistState.{arrive, arrive_all, grown};
 ghost use Rattle.fixpoint_worklist.specs.Fitting.{AllFit};
 ghost use Rattle.fixpoint_worklist.specs.Likeness.{AllLike};
+ghost use Rattle.fixpoint_worklist.specs.Settled.{AreSettled};
 ghost use Rattle.fixpoint_worklist.specs.Views.{IsReached, worklist_state_in};
 
 use crate::place::Place;
@@ -24,7 +25,8 @@ fn grow<A: Analyser>(
     requires ready { A.IsReady analyser.now }
     requires old_fits { (A.analysis analyser.now).elements.fits (A.view old.now.elem) }
     requires new_fits { (A.analysis analyser.now).elements.fits (A.view new.now) }
-    ensures value { IfOk result (λ r. (A.analysis analyser.now).elements.same (A.view r.elem) (grown (A.analysis analyser.now) old.now.changes (A.view old.now.elem) (A.view new.now))) }
+    ensures value { IfOk result (λ r. (A.analysis analyser.now).elements.same (A.view r.elem)
+        (grown (A.analysis analyser.now) old.now.changes (A.view old.now.elem) (A.view new.now))) }
     ensures fits { IfOk result (λ r. (A.analysis analyser.now).elements.fits (A.view r.elem)) }
     ensures changes { IfOk result (λ r. min r.changes (A.analysis analyser.now).joins ≡ min (old.now.changes + 1) (A.analysis analyser.now).joins) }
 {
@@ -32,11 +34,13 @@ fn grow<A: Analyser>(
         Ok(Place {
             elem: analyser.join(alloc, &old.elem, new)?,
             changes: old.changes + 1,
+            told: None,
         })
     } else {
         Ok(Place {
             elem: analyser.widen(alloc, &old.elem, new)?,
             changes: old.changes,
+            told: None,
         })
     }
 }
@@ -52,25 +56,33 @@ pub(crate) fn arrive<A: Analyser>(
     requires ready { A.IsReady analyser.now }
     requires reached { IsReached work.old }
     requires fine { AllFit (A.analysis analyser.now) (worklist_state_in A.view work.old) }
+    requires settled { AreSettled A.view (A.analysis analyser.now) work.old }
     requires fits { (A.analysis analyser.now).elements.fits (A.view new.now) }
-    ensures value { OnOk result (AllLike (A.analysis analyser.now) (worklist_state_in A.view work.new) (arrive (A.analysis analyser.now) (A.view new.now) (worklist_state_in A.view work.old) at)) }
+    ensures value { OnOk result (AllLike (A.analysis analyser.now) (worklist_state_in A.view work.new)
+        (arrive (A.analysis analyser.now) (A.view new.now) (worklist_state_in A.view work.old) at)) }
     ensures fine { OnOk result (AllFit (A.analysis analyser.now) (worklist_state_in A.view work.new)) }
+    ensures settled { OnOk result (AreSettled A.view (A.analysis analyser.now) work.new) }
     ensures reached { OnOk result (IsReached work.new) }
 {
     if !analyser.is_code(at) {
         return Ok(());
     }
-    match place_at(analyser, work, at) {
+    match place_at::<A>(work, at) {
         None => {
             let elem = analyser.copy(alloc, new)?;
-            put_pending(analyser, work, at, Place { elem, changes: 1 })
+            let place = Place {
+                elem,
+                changes: 1,
+                told: None,
+            };
+            put_pending::<A>(work, at, place)
         }
         Some(old) => {
             if analyser.absorbs(&old.elem, new) {
                 return Ok(());
             }
             let place = grow(analyser, alloc, old, new)?;
-            put_pending(analyser, work, at, place)
+            put_pending::<A>(work, at, place)
         }
     }
 }
@@ -86,9 +98,12 @@ pub(crate) fn arrive_at_all<A: Analyser>(
     requires ready { A.IsReady analyser.now }
     requires reached { IsReached work.old }
     requires fine { AllFit (A.analysis analyser.now) (worklist_state_in A.view work.old) }
+    requires settled { AreSettled A.view (A.analysis analyser.now) work.old }
     requires fits { (A.analysis analyser.now).elements.fits (A.view new.now) }
-    ensures value { OnOk result (AllLike (A.analysis analyser.now) (worklist_state_in A.view work.new) (arrive_all (A.analysis analyser.now) (Some (A.view new.now)) targets.now (worklist_state_in A.view work.old))) }
+    ensures value { OnOk result (AllLike (A.analysis analyser.now) (worklist_state_in A.view work.new)
+        (arrive_all (A.analysis analyser.now) (Some (A.view new.now)) targets.now (worklist_state_in A.view work.old))) }
     ensures fine { OnOk result (AllFit (A.analysis analyser.now) (worklist_state_in A.view work.new)) }
+    ensures settled { OnOk result (AreSettled A.view (A.analysis analyser.now) work.new) }
     ensures reached { OnOk result (IsReached work.new) }
 {
     for to in targets {

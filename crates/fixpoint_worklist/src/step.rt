@@ -4,47 +4,56 @@ ghost use Rattle.std.specs.Prelude.{◌≡◌, ◌+◌, ◌≤◌, ℕ, List, So
 ghost use Rattle.base_trait.specs.Uses.{Seen};
 ghost use Rattle.fixpoint_theory.specs.Analysis.{Analysis};
 ghost use Rattle.fixpoint_theory.specs.Outcome.{Moves};
+ghost use Rattle.fixpoint_theory.specs.Table.{Tells};
 ghost use Rattle.fixpoint_theory.specs.Elements.{Elements};
 ghost use Rattle.fixpoint_theory.specs.WorklistState.{Reached, arrive_all, changed, done, transferred};
 ghost use Rattle.fixpoint_theory.specs.Views.{outcome};
 ghost use Rattle.fixpoint_worklist.specs.Fitting.{AllFit};
 ghost use Rattle.fixpoint_worklist.specs.Likeness.{AllLike};
+ghost use Rattle.fixpoint_worklist.specs.Settled.{AreSettled, told_listing};
 ghost use Rattle.fixpoint_worklist.specs.Steps.{IsMove, IsStepped};
 ghost use Rattle.fixpoint_worklist.specs.Views.{IsReached, worklist_state_in};
 
 use crate::arrive::arrive_at_all;
+use crate::place::Told;
 use crate::worklist::{Worklist, finish, place_at};
 use crate::worklist_step::WorklistStep;
-use fixpoint_theory::{Analyser, Targets, Transfer, Transferred};
+use fixpoint_theory::{Analyser, Targets, Transfer, Transferred, exits_of, next_of};
 use std::alloc::{AllocError as NoMemory, Global};
 use std::sync::ledger::Ledger;
 use support_step_counter::Steps;
 
-/// An address is no longer pending, and the post element arrives at the targets.
+/// An address is no longer pending, this was told of its element, and the post element arrives at the targets.
 fn send<A: Analyser>(
     analyser: &A,
     alloc: Global,
     work: &mut Worklist<A::Element>,
     at: u32,
     targets: &[u32],
+    told: Told,
     post: Option<A::Element>,
 ) -> Result<(), NoMemory>
     requires ready { A.IsReady analyser.now }
     requires reached { IsReached work.old }
     requires fine { AllFit (A.analysis analyser.now) (worklist_state_in A.view work.old) }
+    requires settled { AreSettled A.view (A.analysis analyser.now) work.old }
+    requires told { IfSome (worklist_state_in A.view work.old at)
+        (λ r. Tells (A.analysis analyser.now) (told_listing r.elem told) ((A.analysis analyser.now).transfer at r.elem)) }
     requires fits { IfSome post (λ x. (A.analysis analyser.now).elements.fits (A.view x)) }
-    ensures value { OnOk result (AllLike (A.analysis analyser.now) (worklist_state_in A.view work.new) (arrive_all (A.analysis analyser.now) (option_map A.view post) targets.now (changed at done (worklist_state_in A.view work.old)))) }
+    ensures value { OnOk result (AllLike (A.analysis analyser.now) (worklist_state_in A.view work.new)
+        (arrive_all (A.analysis analyser.now) (option_map A.view post) targets.now (changed at done (worklist_state_in A.view work.old)))) }
     ensures fine { OnOk result (AllFit (A.analysis analyser.now) (worklist_state_in A.view work.new)) }
+    ensures settled { OnOk result (AreSettled A.view (A.analysis analyser.now) work.new) }
     ensures reached { OnOk result (IsReached work.new) }
 {
-    finish(analyser, work, at);
+    finish::<A>(work, at, told);
     match post {
         None => Ok(()),
         Some(post) => arrive_at_all(analyser, alloc, work, &post, targets),
     }
 }
 
-/// Transfers what stands at an address, which is then no longer pending, and the post element arrives.
+/// Transfers what stands at an address, which is then no longer pending, and the post element arrives. What the transfer told is kept.
 pub(crate) fn step<A: Analyser, L: Ledger>(
     analyser: &A,
     alloc: Global,
@@ -55,20 +64,22 @@ pub(crate) fn step<A: Analyser, L: Ledger>(
     requires ready { A.IsReady analyser.now }
     requires reached { IsReached work.old }
     requires fine { AllFit (A.analysis analyser.now) (worklist_state_in A.view work.old) }
+    requires settled { AreSettled A.view (A.analysis analyser.now) work.old }
     requires stands { (r : Reached A.Plain) × (worklist_state_in A.view work.old at ≡ Some r) }
     ensures value { IfOk result (λ s. IsStepped (A.analysis analyser.now) (worklist_state_in A.view work.old) (worklist_state_in A.view work.new) at s) }
     ensures fine { OnOk result (AllFit (A.analysis analyser.now) (worklist_state_in A.view work.new)) }
+    ensures settled { OnOk result (AreSettled A.view (A.analysis analyser.now) work.new) }
     ensures reached { OnOk result (IsReached work.new) }
     ensures one { IfOk result (λ s. IsMove s → steps.new ≡ steps.old + 1) }
     ensures most { steps.new ≤ steps.old + 1 }
 {
-    let Some(place) = place_at(analyser, work, at) else {
+    let Some(place) = place_at::<A>(work, at) else {
         unreachable!();
     };
     let Transfer {
         targets,
         post,
-        uses: _uses,
+        uses,
     } = match analyser.transfer(alloc, at, &place.elem, steps)? {
         Transferred::Undecodable { word } => return Ok(WorklistStep::Undecodable { word }),
         Transferred::Made(made) => made,
@@ -77,6 +88,9 @@ pub(crate) fn step<A: Analyser, L: Ledger>(
         Targets::Many { shown } => return Ok(WorklistStep::TooMany { shown }),
         Targets::List(targets) => targets,
     };
-    send(analyser, alloc, work, at, &targets, post)?;
+    let next = next_of(analyser, alloc, &targets)?;
+    let exits = exits_of(analyser, alloc, &targets)?;
+    let told = Told { next, exits, uses };
+    send(analyser, alloc, work, at, &targets, told, post)?;
     Ok(WorklistStep::Moved)
 }

@@ -3,8 +3,8 @@
 use crate::element_cells::{span_of_words, words_of};
 use std::alloc::{AllocError, Global};
 
-/// An entry at an address that has each state of an element, and maybe more: what the lines of an entry cannot say of a cell, it leaves open. `cells` are
-/// the counter of the states, and then their fields, of a map `NAME[*]`.
+/// An entry at an address that has each state of an element, and maybe more: what the lines of an entry cannot say of a cell, it leaves
+/// open. `cells` are the counter of the states, and then their fields, of a map `NAME[*]`.
 pub fn entry_of(
     alloc: Global,
     cells: &[String],

@@ -31,8 +31,8 @@ module _ (spec : Spec) (image : Image) where
   spec_is (Check start table) = refl
   spec_is (CheckOpen start table) = refl
   spec_is (Convert table) = refl
-  spec_is (Slice start table at cell) = refl
-  spec_is (SliceOpen start table at cell) = refl
+  spec_is (Slice start table criterion) = refl
+  spec_is (SliceOpen start table criterion) = refl
   spec_is (Claims start table list) = refl
   spec_is (ClaimsOpen start table list) = refl
 

@@ -42,7 +42,7 @@ use Rattle.text_elements.specs.Parts.{AffineText, CellsText, ElementText, PairTe
 use Rattle.text_lines.specs.Lines.{Lines}
 use Rattle.text_element_readers.specs.Reading.{AffineRead, CellsRead, ElementReading, PairRead, both, no_first, no_second}
 use Rattle.text_element_readers.specs.Words.{affine_word, cells_word, pair_word}
-use Rattle.text_table_reader_laws.proofs.Views.{error_seen, open_table_seen, table_seen}
+use Rattle.text_table_reader.proofs.Views.{error_seen, open_table_seen, table_seen}
 use Rattle.fixpoint_open_tables.specs.Endings.{Endings}
 use Rattle.fixpoint_open_tables.specs.declared.ending.Ending.{Ending}
 use Rattle.text_tables.specs.Open as opened

@@ -30,7 +30,7 @@ use support_command_line::BaseName;
 use support_step_counter::Steps;
 use text_elements::NamedBase;
 
-/// Over cells.
+/// What is asked, where an element is a word of one base for each cell.
 fn over_cells<'a, 'b, A: NamedBase, L: Ledger>(
     alloc: Global,
     it: &Subject<'a>,
@@ -39,13 +39,15 @@ fn over_cells<'a, 'b, A: NamedBase, L: Ledger>(
 ) -> Result<Answer, Halt<'b>>
     requires may_A { IsTrue (A.algebra.joins && not A.algebra.words.looks) }
     requires asked { IsAsked (specification it.now.spec.now) it.now.task }
-    ensures gives { Gives (Comes (cells_of (state_type (specification it.now.spec.now)) A.algebra A.shared A.CAP A.named A.texts A.readings) it.now.image.now (base_text base) (task_of (specification it.now.spec.now) it.now.image.now it.now.task)) answer_of result }
-    ensures work { IsWork (cells_of (state_type (specification it.now.spec.now)) A.algebra A.shared A.CAP A.named A.texts A.readings) it.now.image.now (base_text base) (task_of (specification it.now.spec.now) it.now.image.now it.now.task) steps.old steps.new }
+    ensures gives { Gives (Comes (cells_of (state_type (specification it.now.spec.now)) A.algebra A.shared A.CAP A.named A.texts A.readings)
+        it.now.image.now (base_text base) (task_of (specification it.now.spec.now) it.now.image.now it.now.task)) answer_of result }
+    ensures work { IsWork (cells_of (state_type (specification it.now.spec.now)) A.algebra A.shared A.CAP A.named A.texts A.readings)
+        it.now.image.now (base_text base) (task_of (specification it.now.spec.now) it.now.image.now it.now.task) steps.old steps.new }
 {
     in_domain::<StateDomain<A>, L>(alloc, it, base, steps)
 }
 
-/// Over two kinds of cells.
+/// What is asked, where an element is a pair of words of two bases for each cell.
 fn over_both<'a, 'b, A: NamedBase, B: NamedBase, L: Ledger>(
     alloc: Global,
     it: &Subject<'a>,
@@ -56,13 +58,17 @@ fn over_both<'a, 'b, A: NamedBase, B: NamedBase, L: Ledger>(
     requires may_B { IsTrue (B.algebra.joins && not B.algebra.words.looks) }
     requires pair { IsTrue (may_pair A.algebra B.algebra) }
     requires asked { IsAsked (specification it.now.spec.now) it.now.task }
-    ensures gives { Gives (Comes (pair_of (cells_of (state_type (specification it.now.spec.now)) A.algebra A.shared A.CAP A.named A.texts A.readings) (cells_of (state_type (specification it.now.spec.now)) B.algebra B.shared B.CAP B.named B.texts B.readings)) it.now.image.now (base_text base) (task_of (specification it.now.spec.now) it.now.image.now it.now.task)) answer_of result }
-    ensures work { IsWork (pair_of (cells_of (state_type (specification it.now.spec.now)) A.algebra A.shared A.CAP A.named A.texts A.readings) (cells_of (state_type (specification it.now.spec.now)) B.algebra B.shared B.CAP B.named B.texts B.readings)) it.now.image.now (base_text base) (task_of (specification it.now.spec.now) it.now.image.now it.now.task) steps.old steps.new }
+    ensures gives { Gives (Comes (pair_of (cells_of (state_type (specification it.now.spec.now)) A.algebra A.shared A.CAP A.named A.texts A.readings)
+        (cells_of (state_type (specification it.now.spec.now)) B.algebra B.shared B.CAP B.named B.texts B.readings)) it.now.image.now
+        (base_text base) (task_of (specification it.now.spec.now) it.now.image.now it.now.task)) answer_of result }
+    ensures work { IsWork (pair_of (cells_of (state_type (specification it.now.spec.now)) A.algebra A.shared A.CAP A.named A.texts A.readings)
+        (cells_of (state_type (specification it.now.spec.now)) B.algebra B.shared B.CAP B.named B.texts B.readings)) it.now.image.now
+        (base_text base) (task_of (specification it.now.spec.now) it.now.image.now it.now.task) steps.old steps.new }
 {
     in_domain::<PairDomain<StateDomain<A>, StateDomain<B>>, L>(alloc, it, base, steps)
 }
 
-/// Over affine relations.
+/// What is asked, where an element is the affine relations among the tracked cells.
 fn over_relations<'a, 'b, L: Ledger>(
     alloc: Global,
     it: &Subject<'a>,
@@ -70,13 +76,15 @@ fn over_relations<'a, 'b, L: Ledger>(
     steps: &mut Steps<L>,
 ) -> Result<Answer, Halt<'b>>
     requires asked { IsAsked (specification it.now.spec.now) it.now.task }
-    ensures gives { Gives (Comes (relations (state_type (specification it.now.spec.now))) it.now.image.now (base_text base) (task_of (specification it.now.spec.now) it.now.image.now it.now.task)) answer_of result }
-    ensures work { IsWork (relations (state_type (specification it.now.spec.now))) it.now.image.now (base_text base) (task_of (specification it.now.spec.now) it.now.image.now it.now.task) steps.old steps.new }
+    ensures gives { Gives (Comes (relations (state_type (specification it.now.spec.now))) it.now.image.now (base_text base)
+        (task_of (specification it.now.spec.now) it.now.image.now it.now.task)) answer_of result }
+    ensures work { IsWork (relations (state_type (specification it.now.spec.now))) it.now.image.now (base_text base)
+        (task_of (specification it.now.spec.now) it.now.image.now it.now.task) steps.old steps.new }
 {
     in_domain::<AffineDomain, L>(alloc, it, base, steps)
 }
 
-/// Over cells, and affine relations.
+/// What is asked, where an element is a pair of cells and of relations. Of what decides for a pair the cells come first.
 fn over_cells_and_relations<'a, 'b, A: NamedBase, L: Ledger>(
     alloc: Global,
     it: &Subject<'a>,
@@ -86,13 +94,17 @@ fn over_cells_and_relations<'a, 'b, A: NamedBase, L: Ledger>(
     requires may_A { IsTrue (A.algebra.joins && not A.algebra.words.looks) }
     requires pair { IsTrue (may_pair A.algebra affine) }
     requires asked { IsAsked (specification it.now.spec.now) it.now.task }
-    ensures gives { Gives (Comes (pair_of (cells_of (state_type (specification it.now.spec.now)) A.algebra A.shared A.CAP A.named A.texts A.readings) (relations (state_type (specification it.now.spec.now)))) it.now.image.now (base_text base) (task_of (specification it.now.spec.now) it.now.image.now it.now.task)) answer_of result }
-    ensures work { IsWork (pair_of (cells_of (state_type (specification it.now.spec.now)) A.algebra A.shared A.CAP A.named A.texts A.readings) (relations (state_type (specification it.now.spec.now)))) it.now.image.now (base_text base) (task_of (specification it.now.spec.now) it.now.image.now it.now.task) steps.old steps.new }
+    ensures gives { Gives (Comes (pair_of (cells_of (state_type (specification it.now.spec.now)) A.algebra A.shared A.CAP A.named A.texts A.readings)
+        (relations (state_type (specification it.now.spec.now)))) it.now.image.now (base_text base)
+        (task_of (specification it.now.spec.now) it.now.image.now it.now.task)) answer_of result }
+    ensures work { IsWork (pair_of (cells_of (state_type (specification it.now.spec.now)) A.algebra A.shared A.CAP A.named A.texts A.readings)
+        (relations (state_type (specification it.now.spec.now)))) it.now.image.now (base_text base)
+        (task_of (specification it.now.spec.now) it.now.image.now it.now.task) steps.old steps.new }
 {
     in_domain::<PairDomain<StateDomain<A>, AffineDomain>, L>(alloc, it, base, steps)
 }
 
-/// Over affine relations, and cells.
+/// What is asked, where an element is a pair of relations and of cells. Of what decides for a pair the relations come first.
 fn over_relations_and_cells<'a, 'b, B: NamedBase, L: Ledger>(
     alloc: Global,
     it: &Subject<'a>,
@@ -102,8 +114,12 @@ fn over_relations_and_cells<'a, 'b, B: NamedBase, L: Ledger>(
     requires may_B { IsTrue (B.algebra.joins && not B.algebra.words.looks) }
     requires pair { IsTrue (may_pair affine B.algebra) }
     requires asked { IsAsked (specification it.now.spec.now) it.now.task }
-    ensures gives { Gives (Comes (pair_of (relations (state_type (specification it.now.spec.now))) (cells_of (state_type (specification it.now.spec.now)) B.algebra B.shared B.CAP B.named B.texts B.readings)) it.now.image.now (base_text base) (task_of (specification it.now.spec.now) it.now.image.now it.now.task)) answer_of result }
-    ensures work { IsWork (pair_of (relations (state_type (specification it.now.spec.now))) (cells_of (state_type (specification it.now.spec.now)) B.algebra B.shared B.CAP B.named B.texts B.readings)) it.now.image.now (base_text base) (task_of (specification it.now.spec.now) it.now.image.now it.now.task) steps.old steps.new }
+    ensures gives { Gives (Comes (pair_of (relations (state_type (specification it.now.spec.now)))
+        (cells_of (state_type (specification it.now.spec.now)) B.algebra B.shared B.CAP B.named B.texts B.readings)) it.now.image.now
+        (base_text base) (task_of (specification it.now.spec.now) it.now.image.now it.now.task)) answer_of result }
+    ensures work { IsWork (pair_of (relations (state_type (specification it.now.spec.now)))
+        (cells_of (state_type (specification it.now.spec.now)) B.algebra B.shared B.CAP B.named B.texts B.readings)) it.now.image.now
+        (base_text base) (task_of (specification it.now.spec.now) it.now.image.now it.now.task) steps.old steps.new }
 {
     in_domain::<PairDomain<AffineDomain, StateDomain<B>>, L>(alloc, it, base, steps)
 }

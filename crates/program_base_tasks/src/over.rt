@@ -51,11 +51,11 @@ fn do_task<'a, 'b, D: NamedDomain, L: Ledger>(
             alloc, domain, it, start, base, bytes, steps,
         ),
         DomainTask::Convert(bytes) => convert_in_domain::<D>(alloc, domain, it, base, bytes),
-        DomainTask::Slice(start, bytes, at, cell) => slice_in_domain::<D, L>(
-            alloc, domain, it, start, base, bytes, *at, *cell, steps,
+        DomainTask::Slice(start, bytes, criterion) => slice_in_domain::<D, L>(
+            alloc, domain, it, start, base, bytes, *criterion, steps,
         ),
-        DomainTask::SliceOpen(start, bytes, at, cell) => slice_open_in_domain::<D, L>(
-            alloc, domain, it, start, base, bytes, *at, *cell, steps,
+        DomainTask::SliceOpen(start, bytes, criterion) => slice_open_in_domain::<D, L>(
+            alloc, domain, it, start, base, bytes, *criterion, steps,
         ),
         DomainTask::Claims(start, bytes, list) => claims_in_domain::<D, L>(
             alloc, domain, it, start, base, bytes, list, steps,

@@ -67,6 +67,26 @@ no_other_fault old new (Err (Refused (ClaimsRefused fault))) same = same
 no_other_fault old new (Err (Refused (Rejected rejection))) same = same
 no_other_fault old new (Err NoMemory) same = same
 
+-- none but that of what stopped a step, behind one in which none was counted
+pub stopped_fault : (A B : Type 0) (old mid new : InputState) (halt : Halt) → mid.faults ≡ old.faults → NoOtherFault {A = A} mid new (Err halt) → NoOtherFault {A = B} old new (Err halt)
+stopped_fault A B old mid new (Refused BadWords) calm p = p ∙ calm
+stopped_fault A B old mid new (Refused (CannotRead name)) calm p = tt
+stopped_fault A B old mid new (Refused (TooLong name)) calm p = p ∙ calm
+stopped_fault A B old mid new (Refused (SpecRefused fault)) calm p = p ∙ calm
+stopped_fault A B old mid new (Refused (CodeRefused fault)) calm p = p ∙ calm
+stopped_fault A B old mid new (Refused (EntryRefused fault)) calm p = p ∙ calm
+stopped_fault A B old mid new (Refused CallsSpent) calm p = p ∙ calm
+stopped_fault A B old mid new (Refused (UndecodableAt at word)) calm p = p ∙ calm
+stopped_fault A B old mid new (Refused (TooManyTargets at shown)) calm p = p ∙ calm
+stopped_fault A B old mid new (Refused (TableRefused fault)) calm p = p ∙ calm
+stopped_fault A B old mid new (Refused (ClaimsRefused fault)) calm p = p ∙ calm
+stopped_fault A B old mid new (Refused (Rejected rejection)) calm p = p ∙ calm
+stopped_fault A B old mid new NoMemory calm p = p ∙ calm
+
+pub later_fault : {A : Type 0} (old mid new : InputState) (end : Result A Halt) → mid.faults ≡ old.faults → NoOtherFault mid new end → NoOtherFault old new end
+later_fault old mid new (Ok found) calm p = p ∙ calm
+later_fault {A = A} old mid new (Err halt) calm p = stopped_fault A A old mid new halt calm p
+
 -- of one input
 pub taken_alone : (old new : InputState) (name : List ℕ) (cap : ℕ) → new.name ≡ name → IsSomeAnd (old.held name) (λ bytes. TakesAtMost (cap + 1) bytes new.left) → IsTakenFrom ((name, cap) ∷ []) old new
 taken_alone old new name cap is takes =

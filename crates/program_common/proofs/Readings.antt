@@ -1,6 +1,6 @@
 -- Inputs that are read one after another.
 use Rattle.std.proofs.Common.{◌≡◌, ◌⊎◌, inl, inr, ℕ, ◌+◌, ◌<◌, Bool, List, ◌++◌, IsTrue, length, refl, sym, ◌∙◌, ap, subst, arith}
-use Rattle.std.specs.Prelude.{IsSomeAnd, Result, Ok, Err}
+use Rattle.std.specs.Prelude.{IsErr, IsErrAnd, IsSomeAnd, Result, Ok, Err}
 use Rattle.std.specs.Bool.{IsFalse}
 use Rattle.std.proofs.lemmas.List.Elements.{Contains-append_left, Contains-append_right}
 use Rattle.support_io.specs.Faults.{RoseByOne}
@@ -8,8 +8,11 @@ use Rattle.support_io.specs.InputState.{InputState, InputsKept}
 use Rattle.support_io.specs.WholeRead.{TakesAtMost}
 use Rattle.support_command_line.specs.SpecNames.{SpecName, input, power_pc, risc_v}
 use Rattle.program_common.specs.Outcome.{Refusal}
-use Rattle.program_common.specs.Reading.{Capped, Gave, Held, IsTakenFrom, Reading, whole, long, unread}
+use Rattle.program_common.specs.declared.outcome.Halt.{Halt}
+use Rattle.program_common.specs.Faultless.{NoOtherFault}
+use Rattle.program_common.specs.Reading.{Capped, Gave, Held, IsTakenFrom, Reading, ReadsOnly, Took, whole, long, unread}
 use Rattle.program_common.specs.Sources.{SourceOf, source_cap}
+use Rattle.program_common.proofs.Giving.{later_fault, no_other_fault, stopped_fault}
 
 -- Each thing that the one gives the other gives too.
 abbrev pub IsWider : Reading → Reading → Type 0
@@ -69,10 +72,6 @@ module _ (xs ys : List Capped) (old mid new : InputState) where
     taken = subst (λ (h : Held). IsSomeAnd (h new.name) (λ bytes. TakesAtMost (p.cap + 1) bytes new.left)) kept.held p.taken;
   }
 
--- Nothing was done, or what was taken is of the input that is open.
-abbrev pub Took : {T : Type 0} → (T → InputState) → List Capped → T → T → Type 0
-Took state xs old new = (new ≡ old) ⊎ (IsTrue (state new).is_open → IsTakenFrom xs (state old) (state new))
-
 -- one reader after another
 pub took_both : {T : Type 0} (state : T → InputState) (xs ys : List Capped) (old mid new : T) → InputsKept (state old) (state mid)
     → (IsTrue (state old).tells → Took state xs old mid) → (IsTrue (state mid).tells → Took state ys mid new) → IsTrue (state old).tells → Took state (xs ++ ys) old new
@@ -94,3 +93,42 @@ took_first {T = T} state xs ys old new first told = by (first told)
     by : Took state xs old new → Took state (xs ++ ys) old new
     by (inl none) = inl none
     by (inr taken) = inr (λ is_open. taken_first xs ys (state old) (state new) (state new) (taken is_open))
+
+-- ---- what functions that read do to the inputs
+
+module _ {T : Type 0} (state : T → InputState) where
+  -- one that read one input
+  pub reads_one : {A : Type 0} (xs : List Capped) (old new : T) (result : Result A Halt) → InputsKept (state old) (state new) → NoOtherFault (state old) (state new) result
+      → (IsTrue (state old).tells → IsTrue (state new).is_open → IsTakenFrom xs (state old) (state new)) → ReadsOnly state xs old new result
+  reads_one xs old new result kept calm taken = record { kept = kept; no_other_fault = calm; taken = λ told. inr (taken told) }
+
+  -- one that read, and then another step, which reads nothing
+  pub reads_still : {A B : Type 0} (xs : List Capped) (old new : T) (found : A) (result : Result B Halt) → ReadsOnly state xs old new (Ok found) → ReadsOnly state xs old new result
+  reads_still xs old new found result p = record { kept = p.kept; no_other_fault = no_other_fault (state old) (state new) result p.no_other_fault; taken = p.taken }
+
+  -- what stops one is passed on
+  pub reads_stopped : {A B : Type 0} (xs : List Capped) (old new : T) (halt : Halt) (result : Result B Halt) → IsErr result × IsErrAnd result (λ e. e ≡ halt)
+      → ReadsOnly {A = A} state xs old new (Err halt) → ReadsOnly state xs old new result
+  reads_stopped xs old new halt (Ok found) is p = absurd is.1
+  reads_stopped {A = A} {B = B} xs old new halt (Err e) is p = record {
+    kept = p.kept;
+    no_other_fault = subst (λ (h : Halt). NoOtherFault {A = B} (state old) (state new) (Err h)) (sym is.1) (stopped_fault A B (state old) (state old) (state new) halt refl p.no_other_fault);
+    taken = p.taken;
+  }
+
+  -- of the same inputs
+  pub reads_same : {A : Type 0} (xs ys : List Capped) (old new : T) (result : Result A Halt) → xs ≡ ys → ReadsOnly state xs old new result → ReadsOnly state ys old new result
+  reads_same xs ys old new result same p = subst (λ (inputs : List Capped). ReadsOnly state inputs old new result) same p
+
+  -- one that reads of some inputs reads of more
+  pub reads_first : {A : Type 0} (xs ys : List Capped) (old new : T) (result : Result A Halt) → ReadsOnly state xs old new result → ReadsOnly state (xs ++ ys) old new result
+  reads_first xs ys old new result p = record { kept = p.kept; no_other_fault = p.no_other_fault; taken = took_first state xs ys old new p.taken }
+
+  -- one after another
+  pub reads_both : {A B : Type 0} (xs ys : List Capped) (old mid new : T) (found : A) (result : Result B Halt) → ReadsOnly state xs old mid (Ok found) → ReadsOnly state ys mid new result
+      → ReadsOnly state (xs ++ ys) old new result
+  reads_both xs ys old mid new found result p q = record {
+    kept = kept_both (state old) (state mid) (state new) p.kept q.kept;
+    no_other_fault = later_fault (state old) (state mid) (state new) result p.no_other_fault q.no_other_fault;
+    taken = took_both state xs ys old mid new p.kept p.taken q.taken;
+  }

@@ -1,9 +1,11 @@
 -- What inputs give, and how much is taken of them.
-use Rattle.std.specs.Prelude.{◌≡◌, ℕ, ◌+◌, ◌<◌, ◌≤◌, List, Option, Some, None, Result, Ok, Err, IsTrue, IsSomeAnd, Contains, length}
+use Rattle.std.specs.Prelude.{◌≡◌, ◌⊎◌, ℕ, ◌+◌, ◌<◌, ◌≤◌, List, Option, Some, None, Result, Ok, Err, IsTrue, IsSomeAnd, Contains, length}
 use Rattle.std.specs.Bool.{IsFalse}
 use Rattle.support_io.specs.Faults.{RoseByOne}
-use Rattle.support_io.specs.InputState.{InputState}
+use Rattle.support_io.specs.InputState.{InputState, InputsKept}
 use Rattle.support_io.specs.WholeRead.{TakesAtMost}
+use Rattle.program_common.specs.declared.outcome.Halt.{Halt}
+use Rattle.program_common.specs.Faultless.{NoOtherFault}
 use Rattle.program_common.specs.Outcome.{Refusal, cannot_read, too_long}
 
 -- what a name gives under a cap of bytes
@@ -41,3 +43,17 @@ pub record IsTakenFrom (inputs : List Capped) (old new : InputState) : Type 0 wh
   pub cap : ℕ
   pub named : Contains inputs (new.name, cap)
   pub taken : IsSomeAnd (old.held new.name) (λ bytes. TakesAtMost (cap + 1) bytes new.left)
+
+-- Nothing was done to the inputs; or the one that is open is one of these, and no more was taken of it.
+abbrev pub Took : {T : Type 0} → (T → InputState) → List Capped → T → T → Type 0
+Took state inputs old new = (new ≡ old) ⊎ (IsTrue (state new).is_open → IsTakenFrom inputs (state old) (state new))
+
+-- What a function that ends so did to the inputs: it read of these, each up to its cap, and no more.
+pub record ReadsOnly {T A : Type 0} (state : T → InputState) (inputs : List Capped) (old new : T) (result : Result A Halt) : Type 0 where
+  -- The inputs hold what they held, and no fault that was counted is forgotten.
+  pub kept : InputsKept (state old) (state new)
+  -- No fault was counted, unless the answer is that an input could not be read.
+  pub no_other_fault : NoOtherFault (state old) (state new) result
+  -- Where the inputs tell their bytes, they stand as they stood, or the open one is one of these, and at most one byte past its cap
+  -- was taken of it.
+  pub taken : IsTrue (state old).tells → Took state inputs old new

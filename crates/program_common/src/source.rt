@@ -1,12 +1,12 @@
 //! Inputs as a whole, and from the name of a specification to the checked specification.
 
-ghost use Rattle.std.specs.Prelude.{◌≡◌, ◌≤◌, ◌<◌, ◌^◌, ◌⊎◌, [], ◌∷◌, IfOk, IsTrue, length};
+ghost use Rattle.std.specs.Prelude.{◌≡◌, ◌≤◌, ◌<◌, ◌^◌, [], ◌∷◌, IfOk, IsTrue, length};
 ghost use Rattle.spec_ir.specs.Views.{specification};
 ghost use Rattle.support_io.specs.InputState.{InputsKept};
 ghost use Rattle.support_command_line.specs.Views.{spec_of};
 ghost use Rattle.program_common.specs.Faultless.{NoOtherFault};
 ghost use Rattle.program_common.specs.Outcomes.{Gives};
-ghost use Rattle.program_common.specs.Reading.{Gave, IsTakenFrom};
+ghost use Rattle.program_common.specs.Reading.{Gave, IsTakenFrom, ReadsOnly};
 ghost use Rattle.program_common.specs.Shipped.{power_pc_text, risc_v_text};
 ghost use Rattle.program_common.specs.Sources.{SourceOf, Specifies, source_cap, source_inputs};
 
@@ -27,14 +27,10 @@ pub fn source_of<'a, I: Inputs>(
     inputs: &mut I,
     spec: SpecName<'a>,
 ) -> Result<Vec<u8>, Halt<'a>>
-    ensures kept { InputsKept (I.state inputs.old) (I.state inputs.new) }
+    ensures reads { ReadsOnly I.state (source_inputs (spec_of spec.entry)) inputs.old inputs.new result }
     ensures gives { Gives (SourceOf (Gave (I.state inputs.old) (I.state inputs.new)) (spec_of spec.entry))
         (λ source. source.items) result }
     ensures cap { IfOk result (λ source. length source.items ≤ source_cap) }
-    ensures no_other_fault { NoOtherFault (I.state inputs.old) (I.state inputs.new) result }
-    ensures taken { IsTrue (I.state inputs.old).tells → (inputs.new ≡ inputs.old)
-        ⊎ (IsTrue (I.state inputs.new).is_open
-        → IsTakenFrom (source_inputs (spec_of spec.entry)) (I.state inputs.old) (I.state inputs.new)) }
 {
     match spec {
         SpecName::Input(name) => read_input(alloc, inputs, name, SOURCE_CAP),

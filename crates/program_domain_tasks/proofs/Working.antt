@@ -24,7 +24,7 @@ use Rattle.text_table_reader.specs.Blocks.{AreRead, BlockRead, block, listings_o
 use Rattle.text_table_reader.specs.Ends.{is_word_of}
 use Rattle.text_table_reader.specs.Starts.{address_from, at_said, read_at, read_at_of, with_lines}
 use Rattle.text_table_reader.specs.Tables.{IsOpenTableIn, IsTableIn}
-use Rattle.text_table_reader_laws.proofs.Views.{seen_listing, table_seen}
+use Rattle.text_table_reader.proofs.Views.{seen_listing, table_seen}
 use Rattle.program_domains.specs.Work.{IsWorkOn}
 use Rattle.program_domain_tasks.specs.Own.{Own, as_defined}
 use Rattle.fixpoint_worklist.proofs.Tables.{few_places}

@@ -18,7 +18,7 @@ use Rattle.text_element_readers.specs.Words.{WordReading}
 use Rattle.text_faults.specs.declared.table_error.TableError.{TableError}
 use Rattle.fixpoint_open_tables.specs.Endings.{Endings}
 use Rattle.text_table_reader.specs.Tables.{IsErrorIn, IsOpenTableIn, IsTableIn}
-use Rattle.text_table_reader_laws.specs.Readings.{IsFirstOpen}
+use Rattle.text_table_reader.specs.Readings.{IsFirstOpen}
 use Rattle.text_tables.specs.Open.{IsOpenTableText}
 use Rattle.fixpoint_theory.specs.Verdicts.{verdict_of}
 use Rattle.fixpoint_theory.specs.declared.verdict.Verdict.{Verdict}

@@ -10,7 +10,7 @@ use Rattle.code_image.specs.Image.{Image}
 use Rattle.analysis_problems.specs.Problems.{problem_of}
 use Rattle.analysis_transfer_laws.specs.Problem.{Problem}
 use Rattle.program_domains.specs.Tasks as asked
-use Rattle.program_table_inputs.specs.Entry.{IsEntry}
+use Rattle.program_machine.specs.AnalysisEntry.{IsEntry}
 use Rattle.fixpoint_worklist.specs.declared.report.AnalyseError.{AnalyseError}
 use Rattle.fixpoint_worklist.specs.declared.report.AnalyseError.TheVariants as stop
 use Rattle.program_common.specs.Outcome.{Answer, text}
@@ -46,8 +46,8 @@ task_of spec image (Measure start) = asked.measure (problem_at spec image start)
 task_of spec image (Check start table) = asked.check (problem_at spec image start) table.now
 task_of spec image (CheckOpen start table) = asked.check_open (problem_at spec image start) table.now
 task_of spec image (Convert table) = asked.convert spec table.now
-task_of spec image (Slice start table at cell) = asked.slice (problem_at spec image start) table.now at cell
-task_of spec image (SliceOpen start table at cell) = asked.slice_open (problem_at spec image start) table.now at cell
+task_of spec image (Slice start table criterion) = asked.slice (problem_at spec image start) table.now criterion.at criterion.cell
+task_of spec image (SliceOpen start table criterion) = asked.slice_open (problem_at spec image start) table.now criterion.at criterion.cell
 task_of spec image (Claims start table claims) = asked.claims (problem_at spec image start) table.now claims.now
 task_of spec image (ClaimsOpen start table claims) = asked.claims_open (problem_at spec image start) table.now claims.now
 
@@ -59,8 +59,8 @@ IsAsked spec (Measure start) = IsRead spec start.machine (entry_of start.entry.n
 IsAsked spec (Check start table) = IsRead spec start.machine (entry_of start.entry.now) × (length table.now < 2 ^ 32)
 IsAsked spec (CheckOpen start table) = IsRead spec start.machine (entry_of start.entry.now) × (length table.now < 2 ^ 32)
 IsAsked spec (Convert table) = IsMachine spec × (length table.now < 2 ^ 32)
-IsAsked spec (Slice start table at cell) = IsRead spec start.machine (entry_of start.entry.now) × (length table.now < 2 ^ 32)
-IsAsked spec (SliceOpen start table at cell) = IsRead spec start.machine (entry_of start.entry.now) × (length table.now < 2 ^ 32)
+IsAsked spec (Slice start table criterion) = IsRead spec start.machine (entry_of start.entry.now) × (length table.now < 2 ^ 32)
+IsAsked spec (SliceOpen start table criterion) = IsRead spec start.machine (entry_of start.entry.now) × (length table.now < 2 ^ 32)
 IsAsked spec (Claims start table claims) = IsRead spec start.machine (entry_of start.entry.now) × (length table.now < 2 ^ 32) × (length claims.now < 2 ^ 32 - 1)
 IsAsked spec (ClaimsOpen start table claims) = IsRead spec start.machine (entry_of start.entry.now) × (length table.now < 2 ^ 32) × (length claims.now < 2 ^ 32 - 1)
 

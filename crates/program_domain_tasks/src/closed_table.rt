@@ -10,7 +10,7 @@ ghost use Rattle.domain_laws.specs.States.{has_states};
 ghost use Rattle.text_table_reader.specs.Blocks.{BlocksFit};
 ghost use Rattle.text_table_reader.specs.Ends.{is_word_of};
 ghost use Rattle.text_table_reader.specs.Tables.{IsTableIn};
-ghost use Rattle.text_table_reader_laws.specs.Readings.{IsFirstOpen};
+ghost use Rattle.text_table_reader.specs.Readings.{IsFirstOpen};
 ghost use Rattle.program_common.specs.Outcomes.{Stops};
 ghost use Rattle.program_domain_tasks.specs.Own.{OwnRefuses};
 

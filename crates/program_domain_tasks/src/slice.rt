@@ -13,7 +13,7 @@ ghost use Rattle.program_domain_tasks.specs.Read.{IsRead, IsTextOf, problem_at};
 ghost use Rattle.program_domain_tasks.specs.Slices.{OwnSlices};
 
 use crate::closed_table::read_closed;
-use crate::task::{AnalysisStart, Subject};
+use crate::task::{AnalysisStart, SliceCriterion, Subject};
 use crate::verdict::{require_closed, verdict_in};
 use analysis_slices::slice;
 use fixpoint_theory::Table;
@@ -61,19 +61,18 @@ pub fn slice_in_domain<'a, 'b, D: NamedDomain, L: Ledger>(
     start: &AnalysisStart<'a>,
     base: BaseName,
     bytes: &[u8],
-    at: u32,
-    cell: SliceCell,
+    criterion: SliceCriterion,
     steps: &mut Steps<L>,
 ) -> Result<Answer, Halt<'b>>
     requires joins { IsTrue D.B.algebra.joins }
     requires made { IsTrue (D.is_for domain.now (specification it.now.spec.now)) }
     requires read { IsRead (specification it.now.spec.now) start.now.machine (entry_of start.now.entry.now) }
     requires short { length bytes.now < 2 ^ 32 }
-    ensures gives { Gives (OwnSlices (record { base = D.B.algebra; cap = D.B.CAP; elements = D.elements domain.now; meaning = D.meaning domain.now; view = D.view; IsText = D.IsText; Reads = D.Reads domain.now; word_in = D.word_in domain.now; word_text = D.word_text }) (problem_at (specification it.now.spec.now) it.now.image.now start.now) it.now.image.now (base_text base) bytes.now at cell) answer_of result }
-    ensures work { OwnWork (record { base = D.B.algebra; cap = D.B.CAP; elements = D.elements domain.now; meaning = D.meaning domain.now; view = D.view; IsText = D.IsText; Reads = D.Reads domain.now; word_in = D.word_in domain.now; word_text = D.word_text }) it.now.image.now (base_text base) (asked.slice (problem_at (specification it.now.spec.now) it.now.image.now start.now) bytes.now at cell) steps.old steps.new }
+    ensures gives { Gives (OwnSlices (record { base = D.B.algebra; cap = D.B.CAP; elements = D.elements domain.now; meaning = D.meaning domain.now; view = D.view; IsText = D.IsText; Reads = D.Reads domain.now; word_in = D.word_in domain.now; word_text = D.word_text }) (problem_at (specification it.now.spec.now) it.now.image.now start.now) it.now.image.now (base_text base) bytes.now criterion.at criterion.cell) answer_of result }
+    ensures work { OwnWork (record { base = D.B.algebra; cap = D.B.CAP; elements = D.elements domain.now; meaning = D.meaning domain.now; view = D.view; IsText = D.IsText; Reads = D.Reads domain.now; word_in = D.word_in domain.now; word_text = D.word_text }) it.now.image.now (base_text base) (asked.slice (problem_at (specification it.now.spec.now) it.now.image.now start.now) bytes.now criterion.at criterion.cell) steps.old steps.new }
 {
     let table = read_closed::<D>(alloc, domain, it, base, bytes)?;
     let verdict = verdict_in::<D, L>(alloc, domain, it, start, &table, steps)?;
     require_closed::<D>(alloc, &verdict)?;
-    Ok(slice_answer(alloc, it.spec, &table, at, cell)?)
+    Ok(slice_answer(alloc, it.spec, &table, criterion.at, criterion.cell)?)
 }

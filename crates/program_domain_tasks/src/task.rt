@@ -15,6 +15,13 @@ pub struct AnalysisStart<'a> {
     pub joins: u32,
 }
 
+/// What a slice is of: the reads of a cell by the instruction at an address.
+#[derive(Clone, Copy)]
+pub struct SliceCriterion {
+    pub at: u32,
+    pub cell: SliceCell,
+}
+
 /// What is asked.
 #[derive(Clone, Copy)]
 pub enum DomainTask<'a> {
@@ -30,10 +37,10 @@ pub enum DomainTask<'a> {
     CheckOpen(AnalysisStart<'a>, &'a [u8]),
     /// The table that a text is, written in format 2.
     Convert(&'a [u8]),
-    /// The slice of the table that a text is, for the reads of a cell by the instruction at an address.
-    Slice(AnalysisStart<'a>, &'a [u8], u32, SliceCell),
+    /// The slice of the table that a text is, for a criterion.
+    Slice(AnalysisStart<'a>, &'a [u8], SliceCriterion),
     /// The same, where blocks may be left open.
-    SliceOpen(AnalysisStart<'a>, &'a [u8], u32, SliceCell),
+    SliceOpen(AnalysisStart<'a>, &'a [u8], SliceCriterion),
     /// The answers of the table that a text is to the claims that another is.
     Claims(AnalysisStart<'a>, &'a [u8], &'a [u8]),
     /// The same, where blocks may be left open.

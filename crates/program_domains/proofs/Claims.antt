@@ -19,8 +19,8 @@ use Rattle.text_claims.specs.Laws.{IsReadClaim}
 use Rattle.text_claims.specs.Reading.{has_word, read}
 use Rattle.text_claims.proofs.Fitting.{read_claims_fit}
 use Rattle.text_table_reader.specs.Tables.{IsTableIn}
-use Rattle.text_table_reader_laws.specs.Readings.{AreAlike, AreAlikeAt}
-use Rattle.text_table_reader_laws.proofs.Errors.{tables_are_alike}
+use Rattle.text_table_reader.specs.Readings.{AreAlike, AreAlikeAt}
+use Rattle.text_table_reader.proofs.Errors.{tables_are_alike}
 use Rattle.analysis_transfer_laws.specs.Problem.{IsWellFormedProblem, Problem}
 use Rattle.program_common.specs.Outcome.{Answer, Outcome, Refusal, claims_refused, text}
 use Rattle.program_domains.specs.Analyses.{analysis}

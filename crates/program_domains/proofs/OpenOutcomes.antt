@@ -13,7 +13,7 @@ use Rattle.fixpoint_open_tables.specs.Endings.{Endings, IsClosedButOpen, ending_
 use Rattle.fixpoint_open_tables.specs.Instance.{left_open_laws}
 use Rattle.fixpoint_open_tables.specs.LeftOpen.{ending_of, left_open, opened}
 use Rattle.fixpoint_open_tables.proofs.Soundness.{open_tables_are_sound}
-use Rattle.text_table_reader_laws.specs.Readings.{AreAlike}
+use Rattle.text_table_reader.specs.Readings.{AreAlike}
 use Rattle.semantics_values.specs.States.{State}
 use Rattle.analysis_transfer_laws.specs.Analysis.{machine_of}
 use Rattle.analysis_transfer_laws.specs.OpenRuns.{IsTrueUntilOpen}

@@ -12,16 +12,16 @@ use Rattle.fixpoint_open_tables.specs.Endings.{Endings, IsNowhereOpen}
 use Rattle.fixpoint_open_tables.proofs.Verdicts.{accepted_are_closed_but_open}
 use Rattle.text_faults.specs.declared.table_error.TableError.{TableError}
 use Rattle.text_table_reader.specs.Tables.{IsErrorIn, IsOpenTableIn, IsTableIn}
-use Rattle.text_table_reader_laws.specs.Readings.{AreAlike, IsFirstOpen}
-use Rattle.text_table_reader_laws.proofs.Errors.{IsSomething, errors_are_one, open_tables_are_alike, open_tables_have_no_error, open_tables_or_errors, read_open_tables_fit}
-use Rattle.text_table_reader_laws.proofs.FirstOpen.{closed_or_open}
+use Rattle.text_table_reader.specs.Readings.{AreAlike, IsFirstOpen}
+use Rattle.text_table_reader.proofs.Errors.{IsSomething, errors_are_one, open_tables_are_alike, open_tables_have_no_error, open_tables_or_errors, read_open_tables_fit}
+use Rattle.text_table_reader.proofs.FirstOpen.{closed_or_open}
 use Rattle.analysis_transfer_laws.specs.Problem.{IsWellFormedProblem, Problem}
 use Rattle.analysis_transfer_laws.proofs.OpenRuns.{open_truth_is_truth}
 use Rattle.program_common.specs.Outcome.{Answer, Outcome, table_refused, text}
 use Rattle.program_domains.specs.Analyses.{analysis}
 use Rattle.program_domains.specs.Checks.{IsAccepted, accepted_line, outcome_of}
 use Rattle.program_domains.specs.Domains.{DomainOf}
-use Rattle.program_domains.specs.Laws.{ClosedChecksAreOpen, HasWordsOf, OpenChecksAreOne, OpenChecksHaveSome}
+use Rattle.program_domains.specs.Laws.{HasWordsOf, OpenChecksAreOne, OpenChecksHaveSome}
 use Rattle.program_domains.specs.Named.{AcceptedOpen, CheckedOpen, domain_of}
 use Rattle.program_domains.specs.OpenChecks.{IsOpenAccepted, IsOpenJudged, JudgesOpen, judged, refused}
 use Rattle.program_domains.specs.Until.{IsSomewhereOpen}
@@ -31,7 +31,6 @@ use Rattle.program_domains.proofs.Lawful.{IsLawful}
 use Rattle.program_domains.proofs.OpenOutcomes.{open_true}
 use Rattle.program_domains.proofs.OpenVerdicts.{closed_is_accepted, one_verdict_of_both, read_verdict}
 use Rattle.program_domains.proofs.Ready.{keeps_the_laws}
-use Rattle.program_domains.proofs.Verdicts.{answers_accept}
 
 module _ {E W N C : Type 0} (domain : DomainOf E W N C) (p : Problem) (lawful : IsLawful domain p.spec) (image : Image) (base bytes : List ℕ) where
   -- ---- what is read
@@ -127,11 +126,6 @@ pub open_checks_have_some : OpenChecksHaveSome
 open_checks_have_some image p base bytes posed words =
     let any = domain_of (state_type p.spec) base in
     open_judged_some any.domain p (known_is_lawful base any.domain p.spec (known image p base posed)) image (base_text base) bytes posed (words_are_decided (state_type p.spec) base) words
-
-pub closed_checks_are_open : ClosedChecksAreOpen
-closed_checks_are_open image p base bytes accepted posed is =
-    let any = domain_of (state_type p.spec) base in
-    closed_answer_is_judged any.domain p (known_is_lawful base any.domain p.spec (known image p base posed)) image (base_text base) bytes posed (text accepted) (answers_accept image p base bytes (text accepted) is)
 
 -- ---- where a table is accepted
 

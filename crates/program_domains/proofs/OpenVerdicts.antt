@@ -25,7 +25,7 @@ use Rattle.text_element_readers.specs.Words.{WordReading}
 use Rattle.text_table_reader.specs.Blocks.{listings_of}
 use Rattle.text_table_reader.specs.Endings.{endings_in}
 use Rattle.text_table_reader.specs.Tables.{IsOpenTableIn}
-use Rattle.text_table_reader_laws.specs.Readings.{AreAlike}
+use Rattle.text_table_reader.specs.Readings.{AreAlike}
 use Rattle.analysis_transfer_laws.specs.Problem.{IsWellFormedProblem, Problem}
 use Rattle.program_domains.specs.Analyses.{analysis}
 use Rattle.program_domains.specs.Domains.{DomainOf}

@@ -9,7 +9,7 @@ use Rattle.fixpoint_theory.proofs.One.{legal_traces_are_one}
 use Rattle.fixpoint_theory.proofs.Potential.{legal_traces_are_short}
 use Rattle.fixpoint_theory.proofs.Tables.{full_traces_close, tables_are_one}
 use Rattle.fixpoint_worklist.specs.Answers.{IsStopOf}
-use Rattle.text_table_reader_laws.specs.Readings.{AreAlike}
+use Rattle.text_table_reader.specs.Readings.{AreAlike}
 use Rattle.analysis_transfer_laws.specs.Problem.{IsWellFormedProblem, Problem}
 use Rattle.program_common.specs.Outcome as o
 use Rattle.program_common.specs.Outcome.{Outcome, Refusal, text}

@@ -15,8 +15,8 @@ use Rattle.text_faults.specs.declared.table_error.TableError.{TableError}
 use Rattle.fixpoint_open_tables.specs.Endings.{Endings}
 use Rattle.text_table_reader.specs.Tables.{IsErrorIn, IsOpenTableIn, IsTableIn}
 use Rattle.text_tables.specs.Open.{IsOpenTableText}
-use Rattle.text_table_reader_laws.specs.Readings.{AreAlike}
-use Rattle.text_table_reader_laws.proofs.Errors.{errors_are_one, open_tables_are_alike, open_tables_have_no_error, open_tables_or_errors, read_tables_fit, tables_are_alike}
+use Rattle.text_table_reader.specs.Readings.{AreAlike}
+use Rattle.text_table_reader.proofs.Errors.{errors_are_one, open_tables_are_alike, open_tables_have_no_error, open_tables_or_errors, read_tables_fit, tables_are_alike}
 use Rattle.analysis_transfer_laws.specs.Problem.{IsWellFormedProblem, Problem}
 use Rattle.program_common.specs.Outcome.{Outcome, Refusal, table_refused, text}
 use Rattle.program_domains.specs.Analyses.{analysis}

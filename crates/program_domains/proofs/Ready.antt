@@ -1,5 +1,6 @@
 -- The analysis of a well-posed problem in a lawful domain keeps the laws of analyses, and its closed tables are true.
 use Rattle.std.proofs.Common.{ℕ, List, inl}
+use Rattle.base_trait.specs.Precision.{joined_turns, unrolled_turns}
 use Rattle.support_tail_fixpoint.specs.declared.policy.Policy.TheVariants.{Widen}
 use Rattle.abstract_value_laws.specs.Abs.{Abs}
 use Rattle.abstract_semantics.specs.Answers.{Answer}
@@ -25,7 +26,7 @@ module _ {E W N C : Type 0} (domain : DomainOf E W N C) (p : Problem) (lawful : 
     joins = lawful.joins;
     posed = posed;
     domain = lawful.keeps;
-    right = λ at. answers_are_right domain.base lawful.laws p.spec domain.meaning.context domain.cap at (Widen 64 2) posed.accepted (inl lawful.joins) tt lawful.joins;
+    right = λ at. answers_are_right domain.base lawful.laws p.spec domain.meaning.context domain.cap at (Widen unrolled_turns joined_turns) posed.accepted (inl lawful.joins) tt lawful.joins;
   }
 
   pub keeps_the_laws : AnalysisLaws (analysis domain p)

@@ -8,9 +8,9 @@ use Rattle.fixpoint_theory.specs.Table.{Listings}
 use Rattle.fixpoint_open_tables.specs.Endings.{Endings}
 use Rattle.text_faults.specs.declared.table_error.TableError.{TableError}
 use Rattle.text_table_reader.specs.Tables.{IsErrorIn, IsOpenTableIn, IsTableIn}
-use Rattle.text_table_reader_laws.specs.Readings.{IsFirstOpen}
-use Rattle.text_table_reader_laws.proofs.Errors.{errors_are_one, open_tables_are_alike, open_tables_have_no_error, open_tables_or_errors}
-use Rattle.text_table_reader_laws.proofs.FirstOpen.{closed_or_open}
+use Rattle.text_table_reader.specs.Readings.{IsFirstOpen}
+use Rattle.text_table_reader.proofs.Errors.{errors_are_one, open_tables_are_alike, open_tables_have_no_error, open_tables_or_errors}
+use Rattle.text_table_reader.proofs.FirstOpen.{closed_or_open}
 use Rattle.program_common.specs.Outcome.{Refusal, rejected, table_refused}
 use Rattle.program_common.specs.declared.rejection.Rejection.TheVariants as r
 use Rattle.program_domains.specs.Domains.{DomainOf}

@@ -18,8 +18,8 @@ use Rattle.analysis_query_laws.proofs.Slices.{slices_hold_chains}
 use Rattle.analysis_query_laws.proofs.There.{slices_are_there}
 use Rattle.text_slices.specs.declared.slice_cell.SliceCell.{SliceCell}
 use Rattle.text_slices.specs.Writing.{slice_text}
-use Rattle.text_table_reader_laws.specs.Readings.{AreAlike, AreAlikeAt}
-use Rattle.text_table_reader_laws.proofs.Errors.{tables_are_alike}
+use Rattle.text_table_reader.specs.Readings.{AreAlike, AreAlikeAt}
+use Rattle.text_table_reader.proofs.Errors.{tables_are_alike}
 use Rattle.analysis_transfer_laws.specs.Problem.{IsWellFormedProblem, Problem}
 use Rattle.program_common.specs.Outcome.{Answer, Outcome, Refusal, text}
 use Rattle.program_domains.specs.Analyses.{analysis}

@@ -8,7 +8,7 @@ use Rattle.fixpoint_theory.specs.Table.{AreSameBlocks, AreSameTables, Listing, L
 use Rattle.text_tables.specs.Blocks.{at_line, end_lines}
 use Rattle.text_tables.specs.Heads.{head}
 use Rattle.text_tables.specs.Tables.{AreBlocks, IsAt, IsTableText, none, onto}
-use Rattle.text_table_reader_laws.specs.Readings.{AreAlike, AreAlikeAt}
+use Rattle.text_table_reader.specs.Readings.{AreAlike, AreAlikeAt}
 
 -- Each element has a text.
 abbrev pub EachHasText : {E : Type 0} → (E → List ℕ → Type 0) → Type 0

@@ -17,7 +17,7 @@ use Rattle.fixpoint_theory.specs.Table.{Listings}
 use Rattle.fixpoint_open_tables.specs.Endings.{Endings}
 use Rattle.text_tables.specs.Open.{IsOpenTableText}
 use Rattle.text_tables.specs.Tables.{IsTableText}
-use Rattle.text_table_reader_laws.specs.Readings.{AreAlike}
+use Rattle.text_table_reader.specs.Readings.{AreAlike}
 use Rattle.analysis_transfer_laws.specs.Problem.{IsWellFormedProblem, Problem}
 use Rattle.text_slices.specs.declared.slice_cell.SliceCell.{SliceCell}
 use Rattle.program_common.specs.Outcome.{Outcome, text}

@@ -6,7 +6,7 @@ use Rattle.fixpoint_theory.specs.Table.{Listings}
 use Rattle.fixpoint_open_tables.specs.Endings.{Endings}
 use Rattle.text_faults.specs.declared.table_error.TableError.{TableError}
 use Rattle.text_table_reader.specs.Tables.{IsErrorIn, IsOpenTableIn}
-use Rattle.text_table_reader_laws.specs.Readings.{IsFirstOpen}
+use Rattle.text_table_reader.specs.Readings.{IsFirstOpen}
 use Rattle.program_common.specs.Outcome.{Refusal, rejected, table_refused}
 use Rattle.program_common.specs.declared.rejection.Rejection.TheVariants as r
 use Rattle.program_domains.specs.Domains.{DomainOf}

@@ -16,10 +16,9 @@ use Rattle.program_domains.specs.Named.{domain_of}
 use Rattle.program_domains.specs.Tasks.{Task, analyse, analyse_open, check, check_open, claims, claims_open, convert, measure, slice, slice_open, spec_of}
 
 module _ {E W N C : Type 0} (domain : DomainOf E W N C) where
-  -- Of N code words and elements of the height H an analysis makes at most N(H + J + 1), where J changes of an element join; and one for each block of
-  -- its table, of which there are at most N.
+  -- Of N code words and elements of the height H an analysis makes at most N(H + J + 1), where J changes of an element join.
   abbrev pub analysis_work : Problem → ℕ
-  analysis_work p = length p.addresses * (height_of (analysis domain p) + p.joins + 1) + length p.addresses
+  analysis_work p = length p.addresses * (height_of (analysis domain p) + p.joins + 1)
 
   module _ (image : Image) (base : List ℕ) where
     -- From so many to so many, where a text is to be a table: none was made, or the text is one, and at most one was made for each address that it lists.

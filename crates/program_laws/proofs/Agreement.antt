@@ -22,8 +22,8 @@ use Rattle.analysis_table_laws.proofs.Tables.{tables_are_printable}
 use Rattle.text_faults.specs.declared.table_error.TableError.{TableError}
 use Rattle.text_table_reader.specs.Ends.{is_word_of}
 use Rattle.text_table_reader.specs.Tables.{IsOpenTableIn, IsTableIn}
-use Rattle.text_table_reader_laws.specs.Readings.{AreAlike}
-use Rattle.text_table_reader_laws.proofs.Errors.{open_tables_are_alike, open_tables_have_no_error}
+use Rattle.text_table_reader.specs.Readings.{AreAlike}
+use Rattle.text_table_reader.proofs.Errors.{open_tables_are_alike, open_tables_have_no_error}
 use Rattle.fixpoint_open_tables.specs.Endings.{Endings}
 use Rattle.text_tables.specs.Open.{IsOpenTableText}
 use Rattle.text_round_trips.specs.TableLaws.{HasParts}

@@ -33,14 +33,14 @@ use Rattle.program_common.specs.Outcome.{Answer, line_of}
 use Rattle.program_common.specs.Reading.{Holds}
 use Rattle.program_common.specs.Sources.{IsSpecification, SourceOf, Specifies}
 use Rattle.program_common.proofs.Steps.{opened}
-use Rattle.program_emulate.specs.Code.{CodeOf}
-use Rattle.program_emulate.specs.Entry.{StartOf}
-use Rattle.program_emulate.specs.Machines.{MachineOf}
-use Rattle.program_emulate.specs.Running.{IsRunOf, answer_of, end_of}
-use Rattle.program_emulate.proofs.Cells.{fields_of_states}
-use Rattle.program_emulate.proofs.Chains.{AfterCode, AfterMachine, AfterStart}
-use Rattle.program_emulate.proofs.Giving.{specified_accepted}
-use Rattle.program_emulate.proofs.Typing.{start_typed}
+use Rattle.program_machine.specs.Code.{CodeOf}
+use Rattle.program_machine.specs.Entry.{StartOf}
+use Rattle.program_machine.specs.Machines.{MachineOf}
+use Rattle.program_machine.specs.Running.{IsRunOf, answer_of, end_of}
+use Rattle.program_machine.proofs.Cells.{fields_of_states}
+use Rattle.program_machine.proofs.Chains.{AfterCode, AfterMachine, AfterStart}
+use Rattle.program_machine.proofs.Giving.{specified_accepted}
+use Rattle.program_machine.proofs.Typing.{start_typed}
 use Rattle.program_laws.specs.Laws.{EmulateReadsBack}
 
 -- ---- a run does no more steps than it may

@@ -11,7 +11,7 @@ use Rattle.code_image.specs.Faults.{image_fault}
 use Rattle.code_image.specs.Image.{Image, Segment, code_at, has_word, image_of, placed, placed_all, word_in, word_of}
 use Rattle.program_common.specs.Reading.{Capped, Held, Holds, whole}
 use Rattle.program_common.specs.Steps.{goes_on}
-use Rattle.program_emulate.specs.Code.{CodeOf, Joins, SegmentsOf, code_cap, imaged, order_of, part_inputs}
+use Rattle.program_machine.specs.Code.{CodeOf, Joins, SegmentsOf, code_cap, imaged, order_of, part_inputs}
 use Rattle.text_round_trips.specs.OpenAnalyses.{HasCodeWords}
 use Rattle.program_run.proofs.Others.{only}
 use Rattle.program_laws.specs.AgreementLaws.{AreBytes}

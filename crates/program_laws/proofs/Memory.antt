@@ -9,10 +9,10 @@ use Rattle.program_common.specs.Outcome.{Outcome, line_of, status_of, text}
 use Rattle.program_common.specs.Reading.{Held, Holds}
 use Rattle.program_common.specs.Steps.{goes_on}
 use Rattle.std.specs.Prelude.{Option}
-use Rattle.program_table_inputs.specs.Inputs.{table_cap}
+use Rattle.program_machine.specs.Inputs.{table_cap}
 use Rattle.program_domains.specs.Checks.{accepted_line}
-use Rattle.program_tables.specs.Steps.{AnalyseSteps}
-use Rattle.program_tables.proofs.Problems.{open_tabled_is, tabled_is}
+use Rattle.program_analyses.specs.Steps.{AnalyseSteps}
+use Rattle.program_analyses.proofs.Problems.{open_tabled_is, tabled_is}
 use Rattle.program_run.specs.Owed.{IsOwed, Owes, OwesLonger}
 use Rattle.program_run.specs.Steps.{Steps}
 use Rattle.program_run.specs.Tables.{IsOpenTableFor, IsTableFor}

@@ -8,7 +8,7 @@ use Rattle.fixpoint_open_tables.specs.Endings.{Endings}
 use Rattle.fixpoint_open_tables.specs.declared.ending.Ending.{Ending}
 use Rattle.text_tables.specs.Heads.{head}
 use Rattle.text_tables.specs.Open.{AreOpenBlocks, IsOpenAt, IsOpenTableText, ending_text, none, onto}
-use Rattle.text_table_reader_laws.specs.Readings.{AreAlike, AreAlikeAt}
+use Rattle.text_table_reader.specs.Readings.{AreAlike, AreAlikeAt}
 use Rattle.program_domains.proofs.Texts.{HaveOneText, one_block}
 
 module _ {E W S : Type 0} (D : Elements E S) (word_text : ℕ → W → List ℕ) (IsElement : E → List ℕ → Type 0) (spec : Spec) (one : HaveOneText IsElement D.same) where

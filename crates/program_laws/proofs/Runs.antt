@@ -14,28 +14,28 @@ use Rattle.analysis_problems.proofs.States.{accepted_have_states}
 use Rattle.text_round_trips.specs.Fields.{HasUseTexts}
 use Rattle.text_round_trips.proofs.Machines.{machines_have_use_texts}
 use Rattle.domain_laws.specs.States.{has_states}
-use Rattle.program_emulate.specs.Code.{CodeOf, part_inputs}
-use Rattle.program_emulate.specs.Entry.{entry_cap}
-use Rattle.program_emulate.specs.Machines.{MachineOf}
+use Rattle.program_machine.specs.Code.{CodeOf, part_inputs}
+use Rattle.program_machine.specs.Entry.{entry_cap}
+use Rattle.program_machine.specs.Machines.{MachineOf}
 use Rattle.program_common.specs.Outcome.{Outcome, Refusal, text}
 use Rattle.program_common.specs.Reading.{Capped, Held, Holds, Reading, long, none, whole}
 use Rattle.program_common.specs.Sources.{source_inputs}
 use Rattle.program_common.specs.Steps.{Then, goes_on, refused}
 use Rattle.program_common.proofs.OneSource.{one_held}
 use Rattle.program_common.proofs.Steps.{Fails, opened}
-use Rattle.program_table_inputs.specs.Inputs.{CodeInputs, CodedOf, AnalysisInputs, PosedOf, coded_inputs, table_cap}
-use Rattle.program_table_inputs.proofs.Images.{code_image}
-use Rattle.program_table_inputs.proofs.Problems.{coded_parts, machine_accepted, machine_there, posed_parts, some_machine}
-use Rattle.program_table_inputs.proofs.Single.{one_coded}
+use Rattle.program_machine.specs.Inputs.{CodeInputs, CodedOf, AnalysisInputs, PosedOf, coded_inputs, table_cap}
+use Rattle.program_machine.proofs.Images.{code_image}
+use Rattle.program_machine.proofs.Problems.{coded_parts, machine_accepted, machine_there, posed_parts, some_machine}
+use Rattle.program_machine.proofs.InputSingle.{one_coded}
 use Rattle.program_domains.specs.Checks.{accepted_line}
 use Rattle.program_domains.specs.Named.{Converted, Done}
 use Rattle.program_domains.specs.Tasks.{Task}
 use Rattle.program_domains.specs.Tasks as tasks
-use Rattle.program_tables.specs.Problems.{problem_in}
-use Rattle.program_tables.specs.Steps.{AnalyseSteps, AnalysisOf, CheckSteps, ConversionOf, ConvertSteps, OpenTabledBy, TabledBy}
-use Rattle.program_tables.proofs.Chains.{table_behind}
-use Rattle.program_tables.proofs.One.{check_has_one}
-use Rattle.program_tables.proofs.Problems.{closed_is, is_open_tabled, is_tabled, open_is, read_is_well_posed}
+use Rattle.program_analyses.specs.Problems.{problem_in}
+use Rattle.program_analyses.specs.Steps.{AnalyseSteps, AnalysisOf, CheckSteps, ConversionOf, ConvertSteps, OpenTabledBy, TabledBy}
+use Rattle.program_analyses.proofs.Chains.{table_behind}
+use Rattle.program_analyses.proofs.One.{check_has_one}
+use Rattle.program_analyses.proofs.Problems.{closed_is, is_open_tabled, is_tabled, open_is, read_is_well_posed}
 use Rattle.program_run.specs.Owed.{IsOwed}
 use Rattle.program_run.specs.Steps.{Steps}
 use Rattle.program_run.specs.Words.{capped_in, capped_inputs}

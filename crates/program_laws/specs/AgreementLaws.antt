@@ -15,14 +15,14 @@ use Rattle.analysis_table_laws.specs.InvariantLaws.{has_word}
 use Rattle.analysis_table_laws.specs.Tables.{IsPrintableTable}
 use Rattle.text_table_reader.specs.Ends.{is_word_of}
 use Rattle.text_table_reader.specs.Tables.{IsOpenTableIn, IsTableIn}
-use Rattle.text_table_reader_laws.specs.Readings.{AreAlike}
+use Rattle.text_table_reader.specs.Readings.{AreAlike}
 use Rattle.text_round_trips.specs.Fields.{HasUseTexts}
 use Rattle.text_round_trips.specs.FirstTexts.{IsTextOf}
 use Rattle.text_round_trips.specs.OpenAnalyses.{HasCodeWords}
 use Rattle.text_round_trips.specs.Writable.{IsWritable}
 use Rattle.program_common.specs.Outcome.{Outcome, text}
 use Rattle.program_common.specs.Reading.{Held, Holds}
-use Rattle.program_table_inputs.specs.Inputs.{CodeInputs, CodedOf, table_cap}
+use Rattle.program_machine.specs.Inputs.{CodeInputs, CodedOf, table_cap}
 use Rattle.program_domains.specs.Analyses.{IsTable}
 use Rattle.program_domains.specs.Checks.{accepted_line}
 use Rattle.program_domains.specs.Named.{Analysed, AnalysedOpen, Checked, CheckedOpen, Converted, domain_of, has_relations}

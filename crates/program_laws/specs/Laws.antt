@@ -9,11 +9,11 @@ use Rattle.state_text.specs.Laws.{IsEntryOf}
 use Rattle.state_text.specs.Reading.{Entry, read}
 use Rattle.program_common.specs.Outcome.{Answer, line_of}
 use Rattle.program_common.specs.Reading.{Held, Holds}
-use Rattle.program_emulate.specs.Code.{CodeOf}
-use Rattle.program_emulate.specs.Entry.{StartOf}
-use Rattle.program_emulate.specs.Machines.{MachineOf}
-use Rattle.program_emulate.specs.Running.{end_of}
-use Rattle.program_emulate.specs.Steps.{EmulateSteps}
+use Rattle.program_machine.specs.Code.{CodeOf}
+use Rattle.program_machine.specs.Entry.{StartOf}
+use Rattle.program_machine.specs.Machines.{MachineOf}
+use Rattle.program_machine.specs.Running.{end_of}
+use Rattle.program_machine.specs.Steps.{EmulateSteps}
 
 -- The specification, the code and the entry of the command are these, and what is written of its answer is an entry of the specification: that of one state,
 -- which is the last one of the run but for stamps.

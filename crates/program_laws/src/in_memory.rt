@@ -7,7 +7,7 @@ ghost use Rattle.support_command_line.specs.Views.{texts};
 ghost use Rattle.support_command_line.specs.Words.{asked};
 ghost use Rattle.program_common.specs.declared.status.Status.TheVariants as Statuses;
 ghost use Rattle.program_domains.specs.Checks.{accepted_line};
-ghost use Rattle.program_table_inputs.specs.Inputs.{table_cap};
+ghost use Rattle.program_machine.specs.Inputs.{table_cap};
 ghost use Rattle.program_laws.specs.AgreementLaws.{HoldBytes, HoldTheSame};
 
 use program_run::{Ended, run_in_memory};

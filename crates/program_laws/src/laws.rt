@@ -42,7 +42,8 @@ pub fn owed_by_inputs()
     ensures { OwedByInputs }
 {}
 
-/// Where `analyse` owes a text, `check` of that text with the same other words, but for `--widen`, owes that it is accepted; where both are left open, too.
+/// Where `analyse` owes a text, `check` of that text with the same other words, but for `--widen`, owes that it is accepted; where both are
+/// left open, too.
 pub fn analyse_then_check()
     ensures { AnalyseThenCheck }
 {}

@@ -8,7 +8,7 @@ use Rattle.fixpoint_theory.specs.Views.{listings}
 use Rattle.fixpoint_theory.specs.declared.table.Table.{Table}
 use Rattle.fixpoint_open_tables.specs.Endings.{Endings}
 use Rattle.text_table_reader.specs.Tables.{IsOpenTableIn}
-use Rattle.text_table_reader_laws.proofs.Views.{open_table_seen}
+use Rattle.text_table_reader.proofs.Views.{open_table_seen}
 use Rattle.program_domains.specs.Work.{IsOpenWorkOn}
 use Rattle.program_domain_tasks.specs.Own.{Own, as_defined}
 use Rattle.program_domain_tasks.proofs.Working.{few_read, listings_seen}

@@ -13,13 +13,12 @@ ghost use Rattle.program_open_tasks.specs.OpenTables.{OwnSlicesOpen};
 use crate::open_verdict::open_verdict_in;
 use crate::until_open::mark_until_open;
 use program_common::{Answer, Halt};
-use program_domain_tasks::{AnalysisStart, Subject, require_closed, slice_bytes};
+use program_domain_tasks::{AnalysisStart, SliceCriterion, Subject, require_closed, slice_bytes};
 use program_domains::NamedDomain;
 use std::alloc::Global;
 use std::sync::ledger::Ledger;
 use support_command_line::BaseName;
 use support_step_counter::Steps;
-use text_slices::SliceCell;
 use text_table_reader::read_table;
 
 /// What the slice of a text comes to in a domain that was made for the specification, where blocks may be left open.
@@ -30,20 +29,19 @@ pub fn slice_open_in_domain<'a, 'b, D: NamedDomain, L: Ledger>(
     start: &AnalysisStart<'a>,
     base: BaseName,
     bytes: &[u8],
-    at: u32,
-    cell: SliceCell,
+    criterion: SliceCriterion,
     steps: &mut Steps<L>,
 ) -> Result<Answer, Halt<'b>>
     requires joins { IsTrue D.B.algebra.joins }
     requires made { IsTrue (D.is_for domain.now (specification it.now.spec.now)) }
     requires read { IsRead (specification it.now.spec.now) start.now.machine (entry_of start.now.entry.now) }
     requires short { length bytes.now < 2 ^ 32 }
-    ensures gives { Gives (OwnSlicesOpen (record { base = D.B.algebra; cap = D.B.CAP; elements = D.elements domain.now; meaning = D.meaning domain.now; view = D.view; IsText = D.IsText; Reads = D.Reads domain.now; word_in = D.word_in domain.now; word_text = D.word_text }) (problem_at (specification it.now.spec.now) it.now.image.now start.now) it.now.image.now (base_text base) bytes.now at cell) answer_of result }
-    ensures work { OwnWork (record { base = D.B.algebra; cap = D.B.CAP; elements = D.elements domain.now; meaning = D.meaning domain.now; view = D.view; IsText = D.IsText; Reads = D.Reads domain.now; word_in = D.word_in domain.now; word_text = D.word_text }) it.now.image.now (base_text base) (asked.slice_open (problem_at (specification it.now.spec.now) it.now.image.now start.now) bytes.now at cell) steps.old steps.new }
+    ensures gives { Gives (OwnSlicesOpen (record { base = D.B.algebra; cap = D.B.CAP; elements = D.elements domain.now; meaning = D.meaning domain.now; view = D.view; IsText = D.IsText; Reads = D.Reads domain.now; word_in = D.word_in domain.now; word_text = D.word_text }) (problem_at (specification it.now.spec.now) it.now.image.now start.now) it.now.image.now (base_text base) bytes.now criterion.at criterion.cell) answer_of result }
+    ensures work { OwnWork (record { base = D.B.algebra; cap = D.B.CAP; elements = D.elements domain.now; meaning = D.meaning domain.now; view = D.view; IsText = D.IsText; Reads = D.Reads domain.now; word_in = D.word_in domain.now; word_text = D.word_text }) it.now.image.now (base_text base) (asked.slice_open (problem_at (specification it.now.spec.now) it.now.image.now start.now) bytes.now criterion.at criterion.cell) steps.old steps.new }
 {
     let found = read_table::<D>(alloc, domain, it.spec, it.image, base, bytes)?;
     let verdict = open_verdict_in::<D, L>(alloc, domain, it, start, &found, steps)?;
     require_closed::<D>(alloc, &verdict)?;
-    let text = slice_bytes(alloc, it.spec, &found.table, at, cell)?;
+    let text = slice_bytes(alloc, it.spec, &found.table, criterion.at, criterion.cell)?;
     Ok(mark_until_open(alloc, &found.endings, text)?)
 }

@@ -25,24 +25,24 @@ use Rattle.program_common.specs.Reading as reading
 use Rattle.program_common.specs.Reading.{Capped, CouldNotRead, Gave}
 use Rattle.program_common.specs.Sources.{IsSpecification, SourceOf, Specifies, source_cap, source_inputs}
 use Rattle.program_common.specs.Steps.{Then, refused, goes_on}
-use Rattle.program_emulate.specs.Code.{CodeOf, Images, Joins, SegmentsOf, code_cap, imaged, order_of, part_inputs}
-use Rattle.program_emulate.specs.Entry.{StartOf, StartsFrom, entered, entry_cap, state_in}
-use Rattle.program_emulate.specs.Machines.{MachineOf}
-use Rattle.program_emulate.specs.Running.{Runs}
-use Rattle.program_emulate.specs.Steps.{EmulateSteps, ListSteps}
-use Rattle.program_emulate.proofs.Chains.{AfterCode, AfterMachine, AfterStart, Lists, ListsOf, Rest}
-use Rattle.program_tables.specs.Steps.{AnalyseSteps, AnalysisOf, CheckOf, CheckSteps, ClaimsOf, ClaimsSteps, ConversionOf, ConvertSteps, SliceOf, SliceSteps, analyse_inputs, check_inputs}
-use Rattle.program_tables.proofs.Chains.{both_behind, claims_behind, table_behind}
+use Rattle.program_machine.specs.Code.{CodeOf, Images, Joins, SegmentsOf, code_cap, imaged, order_of, part_inputs}
+use Rattle.program_machine.specs.Entry.{StartOf, StartsFrom, entered, entry_cap, state_in}
+use Rattle.program_machine.specs.Machines.{MachineOf}
+use Rattle.program_machine.specs.Running.{Runs}
+use Rattle.program_machine.specs.Steps.{EmulateSteps, ListSteps}
+use Rattle.program_machine.proofs.Chains.{AfterCode, AfterMachine, AfterStart, Lists, ListsOf, Rest}
+use Rattle.program_analyses.specs.Steps.{AnalyseSteps, AnalysisOf, CheckOf, CheckSteps, ClaimsOf, ClaimsSteps, ConversionOf, ConvertSteps, SliceOf, SliceSteps, analyse_inputs, check_inputs}
+use Rattle.program_analyses.proofs.Chains.{both_behind, claims_behind, table_behind}
 use Rattle.program_domains.proofs.Verdicts.{MayStop}
-use Rattle.program_tables.proofs.Stops.{analysis_stops, check_stops, claims_stop, conversion_stops, slice_stops}
+use Rattle.program_analyses.proofs.Stops.{analysis_stops, check_stops, claims_stop, conversion_stops, slice_stops}
 use Rattle.text_slices.specs.Asked.{asked}
 use Rattle.text_slices.specs.declared.slice_cell.SliceCell.{SliceCell}
-use Rattle.program_stress.specs.Steps.{StressSteps}
-use Rattle.program_stress.proofs.Stops.{MayStress, stress_stops}
-use Rattle.program_table_inputs.specs.Cells.{CellOf, some_cell}
-use Rattle.program_table_inputs.specs.Entry.{Enters, EntryOf}
-use Rattle.program_table_inputs.specs.Inputs.{CodeInputs, CodedOf, AnalysisInputs, PosedOf, PosedWith, SliceInputs, SoughtOf, claims_cap, coded_inputs, posed_inputs, table_cap}
-use Rattle.program_table_inputs.proofs.Chains.{code_behind, entry_behind, entry_with, posed_and_cell, sought_behind}
+use Rattle.program_analyses.specs.StressSteps.{StressSteps}
+use Rattle.program_analyses.proofs.StressStops.{MayStress, stress_stops}
+use Rattle.program_machine.specs.Cells.{CellOf, some_cell}
+use Rattle.program_machine.specs.AnalysisEntry.{Enters, EntryOf}
+use Rattle.program_machine.specs.Inputs.{CodeInputs, CodedOf, AnalysisInputs, PosedOf, PosedWith, SliceInputs, SoughtOf, claims_cap, coded_inputs, posed_inputs, table_cap}
+use Rattle.program_machine.proofs.InputChains.{code_behind, entry_behind, entry_with, posed_and_cell, sought_behind}
 use Rattle.program_run.specs.Possible.{Answers, IsOfSource, MayBeBad, MayComeTo}
 use Rattle.program_run.specs.Steps.{CallSteps, Steps, answered}
 use Rattle.program_run.specs.Words.{capped_in, has_code, has_entry, names_in, names_of}

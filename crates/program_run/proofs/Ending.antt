@@ -17,9 +17,9 @@ use Rattle.program_common.proofs.Steps.{Fails}
 use Rattle.support_command_line.specs.Requests.{AnalyseRequest, CheckRequest, ClaimsRequest, Request, SliceRequest, StressRequest, analyse, check, slice, claims, stress}
 use Rattle.support_command_line.specs.Words.{asked}
 use Rattle.program_domains.specs.Checks.{accepted_line}
-use Rattle.program_stress.specs.Laws.{IsStress}
-use Rattle.program_stress.specs.Steps.{StressSteps}
-use Rattle.program_stress.proofs.Accepted.{stress_is_accepted}
+use Rattle.program_analyses.specs.StressLaws.{IsStress}
+use Rattle.program_analyses.specs.StressSteps.{StressSteps}
+use Rattle.program_analyses.proofs.StressAccepted.{stress_is_accepted}
 use Rattle.program_run.specs.Follows.{Due, EndsAsOwed, EndsWith, FinishesAsOwed, IsCut, Unread, owed, unread}
 use Rattle.program_run.specs.Laws.{EndsFollow}
 use Rattle.program_run.specs.Output as output

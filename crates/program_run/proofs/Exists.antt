@@ -10,9 +10,9 @@ use Rattle.program_common.specs.Reading.{Held, Holds}
 use Rattle.program_common.specs.Sources.{SourceOf, Specifies}
 use Rattle.program_common.proofs.OneSource.{some_source, some_specified}
 use Rattle.program_common.proofs.Steps.{IsTotal, total}
-use Rattle.program_emulate.proofs.Whole.{emulate_has_some, list_has_some}
-use Rattle.program_stress.proofs.One.{stress_has_some}
-use Rattle.program_tables.proofs.One.{analyse_has_some, check_has_some, claims_has_some, convert_has_some, slice_has_some}
+use Rattle.program_machine.proofs.Whole.{emulate_has_some, list_has_some}
+use Rattle.program_analyses.proofs.StressOne.{stress_has_some}
+use Rattle.program_analyses.proofs.One.{analyse_has_some, check_has_some, claims_has_some, convert_has_some, slice_has_some}
 use Rattle.program_run.specs.Laws.{SomeAnswer}
 use Rattle.program_run.specs.Steps.{Steps, answered}
 use Rattle.program_run.proofs.Chain.{Called, Ended}

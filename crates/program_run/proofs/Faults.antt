@@ -60,13 +60,13 @@ use Rattle.program_common.specs.Sources.{Specifies}
 use Rattle.program_common.specs.SpecFaults as of_source
 use Rattle.program_common.specs.SpecFaults.{HasFault, IsParseFault}
 use Rattle.program_common.specs.Steps.{Then, goes_on, refused as stopped}
-use Rattle.program_emulate.specs.Code.{Images, imaged}
-use Rattle.program_emulate.specs.Entry.{entered, state_in}
-use Rattle.program_table_inputs.specs.Entry.{Enters}
-use Rattle.program_table_inputs.specs.Inputs.{AnalysisInputs}
-use Rattle.program_stress.specs.Made.{MadeOf, StartOf, made_code}
-use Rattle.program_stress.specs.Steps.{MeasureOf, StressSteps, SummaryOf, problem_made}
-use Rattle.program_tables.specs.Problems.{check_task_in, claims_task_in, problem_in, slice_task_in, task_in}
+use Rattle.program_machine.specs.Code.{Images, imaged}
+use Rattle.program_machine.specs.Entry.{entered, state_in}
+use Rattle.program_machine.specs.AnalysisEntry.{Enters}
+use Rattle.program_machine.specs.Inputs.{AnalysisInputs}
+use Rattle.program_analyses.specs.Made.{MadeOf, StartOf, made_code}
+use Rattle.program_analyses.specs.StressSteps.{MeasureOf, StressSteps, SummaryOf, problem_made}
+use Rattle.program_analyses.specs.Problems.{check_task_in, claims_task_in, problem_in, slice_task_in, task_in}
 use Rattle.program_run.specs.Possible.{IsOfSource, MayComeTo}
 
 laws : FaultsHaveLines

@@ -1,28 +1,16 @@
 -- What the steps of the code give.
-use Rattle.std.proofs.Common.{◌≡◌, ℕ, ◌<◌, ◌≤◌, List, Option, length, refl, subst, sym, arith}
+use Rattle.std.proofs.Common.{◌≡◌, ℕ, ◌<◌, ◌≤◌, List, length, subst, sym, arith}
 use Rattle.std.specs.Prelude.{IsOk, Result, Err}
 use Rattle.spec_ir.specs.declared.spec.SpecUse.{SpecUse}
 use Rattle.spec_ir.specs.Specification.{Spec}
 use Rattle.semantics_laws.specs.Accepted.{IsAccepted}
 use Rattle.semantics_accepted.proofs.Accepted.{checked_are_accepted}
-use Rattle.support_command_line.specs.declared.words_error.WordsError.{WordsError}
-use Rattle.support_command_line.specs.declared.words_error.WordsError.TheVariants as words
 use Rattle.support_command_line.specs.Giving as words-of
-use Rattle.support_command_line.specs.Requests.{Request}
-use Rattle.program_common.specs.Outcome.{bad_words}
-use Rattle.program_common.specs.Outcomes.{Stops, halt_of_words}
-use Rattle.program_common.specs.Reading.{Reading}
 use Rattle.program_common.specs.Sources.{IsSpecification}
-use Rattle.program_run.specs.Steps.{Steps}
 
 -- the specification of a source is accepted
 pub is_accepted : (wanted : SpecUse) (source : List ℕ) (spec : Spec) → IsSpecification wanted source spec → IsAccepted spec
 is_accepted wanted source spec p = checked_are_accepted wanted p.tree spec (p.parsed.tokens, length source, p.parsed.parsed) p.faultless p.checked
-
--- words that ask for nothing
-pub words_refused : {A : Type 0} (reads : Reading) (what : Option Request) (seen : A → Request) (error : WordsError) → words-of.Gives {A = A} what seen (Err error) → Stops (Steps reads what) (halt_of_words error)
-words_refused reads what seen words.BadWords none = subst (λ (what : Option Request). Steps reads what (Err bad_words)) (sym none) refl
-words_refused reads what seen words.NoMemory none = tt
 
 past : (a b : ℕ) → (a ≤ b → ⊥) → b < a
 past a b never = omega arith

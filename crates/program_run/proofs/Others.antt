@@ -14,17 +14,17 @@ use Rattle.program_common.specs.Outcome.{Outcome, Refusal}
 use Rattle.program_common.specs.Reading.{Capped, Reading}
 use Rattle.program_common.specs.Sources.{SourceOf, Specifies, source_cap, source_inputs}
 use Rattle.program_common.proofs.Steps.{Fails, either}
-use Rattle.program_emulate.specs.Code.{CodeOf, Images, Joins, SegmentsOf, code_cap, order_of, part_inputs}
-use Rattle.program_emulate.specs.Entry.{StartOf, StartsFrom, entry_cap}
-use Rattle.program_emulate.specs.Machines.{MachineOf}
-use Rattle.program_emulate.specs.Steps.{EmulateSteps, ListSteps, emulate_inputs, list_inputs}
-use Rattle.program_emulate.proofs.Chains.{AfterCode, AfterMachine, AfterStart, Lists, ListsOf, Rest}
-use Rattle.program_tables.specs.Steps.{AnalyseSteps, AnalysisOf, CheckOf, CheckSteps, ClaimsOf, ClaimsSteps, ConversionOf, ConvertSteps, SliceOf, SliceSteps, analyse_inputs, check_inputs, claims_inputs, convert_inputs, slice_inputs}
-use Rattle.program_tables.proofs.Chains.{both_behind, claims_behind, table_behind}
-use Rattle.program_table_inputs.specs.Cells.{CellOf}
-use Rattle.program_table_inputs.specs.Entry.{Enters, EntryOf}
-use Rattle.program_table_inputs.specs.Inputs.{CodeInputs, CodedOf, AnalysisInputs, PosedOf, PosedWith, SliceInputs, SoughtOf, claims_cap, coded_inputs, posed_inputs, table_cap}
-use Rattle.program_table_inputs.proofs.Chains.{code_behind, entry_behind, entry_with, posed_and_cell, sought_behind}
+use Rattle.program_machine.specs.Code.{CodeOf, Images, Joins, SegmentsOf, code_cap, order_of, part_inputs}
+use Rattle.program_machine.specs.Entry.{StartOf, StartsFrom, entry_cap}
+use Rattle.program_machine.specs.Machines.{MachineOf}
+use Rattle.program_machine.specs.Steps.{EmulateSteps, ListSteps, emulate_inputs, list_inputs}
+use Rattle.program_machine.proofs.Chains.{AfterCode, AfterMachine, AfterStart, Lists, ListsOf, Rest}
+use Rattle.program_analyses.specs.Steps.{AnalyseSteps, AnalysisOf, CheckOf, CheckSteps, ClaimsOf, ClaimsSteps, ConversionOf, ConvertSteps, SliceOf, SliceSteps, analyse_inputs, check_inputs, claims_inputs, convert_inputs, slice_inputs}
+use Rattle.program_analyses.proofs.Chains.{both_behind, claims_behind, table_behind}
+use Rattle.program_machine.specs.Cells.{CellOf}
+use Rattle.program_machine.specs.AnalysisEntry.{Enters, EntryOf}
+use Rattle.program_machine.specs.Inputs.{CodeInputs, CodedOf, AnalysisInputs, PosedOf, PosedWith, SliceInputs, SoughtOf, claims_cap, coded_inputs, posed_inputs, table_cap}
+use Rattle.program_machine.proofs.InputChains.{code_behind, entry_behind, entry_with, posed_and_cell, sought_behind}
 use Rattle.program_run.specs.Steps.{CallSteps, Steps}
 use Rattle.program_run.specs.Words.{capped_in}
 use Rattle.program_run.proofs.Chain.{Called}

@@ -8,13 +8,13 @@ use Rattle.program_domains.specs.Checks.{accepted_line}
 use Rattle.program_common.specs.Outcome.{text}
 use Rattle.program_common.specs.Reading.{Held, Holds, whole}
 use Rattle.program_common.proofs.Steps.{opened}
-use Rattle.program_tables.specs.Steps.{AnalyseSteps, AnalysisOf, CheckOf, CheckSteps, ClaimsOf, ClaimsSteps, SliceOf, SliceSteps}
-use Rattle.program_tables.proofs.Accepted.{check_accepts, open_check_accepts}
-use Rattle.program_tables.proofs.Chains.{both_behind, claims_behind, table_behind}
-use Rattle.program_tables.proofs.Holding.{claims_hold, open_claims_hold, open_slice_holds, slice_holds}
-use Rattle.program_tables.proofs.Problems.{is_open_tabled, is_tabled, read_is_well_posed}
-use Rattle.program_table_inputs.specs.Inputs.{AnalysisInputs, PosedOf, SliceInputs, SoughtOf, claims_cap, table_cap}
-use Rattle.program_table_inputs.proofs.Problems.{posed_has_words}
+use Rattle.program_analyses.specs.Steps.{AnalyseSteps, AnalysisOf, CheckOf, CheckSteps, ClaimsOf, ClaimsSteps, SliceOf, SliceSteps}
+use Rattle.program_analyses.proofs.Accepted.{check_accepts, open_check_accepts}
+use Rattle.program_analyses.proofs.Chains.{both_behind, claims_behind, table_behind}
+use Rattle.program_analyses.proofs.Holding.{claims_hold, open_claims_hold, open_slice_holds, slice_holds}
+use Rattle.program_analyses.proofs.Problems.{is_open_tabled, is_tabled, read_is_well_posed}
+use Rattle.program_machine.specs.Inputs.{AnalysisInputs, PosedOf, SliceInputs, SoughtOf, claims_cap, table_cap}
+use Rattle.program_machine.proofs.Problems.{posed_has_words}
 use Rattle.program_run.specs.Owed.{IsOwed}
 use Rattle.program_run.specs.Steps.{Steps}
 use Rattle.program_run.specs.Tables.{AreClaimsFor, AreOpenClaimsFor, IsAcceptedFor, IsOpenAcceptedFor, IsOpenSliceFor, IsOpenTableFor, IsSliceFor, IsTableFor}

@@ -17,10 +17,10 @@ use Rattle.program_common.specs.Reading.{Held, Holds}
 use Rattle.program_common.specs.Sources.{SourceOf, Specifies}
 use Rattle.program_common.proofs.OneSource.{one_source, one_specified}
 use Rattle.program_common.proofs.Steps.{IsOne, one}
-use Rattle.program_emulate.proofs.Single.{emulate_has_one, list_has_one}
-use Rattle.program_tables.specs.Laws.{AreOneAnalysis, AreOneConversion}
-use Rattle.program_stress.proofs.One.{stress_has_one}
-use Rattle.program_tables.proofs.One.{analyse_has_one, check_has_one, claims_has_one, convert_has_one, slice_has_one}
+use Rattle.program_machine.proofs.Single.{emulate_has_one, list_has_one}
+use Rattle.program_analyses.specs.Laws.{AreOneAnalysis, AreOneConversion}
+use Rattle.program_analyses.proofs.StressOne.{stress_has_one}
+use Rattle.program_analyses.proofs.One.{analyse_has_one, check_has_one, claims_has_one, convert_has_one, slice_has_one}
 use Rattle.program_run.specs.Laws.{OneAnswer, TellTheSame}
 use Rattle.program_run.specs.Steps.{CallSteps, Steps}
 use Rattle.program_run.specs.Words.{has_one_text}

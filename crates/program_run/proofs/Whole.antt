@@ -11,7 +11,7 @@ use Rattle.support_command_line.specs.Words.{asked}
 use Rattle.program_domains.specs.Checks.{accepted_line}
 use Rattle.program_common.specs.declared.status.Status.{Status}
 use Rattle.program_common.specs.declared.status.Status.TheVariants as s
-use Rattle.program_stress.specs.Laws.{IsStress}
+use Rattle.program_analyses.specs.StressLaws.{IsStress}
 use Rattle.program_run.specs.Output.{Ends}
 use Rattle.program_common.specs.Reading.{Held}
 use Rattle.program_run.specs.Follows.{Follows}

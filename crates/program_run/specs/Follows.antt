@@ -9,7 +9,7 @@ use Rattle.program_common.specs.declared.status.Status.TheVariants as s
 use Rattle.program_domains.specs.Checks.{accepted_line}
 use Rattle.program_common.specs.Lines.{bad_words_line, cannot_read_line}
 use Rattle.program_common.specs.Reading.{CouldNotRead}
-use Rattle.program_stress.specs.Laws.{IsStress}
+use Rattle.program_analyses.specs.StressLaws.{IsStress}
 use Rattle.program_run.specs.Owed.{Owes}
 use Rattle.program_run.specs.Possible.{IsLineOf}
 use Rattle.program_common.specs.Statuses.{IsAnswer}
@@ -92,7 +92,7 @@ module _ (words : List (List ℕ)) (old new : InputState) (sink_old sink_new : S
     pub claimed_open : IsTrue old.tells → (request : ClaimsRequest) → asked words ≡ Some (claims request) → request.check.analysis.open ≡ true → result ≡ s.Ok
         → (text : List ℕ) × AreOpenClaimsFor old.held request text × Appends sink_old sink_new text
     -- Over all inputs: a stress that ends well has written what its analysis and its run come to. Its table is true of every run of the code that was made, and a
-    -- check accepts it. (program_stress specs/Laws)
+    -- check accepts it. (program_analyses specs/StressLaws)
     pub stressed : (request : StressRequest) → asked words ≡ Some (stress request) → result ≡ s.Ok → (text : List ℕ) × IsStress request text × Appends sink_old sink_new text
     -- Words that ask for nothing are refused.
     pub bad_words : asked words ≡ None → EndsWith s.BadWords bad_words_line

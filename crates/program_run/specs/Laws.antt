@@ -13,7 +13,7 @@ use Rattle.program_run.specs.Exact.{IsExact}
 use Rattle.program_run.specs.Follows.{Follows}
 use Rattle.program_run.specs.Output.{Ends}
 use Rattle.program_common.specs.Reading.{Held, Holds}
-use Rattle.program_table_inputs.specs.Inputs.{CodeInputs, CodedOf, AnalysisInputs, PosedOf}
+use Rattle.program_machine.specs.Inputs.{CodeInputs, CodedOf, AnalysisInputs, PosedOf}
 use Rattle.program_run.specs.Owed.{Owes}
 use Rattle.program_run.specs.Possible.{IsPossible}
 use Rattle.program_run.specs.Words.{has_one_text}

@@ -27,11 +27,11 @@ use Rattle.program_common.specs.declared.spec_fault.SpecFault.TheVariants.{Check
 use Rattle.program_common.specs.declared.status.Status.{Status}
 use Rattle.program_common.specs.Outcome as o
 use Rattle.program_common.specs.Outcome.{Answer, Outcome, line_of, status_of, text}
-use Rattle.program_emulate.specs.Running.{IsRunOf}
-use Rattle.program_tables.specs.Steps.{AnalysisOf, CheckOf, ClaimsOf, ConversionOf, SliceOf}
-use Rattle.program_stress.specs.Steps.{StressSteps}
+use Rattle.program_machine.specs.Running.{IsRunOf}
+use Rattle.program_analyses.specs.Steps.{AnalysisOf, CheckOf, ClaimsOf, ConversionOf, SliceOf}
+use Rattle.program_analyses.specs.StressSteps.{StressSteps}
 use Rattle.text_slices.specs.Asked as cells
-use Rattle.program_table_inputs.specs.Inputs.{CodeInputs, AnalysisInputs, SliceInputs}
+use Rattle.program_machine.specs.Inputs.{CodeInputs, AnalysisInputs, SliceInputs}
 use Rattle.program_run.specs.Words.{has_code, has_entry, names_in}
 
 -- The answer is the line of a value.

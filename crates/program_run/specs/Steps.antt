@@ -8,9 +8,9 @@ use Rattle.program_common.specs.Outcome.{Outcome, bad_words, calls_spent, text}
 use Rattle.program_common.specs.Reading.{Reading}
 use Rattle.program_common.specs.Sources.{SourceOf, Specifies}
 use Rattle.program_common.specs.Steps.{Then}
-use Rattle.program_emulate.specs.Steps.{EmulateSteps, ListSteps}
-use Rattle.program_stress.specs.Steps.{StressSteps}
-use Rattle.program_tables.specs.Steps.{AnalyseSteps, CheckSteps, ClaimsSteps, ConvertSteps, SliceSteps}
+use Rattle.program_machine.specs.Steps.{EmulateSteps, ListSteps}
+use Rattle.program_analyses.specs.StressSteps.{StressSteps}
+use Rattle.program_analyses.specs.Steps.{AnalyseSteps, CheckSteps, ClaimsSteps, ConvertSteps, SliceSteps}
 
 -- what is answered for the end of a call
 abbrev pub answered : End → Outcome

@@ -2,8 +2,8 @@
 use Rattle.std.specs.Prelude.{◌≡◌, ℕ, List, Some, Ok}
 use Rattle.support_command_line.specs.Requests.{AnalyseRequest, CheckRequest, ClaimsRequest, SliceRequest}
 use Rattle.program_common.specs.Reading.{Held, Holds}
-use Rattle.program_tables.specs.Steps.{AcceptedBy, ClaimedBy, OpenAcceptedBy, OpenClaimedBy, OpenSlicedBy, OpenTabledBy, SlicedBy, TabledBy}
-use Rattle.program_table_inputs.specs.Inputs.{AnalysisInputs, PosedOf, SliceInputs, SoughtOf}
+use Rattle.program_analyses.specs.Steps.{AcceptedBy, ClaimedBy, OpenAcceptedBy, OpenClaimedBy, OpenSlicedBy, OpenTabledBy, SlicedBy, TabledBy}
+use Rattle.program_machine.specs.Inputs.{AnalysisInputs, PosedOf, SliceInputs, SoughtOf}
 
 -- The bytes are the text of the table of an analysis: of the machine, the code and the entry that the names of a request hold.
 --

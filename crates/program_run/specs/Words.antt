@@ -7,8 +7,8 @@ use Rattle.program_common.specs.declared.status.Status.{Status}
 use Rattle.program_common.specs.declared.status.Status.TheVariants as s
 use Rattle.program_common.specs.Reading.{Capped}
 use Rattle.program_common.specs.Sources.{source_inputs}
-use Rattle.program_emulate.specs.Steps.{emulate_inputs, list_inputs}
-use Rattle.program_tables.specs.Steps.{analyse_inputs, check_inputs, claims_inputs, convert_inputs, slice_inputs}
+use Rattle.program_machine.specs.Steps.{emulate_inputs, list_inputs}
+use Rattle.program_analyses.specs.Steps.{analyse_inputs, check_inputs, claims_inputs, convert_inputs, slice_inputs}
 
 -- the inputs of what is asked for, and how many bytes each may have
 abbrev pub capped_in : Option Request → List Capped

@@ -3,11 +3,10 @@
 ghost use Rattle.std.specs.Prelude.{◌≡◌, ◌≢◌, ◌⊎◌, IfOk, IsTrue, None};
 ghost use Rattle.support_io.specs.InputState.{InputsKept};
 ghost use Rattle.concrete_function_calls.specs.Ends.{end_of};
-ghost use Rattle.program_common.specs.Faultless.{NoOtherFault};
 ghost use Rattle.program_common.specs.declared.status.Status.TheVariants as Status;
 ghost use Rattle.program_common.specs.Outcome.{status_of};
 ghost use Rattle.program_common.specs.Outcomes.{Gives, answer_of, outcome_of};
-ghost use Rattle.program_common.specs.Reading.{Gave, IsTakenFrom};
+ghost use Rattle.program_common.specs.Reading.{Gave, IsTakenFrom, ReadsOnly};
 ghost use Rattle.program_common.specs.Sources.{source_inputs};
 ghost use Rattle.program_run.specs.Owed.{ComesTo};
 ghost use Rattle.program_run.specs.Steps.{answered, CallSteps};
@@ -17,12 +16,11 @@ ghost use Rattle.program_run.specs.Words.{capped_inputs};
 ghost use Rattle.program_run.specs.Work.{RunWork};
 
 use concrete_function_calls::{CallEnd, call_by_words, value_line};
-use program_common::{Answer, Halt, Outcome, Refusal, source_of, specification_of};
-use program_emulate::{emulate_request, list_request};
-use program_stress::stress_request;
-use program_tables::{
-    analyse_request, check_request, claims_request, convert_request, slice_request,
+use program_analyses::{
+    analyse_request, check_request, claims_request, convert_request, slice_request, stress_request,
 };
+use program_common::{Answer, Halt, Outcome, Refusal, source_of, specification_of};
+use program_machine::{emulate_request, list_request};
 use spec_checker::SpecUse;
 use std::alloc::{AllocError, Global};
 use std::sync::ledger::Ledger;
@@ -62,13 +60,9 @@ fn answer<'a, I: Inputs, L: Ledger>(
     inputs: &mut I,
     steps: &mut Steps<L>,
 ) -> Result<Answer, Halt<'a>>
-    ensures kept { InputsKept (I.state inputs.old) (I.state inputs.new) }
+    ensures reads { ReadsOnly I.state (capped_inputs (texts words.now)) inputs.old inputs.new result }
     ensures gives { Gives (ComesTo (texts words.now) (I.state inputs.old) (I.state inputs.new))
         answer_of result }
-    ensures no_other_fault { NoOtherFault (I.state inputs.old) (I.state inputs.new) result }
-    ensures taken { IsTrue (I.state inputs.old).tells → (inputs.new ≡ inputs.old)
-        ⊎ (IsTrue (I.state inputs.new).is_open
-        → IsTakenFrom (capped_inputs (texts words.now)) (I.state inputs.old) (I.state inputs.new)) }
 
     // Words that ask for nothing are refused before any input is opened.
     ensures bad_words { asked (texts words.now) ≡ None → inputs.new ≡ inputs.old }
@@ -93,13 +87,9 @@ fn answer_call<'a, I: Inputs>(
     inputs: &mut I,
     request: &CallRequest<'a>,
 ) -> Result<Answer, Halt<'a>>
-    ensures kept { InputsKept (I.state inputs.old) (I.state inputs.new) }
+    ensures reads { ReadsOnly I.state (source_inputs (call_of request.now).spec) inputs.old inputs.new result }
     ensures gives { Gives (CallSteps (Gave (I.state inputs.old) (I.state inputs.new)) (call_of request.now))
         answer_of result }
-    ensures no_other_fault { NoOtherFault (I.state inputs.old) (I.state inputs.new) result }
-    ensures taken { IsTrue (I.state inputs.old).tells → (inputs.new ≡ inputs.old)
-        ⊎ (IsTrue (I.state inputs.new).is_open
-        → IsTakenFrom (source_inputs (call_of request.now).spec) (I.state inputs.old) (I.state inputs.new)) }
 {
     let source = source_of(alloc, inputs, request.spec)?;
     let spec = specification_of(alloc, &source, SpecUse::Library)?;

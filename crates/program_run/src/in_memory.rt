@@ -8,7 +8,7 @@ ghost use Rattle.program_domains.specs.Checks.{accepted_line};
 ghost use Rattle.support_command_line.specs.Requests.{AnalyseRequest, CheckRequest, ClaimsRequest, SliceRequest, StressRequest, analyse, check, claims, slice, stress};
 ghost use Rattle.support_command_line.specs.Views.{texts};
 ghost use Rattle.support_command_line.specs.Words.{asked};
-ghost use Rattle.program_stress.specs.Laws.{IsStress};
+ghost use Rattle.program_analyses.specs.StressLaws.{IsStress};
 ghost use Rattle.program_run.specs.Owed.{Owes, OwesAlone, OwesLonger};
 ghost use Rattle.program_run.specs.Tables.{AreClaimsFor, AreOpenClaimsFor, IsAcceptedFor, IsOpenAcceptedFor, IsOpenSliceFor, IsOpenTableFor, IsSliceFor, IsTableFor};
 

@@ -4,12 +4,12 @@
 //! `program_common`: an answer with its text, or a refusal with what it names. Want of memory is no outcome: a step that finds none halts,
 //! and nothing is written.
 //!
-//! `answer` shows the chain from words to answer. It is the chain of the definition, specs/Steps: each step gives something to the
-//! next one, or refuses, and then that is what the run comes to. The chain of `call` is here; those of `emulate` and `list` are
-//! those of `program_emulate`, those of `analyse`, `check`, `convert`, `slice` and `claims` are those of `program_tables`, and that of `stress` is that of `program_stress`. Over the bytes that the names hold (`Holds`) what these
-//! steps come to is *owed* (`Owes`): one outcome, but that a table over affine relations has several texts. Over inputs that may
-//! fail (`Gave`) they come to something that is owed, or that an input could not be read; the code gives just that (`Gives`, for
-//! each of its steps), and so the whole is proved step by step.
+//! `answer` shows the chain from words to answer. It is the chain of the definition, specs/Steps: each step gives something to the next
+//! one, or refuses, and then that is what the run comes to. The chain of `call` is here; those of `emulate` and `list` are those of
+//! `program_machine`, those of `analyse`, `check`, `convert`, `slice` and `claims` are those of `program_analyses`, and that of `stress` is
+//! that of `program_analyses`. Over the bytes that the names hold (`Holds`) what these steps come to is *owed* (`Owes`): one outcome, but
+//! that a table over affine relations has several texts. Over inputs that may fail (`Gave`) they come to something that is owed, or that an
+//! input could not be read; the code gives just that (`Gives`, for each of its steps), and so the whole is proved step by step.
 //!
 //! What is proved: `run` ends with an outcome that it comes to and writes its line, or a front of it where the sink fails, or
 //! nothing for want of memory (`ends`). From this it follows that over inputs that tell their bytes an answer is owed
@@ -17,17 +17,17 @@
 //! its cause, one line is written, and where nothing fails what is owed is answered. `run_in_memory` is the run where nothing
 //! fails, and its contract says so.
 //!
-//! What is promised of analyses is the clause `table` of that law. Where the words ask for `analyse` and the run ends with `Ok`, what was written is
-//! the text of a table for the machine, the code and the entry that the inputs hold (specs/Tables). That table is true of every run of
-//! the machine: the element at each address describes every state that the meaning puts there, and each use list holds every
-//! definition that a read sees. With `--open` it is the clause `open_table`: the table is true so of every run up to and with the first state at an
-//! address that is left open. The clause `accepted` promises the same of checks: where the words ask for `check` and the run ends with `Ok`, the
-//! table that was asked for is true of every run. The clauses `sliced` and `claimed` promise what such a table tells: where the words ask for `slice`
-//! and the run ends with `Ok`, what was written is a slice that holds every chain of every read that it is of; where they ask for `claims`, each
-//! claim that is answered with `yes` is true of every state that a run has at its address. With `--open` these are the clauses `accepted_open`, `sliced_open`
-//! and `claimed_open`: the table may have addresses that are left open, and what it and its answers say is true up to and with the first state at one of
-//! them. The clause `stressed` says of `stress` that what was written tells of a
-//! table that is true of every run of the code that was made, and that a check accepts it.
+//! What is promised of analyses is the clause `table` of that law. Where the words ask for `analyse` and the run ends with `Ok`, what was
+//! written is the text of a table for the machine, the code and the entry that the inputs hold (specs/Tables). That table is true of every
+//! run of the machine: the element at each address describes every state that the meaning puts there, and each use list holds every
+//! definition that a read sees. With `--open` it is the clause `open_table`: the table is true so of every run up to and with the first
+//! state at an address that is left open. The clause `accepted` promises the same of checks: where the words ask for `check` and the run
+//! ends with `Ok`, the table that was asked for is true of every run. The clauses `sliced` and `claimed` promise what such a table tells:
+//! where the words ask for `slice` and the run ends with `Ok`, what was written is a slice that holds every chain of every read that it is
+//! of; where they ask for `claims`, each claim that is answered with `yes` is true of every state that a run has at its address. With
+//! `--open` these are the clauses `accepted_open`, `sliced_open` and `claimed_open`: the table may have addresses that are left open, and
+//! what it and its answers say is true up to and with the first state at one of them. The clause `stressed` says of `stress` that what was
+//! written tells of a table that is true of every run of the code that was made, and that a check accepts it.
 #![tactic(auto)]
 
 ghost use Rattle.std.specs.Prelude.{◌≡◌, ◌≢◌, ◌⊎◌, IsTrue, List, None, ℕ};
@@ -97,7 +97,7 @@ pub fn run<I: Inputs, S: Sink, L: Ledger>(
         ⊎ (IsTrue (I.state inputs.new).is_open
         → IsTakenFrom (capped_inputs (texts words.now)) (I.state inputs.old) (I.state inputs.new)) }
 
-    // How many transfers it makes: an analysis at most N(H + J + 1) + N, of N code words and elements of the height H of which J changes join, and N
+    // How many transfers it makes: an analysis at most N(H + J + 1), of N code words and elements of the height H of which J changes join, and N
     // more where it is left open or measured; a check, a slice and claims at most one for each address that the table lists, and two where it may be left open.
     ensures work { RunWork (Gave (I.state inputs.old) (I.state inputs.new)) (asked (texts words.now)) steps.old steps.new }
 

@@ -1,8 +1,8 @@
 -- Words and bytes, one after another.
-use Rattle.std.proofs.Common.{◌≡◌, ◌∙◌, ℕ, zero, suc, ◌+◌, ◌-◌, ◌*◌, ◌<◌, ◌++◌, List, [], ◌∷◌, length, get_or, drop, ap, arith, refl}
+use Rattle.std.proofs.Common.{◌≡◌, ◌∙◌, ℕ, zero, suc, ◌+◌, ◌-◌, ◌*◌, ◌<◌, List, [], ◌∷◌, length, ap, arith, refl}
 use Rattle.std.specs.Int.{to_be_bytes, w32}
 use Rattle.std.specs.List.{flat_map}
-use Rattle.std.proofs.lemmas.List.{drop_more, length-append}
+use Rattle.std.proofs.lemmas.List.{length-append}
 use Rattle.program_stress_code.specs.Words.{code_bytes, next_state, state_after, word_at, words, words_from}
 
 -- one word more
@@ -14,10 +14,6 @@ words_step number count i h =
 pub words_length : (number count i n : ℕ) → length (words_from number count i n) ≡ n
 words_length number count i zero = refl
 words_length number count i (suc n) = ap suc (words_length number count (i + 1) n)
-
--- the bytes of words behind one
-pub bytes_step : (words : List ℕ) (i : ℕ) → i < length words → flat_map (to_be_bytes w32) (drop i words) ≡ to_be_bytes w32 (get_or words i 0) ++ flat_map (to_be_bytes w32) (drop (i + 1) words)
-bytes_step words i h = ap (flat_map (to_be_bytes w32)) (drop_more words i 0 h)
 
 -- four for each word
 bytes_length : (words : List ℕ) → length (flat_map (to_be_bytes w32) words) ≡ 4 * length words

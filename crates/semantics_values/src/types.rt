@@ -1,9 +1,9 @@
 //! Which values have a type.
 
-ghost use Rattle.std.specs.Prelude.{◌≡◌, ◌&&◌, ◌^◌, ℕ, map, nat_lt, length, slice_get, option_map};
+ghost use Rattle.std.specs.Prelude.{◌≡◌, ◌&&◌, ◌^◌, ℕ, map, nat_lt, slice_get, option_map};
 ghost use Rattle.std.specs.List.{list_all};
 ghost use Rattle.std.specs.Option.{option_copied};
-ghost use Rattle.spec_ir.specs.Texts.{case_at, cases_of};
+ghost use Rattle.spec_ir.specs.Texts.{case_at};
 ghost use Rattle.spec_ir.specs.Views as view;
 ghost use Rattle.spec_ir.specs.Views.{specification};
 ghost use Rattle.spec_ir.specs.declared.ty.Ty.TheVariants as ty;
@@ -13,7 +13,7 @@ ghost use Rattle.semantics_values.specs.Values.{vals};
 ghost use Rattle.semantics_values.specs.Views.{val};
 
 use crate::value::{Cell, MapValue, Value};
-use spec_ir::{Case, MapType, Spec, Ty};
+use spec_ir::{Case, MapType, Spec, Ty, case_count};
 use syntax_lexer::Text;
 
 /// Whether a value has a type of the specification: words are below 2 to their width, constructors have
@@ -44,7 +44,8 @@ fn is_below(v: u64, w: u32) -> bool
 /// Whether the fields of a constructor have their types.
 #[cycle(has_type)]
 fn is_constructor(spec: &Spec, number: u32, case: u32, parts: &[Value]) -> bool
-    ensures { result ≡ types.of_case (case_at (environment_of (specification spec.now)) (ty.Data number) case) (types.have_types (environment_of (specification spec.now)) (vals (map val parts.now))) }
+    ensures { result ≡ types.of_case (case_at (environment_of (specification spec.now)) (ty.Data number) case)
+        (types.have_types (environment_of (specification spec.now)) (vals (map val parts.now))) }
 {
     match case_of(spec, number, case) {
         Some(case) => have_types(spec, parts, &case.fields),
@@ -119,17 +120,7 @@ fn is_key(spec: &Spec, ty: Ty, key: u64) -> bool
 {
     match ty {
         Ty::Word(w) => is_below(key, w),
-        Ty::Data(data) => key < constructors(spec, data) as u64,
+        Ty::Data(data) => key < case_count(spec, data) as u64,
         Ty::Bool | Ty::Map(_) => false,
-    }
-}
-
-/// How many constructors a datatype has.
-fn constructors(spec: &Spec, number: u32) -> usize
-    ensures { result ≡ length (cases_of (slice_get (specification spec.now).datas number)) }
-{
-    match spec.datas.get(number as usize) {
-        Some(data) => data.cases.len(),
-        None => 0,
     }
 }

@@ -67,7 +67,8 @@ fn calls_of_choice(
     tail: bool,
     out: &mut Vec<Call>,
 ) -> Result<(), AllocError>
-    ensures { OnOk result (out.new.items ≡ out.old.items ++ spec.calls false (view.term c.now) ++ spec.calls tail (view.term yes.now) ++ spec.calls tail (view.term no.now)) }
+    ensures { OnOk result (out.new.items ≡ out.old.items ++ spec.calls false (view.term c.now) ++ spec.calls tail (view.term yes.now) ++ spec.calls
+        tail (view.term no.now)) }
 {
     calls(c, false, out)?;
     calls(yes, tail, out)?;

@@ -40,7 +40,8 @@ pub fn check_bodies(
     requires signatures { list_all (is_signature environment.now) (map signature_of signatures.now) ≡ true }
     requires count { length functions.now ≡ length signatures.now }
     ensures answer { Agrees result (spec.bodies_fault environment.now (map (λ f. function f.now) functions.now) (map signature_of signatures.now)) }
-    ensures forms { IfOk result (λ r. map form r.items ≡ spec.forms_of environment.now (map (λ f. function f.now) functions.now) (map signature_of signatures.now)) }
+    ensures forms { IfOk result (λ r. map form r.items ≡ spec.forms_of environment.now (map (λ f. function f.now) functions.now)
+        (map signature_of signatures.now)) }
     ensures count { IfOk result (λ r. length r.items ≡ length functions.now) }
 {
     let mut out = Vec::new(alloc);

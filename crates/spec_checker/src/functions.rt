@@ -47,7 +47,8 @@ fn groups_of(
     requires { length functions.now ≡ length forms.now }
     ensures recursion { OnOk result (NoRecursionFault (spec.terms_in (map form forms.now))) }
     ensures groups { IfOk result (λ r. AreGroups (spec.terms_in (map form forms.now)) r.items) }
-    ensures fault { IfErr result (λ e. IsRecursionFault (map (λ f. f.name) (map (λ f. function f.now) functions.now)) (spec.terms_in (map form forms.now)) e ⊎ (e ≡ SpecError.NoMemory)) }
+    ensures fault { IfErr result (λ e. IsRecursionFault (map (λ f. f.name) (map (λ f. function f.now) functions.now))
+        (spec.terms_in (map form forms.now)) e ⊎ (e ≡ SpecError.NoMemory)) }
 {
     let names = names_of(alloc, functions)?;
     let terms = terms_of(alloc, forms)?;

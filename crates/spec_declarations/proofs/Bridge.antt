@@ -7,7 +7,7 @@ use Rattle.support_reachability.specs.Table.{IsTableOf, says}
 use Rattle.spec_ir.specs.declared.ty.Ty.TheVariants.{Bool as Flag, Word, Data as DataTy, Map as MapOf}
 use Rattle.spec_declarations.specs.declared.type_names.Meaning.{Meaning}
 use Rattle.spec_declarations.specs.declared.type_names.Meaning.TheVariants.{Known, BadWidth, Unknown}
-use Rattle.spec_declarations.specs.Leaves.{Made, IsLarge, IsKnown, data_number, held, LeavesOf, CaseLeaves, FieldLeaves, data_leaves, no_cases, next_case, no_fields, next_field, flag_leaf, word_leaf, map_leaf, width_leaf, data_leaf}
+use Rattle.spec_declarations.specs.Leaves.{Made, IsLarge, most_leaves, IsKnown, data_number, held, LeavesOf, CaseLeaves, FieldLeaves, data_leaves, no_cases, next_case, no_fields, next_field, flag_leaf, word_leaf, map_leaf, width_leaf, data_leaf}
 use Rattle.spec_declarations.specs.Counts.{plain, plain_fields, plain_cases, CountOf, SumOf, counted, nothing, next, AreCounts, is_past}
 use Rattle.spec_declarations.proofs.Counting.{past_limit, none_some}
 
@@ -176,12 +176,12 @@ module _ (datas : List Made) where
       big d None e p = absurd (false≢true (sym (ap is_past e) ∙ p))
       big d (Some k) e p =
           let r = h.sound d k e in
-          (r.0, counted_leaves d r.0 r.1, omega (arith, r.2, ltb-true 8192 k (sym (ap is_past e) ∙ p)))
+          (r.0, counted_leaves d r.0 r.1, omega (arith, r.2, ltb-true most_leaves k (sym (ap is_past e) ∙ p)))
 
       large : (d : ℕ) → IsLarge datas d → is_past (get_or counts d None) ≡ true
       large d l =
           let f = past_limit graph own counts (length-map datas plain ∙ sym (length-map datas held)) h d l.0 (leaves_counted d l.0 l.1) l.2 in
-          ap is_past f.1 ∙ lt-ltb 8192 f.0 f.2
+          ap is_past f.1 ∙ lt-ltb most_leaves f.0 f.2
 
 -- the same for tables that the code makes
 pub known_from : (datas : List Made) (graph' : List (List ℕ)) (own' counts : List (Option ℕ)) (t : List (List Bool)) (recursive large : List Bool)

@@ -3,6 +3,7 @@ use Rattle.std.proofs.Common.{◌≡◌, ℕ, ◌+◌, ◌<◌, ◌≤◌, min, 
 use Rattle.std.proofs.lemmas.Bool.{cases_eq, cases_lt}
 use Rattle.std.proofs.lemmas.List.{get_or_past, get_or-set_same, get_or-set_other}
 use Rattle.spec_declarations.specs.Counts.{capped_sum, total, CountOf, SumOf, counted, nothing, next, count_in, IsCount, AreSound, AreSettled, AreCounts, uncounted}
+use Rattle.spec_declarations.specs.Leaves.{most_leaves, past_leaves}
 
 total_none : (counts : List (Option ℕ)) (ds : List ℕ) → total None counts ds ≡ None
 total_none counts [] = refl
@@ -14,18 +15,18 @@ none_some k e = absurd cc
 module _ (graph : List (List ℕ)) (own : List (Option ℕ)) where
   -- ---- what is counted is right
 
-  total_sound : (counts : List (Option ℕ)) → AreSound graph own counts → (ds : List ℕ) (a x k : ℕ) → a ≡ min x 8193 → total (Some a) counts ds ≡ Some k
-      → (m : ℕ) × SumOf graph own ds m × (k ≡ min (x + m) 8193)
+  total_sound : (counts : List (Option ℕ)) → AreSound graph own counts → (ds : List ℕ) (a x k : ℕ) → a ≡ min x past_leaves → total (Some a) counts ds ≡ Some k
+      → (m : ℕ) × SumOf graph own ds m × (k ≡ min (x + m) past_leaves)
   total_sound counts sound [] a x k e t = (0, nothing, omega (arith, e, same t))
     where
       same : Some a ≡ Some k → a ≡ k
       same p = cc
   total_sound counts sound (d ∷ ds) a x k e t = more (get_or counts d None) refl t
-      (λ b n is t'. total_sound counts sound ds (min (a + b) 8193) (x + n) k (omega (arith, e, is)) t')
+      (λ b n is t'. total_sound counts sound ds (min (a + b) past_leaves) (x + n) k (omega (arith, e, is)) t')
     where
       more : (o : Option ℕ) → get_or counts d None ≡ o → total (capped_sum (Some a) o) counts ds ≡ Some k
-          → ((b n : ℕ) → b ≡ min n 8193 → total (Some (min (a + b) 8193)) counts ds ≡ Some k → (m : ℕ) × SumOf graph own ds m × (k ≡ min (x + n + m) 8193))
-          → (m : ℕ) × SumOf graph own (d ∷ ds) m × (k ≡ min (x + m) 8193)
+          → ((b n : ℕ) → b ≡ min n past_leaves → total (Some (min (a + b) past_leaves)) counts ds ≡ Some k → (m : ℕ) × SumOf graph own ds m × (k ≡ min (x + n + m) past_leaves))
+          → (m : ℕ) × SumOf graph own (d ∷ ds) m × (k ≡ min (x + m) past_leaves)
       more None is u go = none_some k (sym (total_none counts ds) ∙ u)
       more (Some b) is u go =
           let right = sound d b is in
@@ -38,13 +39,13 @@ module _ (graph : List (List ℕ)) (own : List (Option ℕ)) where
       start : (o : Option ℕ) → get_or own d None ≡ o → total (capped_sum (Some 0) o) counts (get_or graph d []) ≡ Some k → IsCount graph own d k
       start None is t = none_some k (sym (total_none counts (get_or graph d [])) ∙ t)
       start (Some p) is t =
-          let sum = total_sound counts sound (get_or graph d []) (min (0 + p) 8193) p k (omega arith) t in
+          let sum = total_sound counts sound (get_or graph d []) (min (0 + p) past_leaves) p k (omega arith) t in
           (p + sum.0, counted is sum.1, sum.2)
 
   -- ---- all is counted that can be
 
   split_total : (counts : List (Option ℕ)) (ds : List ℕ) (a : ℕ) (o : Option ℕ) → total (capped_sum (Some a) o) counts ds ≡ None
-      → (o ≡ None → ⊥) → ((b : ℕ) → total (Some (min (a + b) 8193)) counts ds ≡ None → ⊥) → ⊥
+      → (o ≡ None → ⊥) → ((b : ℕ) → total (Some (min (a + b) past_leaves)) counts ds ≡ None → ⊥) → ⊥
   split_total counts ds a None t f g = f refl
   split_total counts ds a (Some b) t f g = g b t
 
@@ -54,12 +55,12 @@ module _ (graph : List (List ℕ)) (own : List (Option ℕ)) where
   mutual
     complete : (counts : List (Option ℕ)) → AllSettled counts → (d n : ℕ) → CountOf graph own d n → get_or counts d None ≡ None → ⊥
     complete counts settled d n (counted {p = p} {m = m} is sum) none =
-        sum_complete counts settled (get_or graph d []) m sum (min (0 + p) 8193) (sym (ap (λ o. total (capped_sum (Some 0) o) counts (get_or graph d [])) is) ∙ settled d none)
+        sum_complete counts settled (get_or graph d []) m sum (min (0 + p) past_leaves) (sym (ap (λ o. total (capped_sum (Some 0) o) counts (get_or graph d [])) is) ∙ settled d none)
 
     sum_complete : (counts : List (Option ℕ)) → AllSettled counts → (ds : List ℕ) (m : ℕ) → SumOf graph own ds m → (a : ℕ) → total (Some a) counts ds ≡ None → ⊥
     sum_complete counts settled ds m nothing a t = none_some a (sym t)
     sum_complete counts settled ds m (next {d = d} {m = k} {n = n} {ds = rest} here more) a t =
-        split_total counts rest a (get_or counts d None) t (λ is. complete counts settled d k here is) (λ b u. sum_complete counts settled rest n more (min (a + b) 8193) u)
+        split_total counts rest a (get_or counts d None) t (λ is. complete counts settled d k here is) (λ b u. sum_complete counts settled rest n more (min (a + b) past_leaves) u)
 
   all_settled : (counts : List (Option ℕ)) → length own ≡ length graph → AreSettled graph own counts (length graph) → AllSettled counts
   all_settled counts w h d none = elim (cases_lt d (length graph)) [
@@ -89,17 +90,17 @@ module _ (graph : List (List ℕ)) (own : List (Option ℕ)) where
   -- ---- the counts of settled tables
 
   -- a count is past the limit exactly where its datatype's is
-  pub past_limit : (counts : List (Option ℕ)) → length own ≡ length graph → AreCounts graph own counts → (d n : ℕ) → CountOf graph own d n → 8192 < n
-      → (k : ℕ) × (get_or counts d None ≡ Some k) × (8192 < k)
+  pub past_limit : (counts : List (Option ℕ)) → length own ≡ length graph → AreCounts graph own counts → (d n : ℕ) → CountOf graph own d n → most_leaves < n
+      → (k : ℕ) × (get_or counts d None ≡ Some k) × (most_leaves < k)
   past_limit counts w h d n c l = found (get_or counts d None) refl
     where
-      right : (k : ℕ) → get_or counts d None ≡ Some k → 8192 < k
+      right : (k : ℕ) → get_or counts d None ≡ Some k → most_leaves < k
       right k e =
           let r = h.sound d k e in
           let same = one_count d n r.0 c r.1 in
           omega (arith, l, same, r.2)
 
-      found : (o : Option ℕ) → get_or counts d None ≡ o → (k : ℕ) × (get_or counts d None ≡ Some k) × (8192 < k)
+      found : (o : Option ℕ) → get_or counts d None ≡ o → (k : ℕ) × (get_or counts d None ≡ Some k) × (most_leaves < k)
       found None e = absurd (complete counts (all_settled counts w h.settled) d n c e)
       found (Some k) e = (k, e, right k e)
 

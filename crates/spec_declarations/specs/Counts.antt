@@ -3,7 +3,7 @@ use Rattle.std.specs.Prelude.{◌≡◌, ℕ, ◌+◌, ◌<◌, min, nat_lt, Boo
 use Rattle.spec_ir.specs.declared.ty.Ty.TheVariants.{Bool as Flag, Word, Data as DataTy, Map as MapOf}
 use Rattle.spec_declarations.specs.declared.type_names.Meaning.{Meaning}
 use Rattle.spec_declarations.specs.declared.type_names.Meaning.TheVariants.{Known, BadWidth, Unknown}
-use Rattle.spec_declarations.specs.Leaves.{Made}
+use Rattle.spec_declarations.specs.Leaves.{Made, most_leaves, past_leaves}
 
 -- ---- leaves but those of the datatypes in fields; none where a type is unknown
 
@@ -36,7 +36,7 @@ plain cases = plain_cases (Some 0) cases
 abbrev pub capped_sum : Option ℕ → Option ℕ → Option ℕ
 capped_sum None b = None
 capped_sum (Some a) None = None
-capped_sum (Some a) (Some b) = Some (min (a + b) 8193)
+capped_sum (Some a) (Some b) = Some (min (a + b) past_leaves)
 
 -- a count with those of datatypes
 abbrev pub total : Option ℕ → List (Option ℕ) → List ℕ → Option ℕ
@@ -60,7 +60,7 @@ module _ (graph : List (List ℕ)) (own : List (Option ℕ)) where
 
   -- a count is right, up to one past the limit
   abbrev pub IsCount : ℕ → ℕ → Type 0
-  IsCount d k = (n : ℕ) × CountOf d n × (k ≡ min n 8193)
+  IsCount d k = (n : ℕ) × CountOf d n × (k ≡ min n past_leaves)
 
   abbrev pub AreSound : List (Option ℕ) → Type 0
   AreSound counts = (d k : ℕ) → slice_index_or counts d None ≡ Some k → IsCount d k
@@ -77,7 +77,7 @@ module _ (graph : List (List ℕ)) (own : List (Option ℕ)) where
 -- whether a count is past the limit
 abbrev pub is_past : Option ℕ → Bool
 is_past None = false
-is_past (Some k) = nat_lt 8192 k
+is_past (Some k) = nat_lt most_leaves k
 
 -- how many datatypes are not counted
 abbrev pub uncounted : List (Option ℕ) → ℕ

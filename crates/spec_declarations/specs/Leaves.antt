@@ -9,6 +9,14 @@ use Rattle.spec_declarations.specs.declared.type_names.Meaning.{Meaning}
 use Rattle.spec_declarations.specs.declared.type_names.Meaning.TheVariants.{Known, BadWidth, Unknown}
 use Rattle.spec_declarations.specs.TypeNames.{TypeTable, types_of, type_named}
 
+-- how many leaves a datatype may have
+abbrev pub most_leaves : ℕ
+most_leaves = 8192
+
+-- one more: where a count of leaves stops
+abbrev pub past_leaves : ℕ
+past_leaves = 8193
+
 -- the datatypes in the order of declaration
 abbrev pub datatypes : List Item → List Datatype
 datatypes [] = []
@@ -69,7 +77,7 @@ module _ (datas : List Made) where
 
   -- A datatype past the limit of leaves.
   abbrev pub IsLarge : ℕ → Type 0
-  IsLarge d = (n : ℕ) × LeavesOf d n × (8192 < n)
+  IsLarge d = (n : ℕ) × LeavesOf d n × (most_leaves < n)
 
   -- What is known of each datatype: whether it contains itself, and whether it has too many leaves.
   pub record IsKnown (recursive large : List Bool) : Type 0 where

@@ -6,6 +6,12 @@ ghost use Rattle.spec_declarations.specs.Counts.{AreCounts, AreSettled, AreSound
 
 use std::alloc::{AllocError, Global};
 
+/// How many leaves a datatype may have.
+const MOST_LEAVES: u32 = 8192;
+
+/// One more: where a count of leaves stops.
+const PAST_LEAVES: u32 = 8193;
+
 /// The leaves of each datatype, up to one past the limit; none where it contains itself or an
 /// unknown type, directly or through others. `graph` has the datatypes that each holds, `own` its
 /// other leaves.
@@ -33,7 +39,8 @@ fn round(graph: &[Vec<u32>], own: &[Option<u32>], counts: &mut Vec<Option<u32>>)
     requires own_width { length own.now ≡ length graph.now }
     requires width { length counts.old.items ≡ length graph.now }
     ensures width { length counts.new.items ≡ length graph.now }
-    ensures sound { AreSound (map (λ row. row.items) graph.now) own.now counts.old.items → AreSound (map (λ row. row.items) graph.now) own.now counts.new.items }
+    ensures sound { AreSound (map (λ row. row.items) graph.now) own.now counts.old.items
+        → AreSound (map (λ row. row.items) graph.now) own.now counts.new.items }
     ensures more { result ≡ true → uncounted counts.new.items < uncounted counts.old.items }
     ensures same { result ≡ false → counts.new.items ≡ counts.old.items }
     ensures settled { result ≡ false → AreSettled (map (λ row. row.items) graph.now) own.now counts.new.items (length graph.now) }
@@ -52,8 +59,10 @@ fn look(graph: &[Vec<u32>], own: &[Option<u32>], counts: &mut Vec<Option<u32>>, 
     requires own_in { d < length own.now }
     requires graph_in { d < length graph.now }
     requires counts_in { d < length counts.old.items }
-    ensures counts { counts.new.items ≡ slice_set counts.old.items d (or_else (slice_index_or counts.old.items d None) (count_in (map (λ row. row.items) graph.now) own.now counts.old.items d)) }
-    ensures added { result ≡ (not (is_some (slice_index_or counts.old.items d None)) && is_some (count_in (map (λ row. row.items) graph.now) own.now counts.old.items d)) }
+    ensures counts { counts.new.items ≡ slice_set counts.old.items d (or_else (slice_index_or counts.old.items d None)
+        (count_in (map (λ row. row.items) graph.now) own.now counts.old.items d)) }
+    ensures added { result ≡ (not (is_some (slice_index_or counts.old.items d None)) && is_some
+        (count_in (map (λ row. row.items) graph.now) own.now counts.old.items d)) }
 {
     if counts[d].is_some() {
         return false;
@@ -79,7 +88,7 @@ fn capped_sum(a: Option<u32>, b: Option<u32>) -> Option<u32>
     ensures { result ≡ capped_sum a b }
 {
     match (a, b) {
-        (Some(a), Some(b)) => Some(a.saturating_add(b).min(8193)),
+        (Some(a), Some(b)) => Some(a.saturating_add(b).min(PAST_LEAVES)),
         _ => None,
     }
 }
@@ -100,7 +109,7 @@ fn is_past(count: Option<u32>) -> bool
     ensures { result ≡ is_past count }
 {
     match count {
-        Some(n) => 8192 < n,
+        Some(n) => MOST_LEAVES < n,
         None => false,
     }
 }

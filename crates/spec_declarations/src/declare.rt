@@ -38,9 +38,12 @@ fn declare_item(
     before: &mut Declarations,
     declaration: &Item,
 ) -> Result<(), AllocError>
-    ensures datas { OnOk result ((rest : List t.Item) → map data_of before.new.datas.items ++ spec.datas_from names.now rest ≡ map data_of before.old.datas.items ++ spec.datas_from names.now (view.item declaration.now ∷ rest)) }
-    ensures maps { OnOk result ((rest : List t.Item) → before.new.maps.items ++ spec.maps_from names.now rest ≡ before.old.maps.items ++ spec.maps_from names.now (view.item declaration.now ∷ rest)) }
-    ensures funs { OnOk result ((rest : List t.Item) → map signature_of before.new.funs.items ++ spec.signatures_from names.now rest ≡ map signature_of before.old.funs.items ++ spec.signatures_from names.now (view.item declaration.now ∷ rest)) }
+    ensures datas { OnOk result ((rest : List t.Item) → map data_of before.new.datas.items ++ spec.datas_from names.now rest
+        ≡ map data_of before.old.datas.items ++ spec.datas_from names.now (view.item declaration.now ∷ rest)) }
+    ensures maps { OnOk result ((rest : List t.Item) → before.new.maps.items ++ spec.maps_from names.now rest
+        ≡ before.old.maps.items ++ spec.maps_from names.now (view.item declaration.now ∷ rest)) }
+    ensures funs { OnOk result ((rest : List t.Item) → map signature_of before.new.funs.items ++ spec.signatures_from names.now rest
+        ≡ map signature_of before.old.funs.items ++ spec.signatures_from names.now (view.item declaration.now ∷ rest)) }
 {
     match declaration {
         Item::Data(d) => before.datas.push(data(alloc, names, d)?)?,
@@ -115,7 +118,7 @@ fn field(alloc: Global, names: &TypeNames, f: &FieldDecl) -> Result<(Text, Ty), 
     Ok((f.name.text.copy(alloc)?, type_in(names, &f.ty)))
 }
 
-/// A map type.
+/// What a map type declares; the width is 0 where its cells are no words.
 fn map_ty(alloc: Global, names: &TypeNames, m: &MapDecl) -> Result<MapType, AllocError>
     ensures { IfOk result (λ r. r ≡ spec.map_declared names.now m.now) }
 {
@@ -127,7 +130,7 @@ fn map_ty(alloc: Global, names: &TypeNames, m: &MapDecl) -> Result<MapType, Allo
     })
 }
 
-/// The width of a word.
+/// The width of a word's type in bits; of another type, 0.
 fn width(ty: Ty) -> u32
     ensures { result ≡ spec.width_or ty }
 {

@@ -59,7 +59,8 @@ fn earlier(state: Option<Span>, interp: Option<Span>) -> Result<(), SpecError>
 /// The numbers of the types and the function of a machine.
 fn numbers(tree: &Tree) -> Result<Option<Machine>, SpecError>
     ensures answer { Agrees result None }
-    ensures machine { IfOk result (λ m. m ≡ spec.machine_by (spec.instr_in (view.tree tree.now)) (spec.state_in (view.tree tree.now)) (spec.interp_in (view.tree tree.now))) }
+    ensures machine { IfOk result (λ m. m ≡ spec.machine_by (spec.instr_in (view.tree tree.now)) (spec.state_in (view.tree tree.now))
+        (spec.interp_in (view.tree tree.now))) }
 {
     let instr = datatype_named(&tree.items, "Instr");
     let state = datatype_named(&tree.items, "State");
@@ -179,7 +180,8 @@ fn are_state_cases(alloc: Global, names: &TypeNames, cases: &[CaseDecl]) -> Resu
 
 /// Whether the first field is the counter, and the others may follow it.
 fn is_state_case(alloc: Global, names: &TypeNames, fields: &[FieldDecl]) -> Result<bool, AllocError>
-    ensures { IfOk result (λ r. r ≡ (spec.is_counter_field names.now (slice_get fields.now 0) && spec.are_state_fields [] (map (λ f. type_in names.now f.ty) (drop 1 fields.now)))) }
+    ensures { IfOk result (λ r. r ≡ (spec.is_counter_field names.now (slice_get fields.now 0) && spec.are_state_fields []
+        (map (λ f. type_in names.now f.ty) (drop 1 fields.now)))) }
 {
     match fields.first() {
         None => Ok(false),
@@ -244,7 +246,8 @@ fn has(numbers: &[u32], n: u32) -> bool
 
 /// Where the function of instructions is at fault.
 fn interp_fault(items: &[Item], end: u32) -> Option<Span>
-    ensures { result ≡ spec.interp_fault (spec.datatype_from 0 (map view.item items.now) (codes "Instr")) end (spec.function_from 0 (map view.item items.now) (codes "interpInstr")) }
+    ensures { result ≡ spec.interp_fault (spec.datatype_from 0 (map view.item items.now) (codes "Instr")) end
+        (spec.function_from 0 (map view.item items.now) (codes "interpInstr")) }
 {
     match function_named(items, "interpInstr") {
         None => Some(at_end(end)),

@@ -249,7 +249,8 @@ pub fn types_fault(
     facts: &Facts,
     items: &[Item],
 ) -> Result<(), SpecError>
-    ensures { Agrees result (spec.items_types_fault names.now (map (λ d. view.datatype d.now) datas.now) facts.now.recursive.items facts.now.large.items 0 (map view.item items.now)) }
+    ensures { Agrees result (spec.items_types_fault names.now (map (λ d. view.datatype d.now) datas.now) facts.now.recursive.items
+        facts.now.large.items 0 (map view.item items.now)) }
 {
     let mut d = 0;
     for item in items {
@@ -281,7 +282,8 @@ fn item_fault(
     d: usize,
     item: &Item,
 ) -> Result<(), SpecError>
-    ensures { Agrees result (spec.item_types_fault names.now (map (λ d. view.datatype d.now) datas.now) facts.now.recursive.items facts.now.large.items d (view.item item.now)) }
+    ensures { Agrees result (spec.item_types_fault names.now (map (λ d. view.datatype d.now) datas.now) facts.now.recursive.items
+        facts.now.large.items d (view.item item.now)) }
 {
     match item {
         Item::Data(x) => {

@@ -1,11 +1,8 @@
 -- The bits that a decode row fixes.
-use Rattle.std.specs.Prelude.{ℕ, zero, suc, ◌^◌, ◌/◌, ◌%◌, Bool, true, false, ◌&&◌, ◌==◌, Option, Some, None, List, [], ◌∷◌, ◌++◌, replicate}
+use Rattle.std.specs.Prelude.{ℕ, zero, suc, Bool, true, false, ◌&&◌, Option, Some, None, List, [], ◌∷◌, ◌++◌, replicate}
+pub use Rattle.spec_ir.specs.Rows.{bit}
 use Rattle.syntax_parser.specs.declared.tree.PartDecl.{PartDecl}
 use Rattle.syntax_parser.specs.declared.tree.PartDecl.TheVariants.{Fixed, Named}
-
--- bit n of a number, the least significant being bit 0
-abbrev pub bit : ℕ → ℕ → Bool
-bit v n = ((v / 2 ^ n) % 2) == 1
 
 -- the w low bits of a number, the most significant first
 abbrev pub bits_of : ℕ → ℕ → List (Option Bool)

@@ -9,6 +9,7 @@ pub mod Specification
 pub mod Views
 pub mod Scopes
 pub mod FaultLines
+pub mod Hex
 pub mod Bindings
 pub mod WellFormed
 pub mod Found

@@ -11,6 +11,10 @@ abbrev pub width_sum : List WordPart → ℕ
 width_sum [] = 0
 width_sum (p ∷ parts) = part_width p + width_sum parts
 
+-- bit n of a number, the least significant being bit 0
+abbrev pub bit : ℕ → ℕ → Bool
+bit v n = ((v / 2 ^ n) % 2) == 1
+
 -- the number in the w bits of a word that stand above n lower ones
 abbrev pub bits_above : ℕ → ℕ → ℕ → ℕ
 bits_above n w code = (code / 2 ^ n) % 2 ^ w

@@ -9,11 +9,12 @@
 //! its Ok says that there is none, and its Err is that fault or want of memory. The first fault of
 //! two parts, one after the other, is `a then b`.
 //!
-//! What is proved: look-ups by name (`Environment`, `Scope`), the texts of types, of examples and of
-//! refusals, each against its definition.
+//! What is proved: look-ups by name (`Environment`, `Scope`), how many constructors a datatype has, the texts of types,
+//! of examples and of refusals, each against its definition.
 #![tactic(auto)]
 
 mod core_term;
+mod counts;
 mod declared;
 mod environment;
 mod fault_lines;
@@ -23,7 +24,6 @@ mod pattern_texts;
 mod row;
 mod scope;
 mod shapes;
-mod spans;
 mod spec;
 mod spec_error;
 mod table;
@@ -32,6 +32,7 @@ mod texts;
 mod ty;
 
 pub use core_term::Core;
+pub use counts::case_count;
 pub use declared::{Case, Data, Declarations, MapType, Signature};
 pub use environment::Environment;
 pub use names::{Constructor, Function, field_types, function_named, key_type, value_type};
@@ -40,7 +41,6 @@ pub use pattern_texts::pattern_text;
 pub use row::{Arg, Guard, Row, WordPart};
 pub use scope::{Scope, Variable};
 pub use shapes::shape;
-pub use spans::span_of;
 pub use spec::{Fun, Machine, Spec, SpecUse};
 pub use spec_error::SpecError;
 pub use term::{CastKind, Term};

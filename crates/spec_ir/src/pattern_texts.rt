@@ -88,7 +88,8 @@ fn write_case(
     case: &Case,
     parts: &[Pattern],
 ) -> Result<(), AllocError>
-    ensures { OnOk result (string_bytes out.new ≡ string_bytes out.old ++ case.now.name ++ texts.arguments_text (environment declarations.now) (field_types (case_of case.now)) (pats (map pat parts.now))) }
+    ensures { OnOk result (string_bytes out.new ≡ string_bytes out.old ++ case.now.name ++ texts.arguments_text (environment declarations.now)
+        (field_types (case_of case.now)) (pats (map pat parts.now))) }
 {
     out.push_str(case.name.as_str())?;
     let types = field_types(alloc, &case.fields)?;
@@ -109,7 +110,8 @@ fn write_parts(
 ) -> Result<(), AllocError>
     requires types { 0 < length types.now }
     requires parts { 0 < length parts.now }
-    ensures { OnOk result (string_bytes out.new ≡ string_bytes out.old ++ texts.arguments_text (environment declarations.now) types.now (pats (map pat parts.now))) }
+    ensures { OnOk result (string_bytes out.new ≡ string_bytes out.old ++ texts.arguments_text (environment declarations.now) types.now
+        (pats (map pat parts.now))) }
 {
     out.push_str("(")?;
     write_pattern(alloc, declarations, out, types[0], &parts[0])?;

@@ -47,7 +47,8 @@ fn enter_case<'a>(
     name: &'a Text,
     constructor: Constructor<'a>,
 ) -> Result<(), AllocError>
-    ensures { OnOk result ((other : List ℕ) → found table.new other ≡ or_else (found table.old other) (if bytes_eq name.now other then Some (constructor_of constructor.entry) else None)) }
+    ensures { OnOk result ((other : List ℕ) → found table.new other ≡ or_else (found table.old other)
+        (if bytes_eq name.now other then Some (constructor_of constructor.entry) else None)) }
 {
     let name = name.as_str();
     if table.contains_key(name) {

@@ -1,5 +1,5 @@
 -- One step of the compilation.
-use Rattle.std.proofs.Common.{◌≡◌, ℕ, ◌+◌, ◌<◌, Some, None, List, [], ◌∷◌, ◌++◌, length, get_or, map, take, drop, slice_get, Vec, Global, refl, sym, ap, ◌∙◌}
+use Rattle.std.proofs.Common.{◌≡◌, ℕ, ◌+◌, ◌<◌, None, List, [], ◌∷◌, ◌++◌, length, get_or, map, take, drop, slice_get, Vec, Global, refl, sym, ap, ◌∙◌}
 use Rattle.std.proofs.lemmas.List.{take-append-drop, drop-map, take_more, map-append}
 use Rattle.std.specs.List.{take-map}
 use Rattle.spec_match_compiler.specs.declared.knowledge.Knowledge.{Knowledge}
@@ -42,10 +42,6 @@ step_limits types [] k o at test earlier later asks all h split = absurd asks
 step_limits types (first ∷ rest) k o at test earlier later asks all h split =
     let opens = first_opens first.1 k (at, test) asks in
     put_limits k o at h (shows_limits types test o all (test_limits first.1 k at test opens h) (shown types test earlier later o split))
-
-pub rows_from : (xs : List Candidate) (x : Candidate) → Some x ≡ slice_get xs 0 → map candidate xs ≡ candidate x ∷ map candidate (drop 1 xs)
-rows_from [] x e = absurd (cc)
-rows_from (y ∷ ys) x e = let same : x ≡ y = cc in ap (λ z. candidate z ∷ map candidate ys) (sym same)
 
 pub no_rows : (xs : List Candidate) → None ≡ slice_get xs 0 → map candidate xs ≡ []
 no_rows [] e = refl

@@ -72,10 +72,13 @@ fn made_pattern<'a>(
     span: Span,
 ) -> Result<Pattern, SpecError>
     ensures answer { Agrees result (spec.make_fault environment.now ty name.now (spec.patterns_len (pattern_trees (map pattern_tree parts.now)))
-        (spec.part_faults environment.now (spec.fields_of (constructor_named environment.now name.now.text)) (pattern_trees (map pattern_tree parts.now))) span) }
+        (spec.part_faults environment.now (spec.fields_of (constructor_named environment.now name.now.text))
+        (pattern_trees (map pattern_tree parts.now))) span) }
     ensures pattern { IfOk result (λ r. pat r ≡ m.case_is (spec.case_number (constructor_named environment.now name.now.text))
-        (spec.parts_of environment.now scope.old (spec.fields_of (constructor_named environment.now name.now.text)) (pattern_trees (map pattern_tree parts.now)))) }
-    ensures scope { OnOk result (scope.new ≡ scope.old ++ spec.part_variables environment.now (spec.fields_of (constructor_named environment.now name.now.text)) (pattern_trees (map pattern_tree parts.now))) }
+        (spec.parts_of environment.now scope.old (spec.fields_of (constructor_named environment.now name.now.text))
+        (pattern_trees (map pattern_tree parts.now)))) }
+    ensures scope { OnOk result (scope.new ≡ scope.old ++ spec.part_variables environment.now
+        (spec.fields_of (constructor_named environment.now name.now.text)) (pattern_trees (map pattern_tree parts.now))) }
 {
     let Some(c) = environment.constructor(&name.text) else {
         return Err(unknown(alloc, name));
@@ -99,7 +102,8 @@ fn checked_parts<'a>(
 ) -> Result<Vec<Pattern>, SpecError>
     requires count { length types.now ≡ length parts.now }
     ensures answer { Agrees result (spec.part_faults environment.now types.now (pattern_trees (map pattern_tree parts.now))) }
-    ensures patterns { IfOk result (λ r. pats (map pat r.items) ≡ spec.parts_of environment.now scope.old types.now (pattern_trees (map pattern_tree parts.now))) }
+    ensures patterns { IfOk result (λ r. pats (map pat r.items) ≡ spec.parts_of environment.now scope.old types.now
+        (pattern_trees (map pattern_tree parts.now))) }
     ensures scope { OnOk result (scope.new ≡ scope.old ++ spec.part_variables environment.now types.now (pattern_trees (map pattern_tree parts.now))) }
 {
     let mut out = Vec::new(alloc);

@@ -34,7 +34,8 @@ pub fn finish_match(
     requires none { arms.ty ≡ None → map pat arms.patterns.items ≡ [] }
     ensures answer { Agrees result (match_fault environment.now span x.ty (map pat arms.patterns.items)) }
     ensures ty { IfOk result (λ r. arms.ty ≡ Some r.ty) }
-    ensures term { IfOk result (λ r. term r.forms.term ≡ s.match_on (term x.forms.term) (s.arms (zip (map pat arms.patterns.items) (map term arms.terms.items)))) }
+    ensures term { IfOk result (λ r. term r.forms.term ≡ s.match_on (term x.forms.term)
+        (s.arms (zip (map pat arms.patterns.items) (map term arms.terms.items)))) }
     ensures core { IfOk result (λ r. core r.forms.core ≡ k.choose (core x.forms.core)
         (tree_of (match_answer (shapes_of environment.now) (shape_of x.ty) (map pat arms.patterns.items))) (k.cores (map core arms.cores.items))) }
 {

@@ -24,7 +24,7 @@ ghost use Rattle.spec_term_forms.specs.OperatorViews.{operator};
 ghost use Rattle.spec_typing.specs.Parts as parts;
 ghost use Rattle.spec_typing.specs.Terms as spec;
 
-use spec_ir::{Environment, Scope, SpecError, Ty, span_of};
+use spec_ir::{Environment, Scope, SpecError, Ty};
 use spec_term_forms::{
     Branch, Branches, Forms, Lists, Operator, call, flag, get, if_else, keyword_operator, let_in,
     make, operator_of, put,
@@ -35,6 +35,7 @@ use spec_term_steps::{
 };
 use spec_typing::{Typed, a_literal, a_variable, enter, enter_pattern};
 use std::alloc::Global;
+use syntax_grammar::span_of;
 use syntax_lexer::Keyword;
 use syntax_parser::tree::{Arm, Expr, Name, Num, PreOp, Span};
 
@@ -145,10 +146,14 @@ fn check_let<'a>(
 ) -> Result<Typed, SpecError>
     requires declared { IsWellFormed environment.now }
     requires scope { is_scope environment.now scope.old ≡ true }
-    ensures answer { Agrees result (spec.fault_in environment.now scope.old (expr x.now) then spec.fault_in environment.now (spec.enter scope.old name.now.text (spec.type_of environment.now scope.old (expr x.now))) (expr body.now)) }
-    ensures ty { IfOk result (λ r. spec.type_of environment.now (spec.enter scope.old name.now.text (spec.type_of environment.now scope.old (expr x.now))) (expr body.now) ≡ Some r.ty) }
-    ensures term { IfOk result (λ r. term r.forms.term ≡ s.let_in (spec.term_of environment.now scope.old (expr x.now)) (spec.term_of environment.now (spec.enter scope.old name.now.text (spec.type_of environment.now scope.old (expr x.now))) (expr body.now))) }
-    ensures core { IfOk result (λ r. core r.forms.core ≡ k.let_in (cores.core_in environment.now scope.old (expr x.now)) (cores.core_in environment.now (spec.enter scope.old name.now.text (spec.type_of environment.now scope.old (expr x.now))) (expr body.now))) }
+    ensures answer { Agrees result (spec.fault_in environment.now scope.old (expr x.now) then spec.fault_in environment.now
+        (spec.enter scope.old name.now.text (spec.type_of environment.now scope.old (expr x.now))) (expr body.now)) }
+    ensures ty { IfOk result (λ r. spec.type_of environment.now (spec.enter scope.old name.now.text
+        (spec.type_of environment.now scope.old (expr x.now))) (expr body.now) ≡ Some r.ty) }
+    ensures term { IfOk result (λ r. term r.forms.term ≡ s.let_in (spec.term_of environment.now scope.old (expr x.now))
+        (spec.term_of environment.now (spec.enter scope.old name.now.text (spec.type_of environment.now scope.old (expr x.now))) (expr body.now))) }
+    ensures core { IfOk result (λ r. core r.forms.core ≡ k.let_in (cores.core_in environment.now scope.old (expr x.now))
+        (cores.core_in environment.now (spec.enter scope.old name.now.text (spec.type_of environment.now scope.old (expr x.now))) (expr body.now))) }
     ensures scope { OnOk result (scope.new ≡ scope.old) }
 {
     let depth = scope.depth();
@@ -181,10 +186,13 @@ fn check_conditional<'a>(
 ) -> Result<Typed, SpecError>
     requires declared { IsWellFormed environment.now }
     requires scope { is_scope environment.now scope.old ≡ true }
-    ensures answer { Agrees result (spec.if_fault environment.now (spec.part environment.now scope.old (expr c.now)) (spec.part environment.now scope.old (expr yes.now)) (spec.part environment.now scope.old (expr no.now))) }
+    ensures answer { Agrees result (spec.if_fault environment.now (spec.part environment.now scope.old (expr c.now))
+        (spec.part environment.now scope.old (expr yes.now)) (spec.part environment.now scope.old (expr no.now))) }
     ensures ty { IfOk result (λ r. spec.type_of environment.now scope.old (expr yes.now) ≡ Some r.ty) }
-    ensures term { IfOk result (λ r. term r.forms.term ≡ s.if_else (spec.term_of environment.now scope.old (expr c.now)) (spec.term_of environment.now scope.old (expr yes.now)) (spec.term_of environment.now scope.old (expr no.now))) }
-    ensures core { IfOk result (λ r. core r.forms.core ≡ k.if_else (cores.core_in environment.now scope.old (expr c.now)) (cores.core_in environment.now scope.old (expr yes.now)) (cores.core_in environment.now scope.old (expr no.now))) }
+    ensures term { IfOk result (λ r. term r.forms.term ≡ s.if_else (spec.term_of environment.now scope.old (expr c.now))
+        (spec.term_of environment.now scope.old (expr yes.now)) (spec.term_of environment.now scope.old (expr no.now))) }
+    ensures core { IfOk result (λ r. core r.forms.core ≡ k.if_else (cores.core_in environment.now scope.old (expr c.now))
+        (cores.core_in environment.now scope.old (expr yes.now)) (cores.core_in environment.now scope.old (expr no.now))) }
     ensures scope { OnOk result (scope.new ≡ scope.old) }
 {
     let c = check_of_type(alloc, environment, scope, c, Ty::Bool)?;
@@ -220,10 +228,15 @@ fn check_operands<'a>(
 ) -> Result<Typed, SpecError>
     requires declared { IsWellFormed environment.now }
     requires scope { is_scope environment.now scope.old ≡ true }
-    ensures answer { Agrees result (spec.operands_fault environment.now (operator op) (spec.part environment.now scope.old (expr x.now)) (spec.part environment.now scope.old (expr y.now))) }
+    ensures answer { Agrees result (spec.operands_fault environment.now (operator op) (spec.part environment.now scope.old (expr x.now))
+        (spec.part environment.now scope.old (expr y.now))) }
     ensures ty { IfOk result (λ r. forms.operator_type (operator op) (spec.type_of environment.now scope.old (expr x.now)) ≡ Some r.ty) }
-    ensures term { IfOk result (λ r. term r.forms.term ≡ forms.operator_term (operator op) (forms.width_of (spec.type_of environment.now scope.old (expr x.now))) (spec.term_of environment.now scope.old (expr x.now)) (spec.term_of environment.now scope.old (expr y.now))) }
-    ensures core { IfOk result (λ r. core r.forms.core ≡ forms.operator_core (operator op) (forms.width_of (spec.type_of environment.now scope.old (expr x.now))) (cores.core_in environment.now scope.old (expr x.now)) (cores.core_in environment.now scope.old (expr y.now))) }
+    ensures term { IfOk result (λ r. term r.forms.term ≡ forms.operator_term (operator op)
+        (forms.width_of (spec.type_of environment.now scope.old (expr x.now))) (spec.term_of environment.now scope.old (expr x.now))
+        (spec.term_of environment.now scope.old (expr y.now))) }
+    ensures core { IfOk result (λ r. core r.forms.core ≡ forms.operator_core (operator op)
+        (forms.width_of (spec.type_of environment.now scope.old (expr x.now))) (cores.core_in environment.now scope.old (expr x.now))
+        (cores.core_in environment.now scope.old (expr y.now))) }
     ensures scope { OnOk result (scope.new ≡ scope.old) }
 {
     let span = span_of(x);
@@ -252,8 +265,10 @@ fn check_prefix<'a>(
     requires scope { is_scope environment.now scope.old ≡ true }
     ensures answer { Agrees result (spec.prefix_fault environment.now op (spec.part environment.now scope.old (expr x.now))) }
     ensures ty { IfOk result (λ r. forms.prefix_type op (spec.type_of environment.now scope.old (expr x.now)) ≡ Some r.ty) }
-    ensures term { IfOk result (λ r. term r.forms.term ≡ forms.prefix_term op (forms.width_of (spec.type_of environment.now scope.old (expr x.now))) (spec.term_of environment.now scope.old (expr x.now))) }
-    ensures core { IfOk result (λ r. core r.forms.core ≡ forms.prefix_core op (forms.width_of (spec.type_of environment.now scope.old (expr x.now))) (cores.core_in environment.now scope.old (expr x.now))) }
+    ensures term { IfOk result (λ r. term r.forms.term ≡ forms.prefix_term op (forms.width_of (spec.type_of environment.now scope.old (expr x.now)))
+        (spec.term_of environment.now scope.old (expr x.now))) }
+    ensures core { IfOk result (λ r. core r.forms.core ≡ forms.prefix_core op (forms.width_of (spec.type_of environment.now scope.old (expr x.now)))
+        (cores.core_in environment.now scope.old (expr x.now))) }
     ensures scope { OnOk result (scope.new ≡ scope.old) }
 {
     let span = span_of(x);
@@ -277,8 +292,10 @@ fn check_cast<'a>(
     requires scope { is_scope environment.now scope.old ≡ true }
     ensures answer { Agrees result (spec.cast_to_fault environment.now (operators.cast_of op) (spec.part environment.now scope.old (expr x.now)) to span) }
     ensures ty { IfOk result (λ r. Ty.Word to.v ≡ r.ty) }
-    ensures term { IfOk result (λ r. term r.forms.term ≡ s.cast (operators.cast_of op) (forms.width_of (spec.type_of environment.now scope.old (expr x.now))) to.v (spec.term_of environment.now scope.old (expr x.now))) }
-    ensures core { IfOk result (λ r. core r.forms.core ≡ k.cast (operators.cast_of op) (forms.width_of (spec.type_of environment.now scope.old (expr x.now))) to.v (cores.core_in environment.now scope.old (expr x.now))) }
+    ensures term { IfOk result (λ r. term r.forms.term ≡ s.cast (operators.cast_of op)
+        (forms.width_of (spec.type_of environment.now scope.old (expr x.now))) to.v (spec.term_of environment.now scope.old (expr x.now))) }
+    ensures core { IfOk result (λ r. core r.forms.core ≡ k.cast (operators.cast_of op)
+        (forms.width_of (spec.type_of environment.now scope.old (expr x.now))) to.v (cores.core_in environment.now scope.old (expr x.now))) }
     ensures scope { OnOk result (scope.new ≡ scope.old) }
 {
     let place = span_of(x);
@@ -297,10 +314,13 @@ fn check_get<'a>(
 ) -> Result<Typed, SpecError>
     requires declared { IsWellFormed environment.now }
     requires scope { is_scope environment.now scope.old ≡ true }
-    ensures answer { Agrees result (spec.get_fault environment.now (spec.part environment.now scope.old (expr x.now)) (spec.part environment.now scope.old (expr key.now))) }
+    ensures answer { Agrees result (spec.get_fault environment.now (spec.part environment.now scope.old (expr x.now))
+        (spec.part environment.now scope.old (expr key.now))) }
     ensures ty { IfOk result (λ r. value_type environment.now (spec.map_of (spec.type_of environment.now scope.old (expr x.now))) ≡ r.ty) }
-    ensures term { IfOk result (λ r. term r.forms.term ≡ s.get (spec.map_of (spec.type_of environment.now scope.old (expr x.now))) (spec.term_of environment.now scope.old (expr x.now)) (spec.term_of environment.now scope.old (expr key.now))) }
-    ensures core { IfOk result (λ r. core r.forms.core ≡ k.get (spec.map_of (spec.type_of environment.now scope.old (expr x.now))) (cores.core_in environment.now scope.old (expr x.now)) (cores.core_in environment.now scope.old (expr key.now))) }
+    ensures term { IfOk result (λ r. term r.forms.term ≡ s.get (spec.map_of (spec.type_of environment.now scope.old (expr x.now)))
+        (spec.term_of environment.now scope.old (expr x.now)) (spec.term_of environment.now scope.old (expr key.now))) }
+    ensures core { IfOk result (λ r. core r.forms.core ≡ k.get (spec.map_of (spec.type_of environment.now scope.old (expr x.now)))
+        (cores.core_in environment.now scope.old (expr x.now)) (cores.core_in environment.now scope.old (expr key.now))) }
     ensures scope { OnOk result (scope.new ≡ scope.old) }
 {
     let span = span_of(x);
@@ -330,10 +350,15 @@ fn check_put<'a>(
 ) -> Result<Typed, SpecError>
     requires declared { IsWellFormed environment.now }
     requires scope { is_scope environment.now scope.old ≡ true }
-    ensures answer { Agrees result (spec.put_fault environment.now (spec.part environment.now scope.old (expr x.now)) (spec.part environment.now scope.old (expr key.now)) (spec.part environment.now scope.old (expr v.now))) }
+    ensures answer { Agrees result (spec.put_fault environment.now (spec.part environment.now scope.old (expr x.now))
+        (spec.part environment.now scope.old (expr key.now)) (spec.part environment.now scope.old (expr v.now))) }
     ensures ty { IfOk result (λ r. spec.type_of environment.now scope.old (expr x.now) ≡ Some r.ty) }
-    ensures term { IfOk result (λ r. term r.forms.term ≡ s.put (spec.map_of (spec.type_of environment.now scope.old (expr x.now))) (spec.term_of environment.now scope.old (expr x.now)) (spec.term_of environment.now scope.old (expr key.now)) (spec.term_of environment.now scope.old (expr v.now))) }
-    ensures core { IfOk result (λ r. core r.forms.core ≡ k.put (spec.map_of (spec.type_of environment.now scope.old (expr x.now))) (cores.core_in environment.now scope.old (expr x.now)) (cores.core_in environment.now scope.old (expr key.now)) (cores.core_in environment.now scope.old (expr v.now))) }
+    ensures term { IfOk result (λ r. term r.forms.term ≡ s.put (spec.map_of (spec.type_of environment.now scope.old (expr x.now)))
+        (spec.term_of environment.now scope.old (expr x.now)) (spec.term_of environment.now scope.old (expr key.now))
+        (spec.term_of environment.now scope.old (expr v.now))) }
+    ensures core { IfOk result (λ r. core r.forms.core ≡ k.put (spec.map_of (spec.type_of environment.now scope.old (expr x.now)))
+        (cores.core_in environment.now scope.old (expr x.now)) (cores.core_in environment.now scope.old (expr key.now))
+        (cores.core_in environment.now scope.old (expr v.now))) }
     ensures scope { OnOk result (scope.new ≡ scope.old) }
 {
     let span = span_of(x);
@@ -370,10 +395,13 @@ fn check_call<'a>(
 ) -> Result<Typed, SpecError>
     requires declared { IsWellFormed environment.now }
     requires scope { is_scope environment.now scope.old ≡ true }
-    ensures answer { Agrees result (spec.callee_fault environment.now name.now (spec.terms_len (exprs (map expr args.now))) then spec.argument_faults environment.now scope.old (spec.params_of (function_named environment.now name.now.text)) (exprs (map expr args.now))) }
+    ensures answer { Agrees result (spec.callee_fault environment.now name.now (spec.terms_len (exprs (map expr args.now))) then spec.argument_faults
+        environment.now scope.old (spec.params_of (function_named environment.now name.now.text)) (exprs (map expr args.now))) }
     ensures ty { IfOk result (λ r. option_map (λ f. f.signature.result_type) (function_named environment.now name.now.text) ≡ Some r.ty) }
-    ensures term { IfOk result (λ r. term r.forms.term ≡ s.call (spec.number_of (function_named environment.now name.now.text)) (spec.terms_of environment.now scope.old (exprs (map expr args.now)))) }
-    ensures core { IfOk result (λ r. core r.forms.core ≡ k.call (spec.number_of (function_named environment.now name.now.text)) (cores.cores_in environment.now scope.old (exprs (map expr args.now)))) }
+    ensures term { IfOk result (λ r. term r.forms.term ≡ s.call (spec.number_of (function_named environment.now name.now.text))
+        (spec.terms_of environment.now scope.old (exprs (map expr args.now)))) }
+    ensures core { IfOk result (λ r. core r.forms.core ≡ k.call (spec.number_of (function_named environment.now name.now.text))
+        (cores.cores_in environment.now scope.old (exprs (map expr args.now)))) }
     ensures scope { OnOk result (scope.new ≡ scope.old) }
 {
     let f = callee_of(alloc, environment, name, count_of(args))?;
@@ -395,10 +423,13 @@ fn check_constructor<'a>(
 ) -> Result<Typed, SpecError>
     requires declared { IsWellFormed environment.now }
     requires scope { is_scope environment.now scope.old ≡ true }
-    ensures answer { Agrees result (spec.maker_fault environment.now name.now (spec.terms_len (exprs (map expr args.now))) then spec.argument_faults environment.now scope.old (pattern.fields_of (constructor_named environment.now name.now.text)) (exprs (map expr args.now))) }
+    ensures answer { Agrees result (spec.maker_fault environment.now name.now (spec.terms_len (exprs (map expr args.now))) then spec.argument_faults
+        environment.now scope.old (pattern.fields_of (constructor_named environment.now name.now.text)) (exprs (map expr args.now))) }
     ensures ty { IfOk result (λ r. option_map (λ c. Ty.Data c.ty) (constructor_named environment.now name.now.text) ≡ Some r.ty) }
-    ensures term { IfOk result (λ r. term r.forms.term ≡ s.make (spec.datatype_of (constructor_named environment.now name.now.text)) (pattern.case_number (constructor_named environment.now name.now.text)) (spec.terms_of environment.now scope.old (exprs (map expr args.now)))) }
-    ensures core { IfOk result (λ r. core r.forms.core ≡ k.make (spec.datatype_of (constructor_named environment.now name.now.text)) (pattern.case_number (constructor_named environment.now name.now.text)) (cores.cores_in environment.now scope.old (exprs (map expr args.now)))) }
+    ensures term { IfOk result (λ r. term r.forms.term ≡ s.make (spec.datatype_of (constructor_named environment.now name.now.text))
+        (pattern.case_number (constructor_named environment.now name.now.text)) (spec.terms_of environment.now scope.old (exprs (map expr args.now)))) }
+    ensures core { IfOk result (λ r. core r.forms.core ≡ k.make (spec.datatype_of (constructor_named environment.now name.now.text))
+        (pattern.case_number (constructor_named environment.now name.now.text)) (cores.cores_in environment.now scope.old (exprs (map expr args.now)))) }
     ensures scope { OnOk result (scope.new ≡ scope.old) }
 {
     let c = maker_of(alloc, environment, name, count_of(args))?;
@@ -446,11 +477,15 @@ fn check_match<'a>(
 ) -> Result<Typed, SpecError>
     requires declared { IsWellFormed environment.now }
     requires scope { is_scope environment.now scope.old ≡ true }
-    ensures answer { Agrees result (spec.matched_fault environment.now scope.old (spec.part environment.now scope.old (expr x.now)) (arm_trees (map arm_tree arms.now)) span) }
-    ensures ty { IfOk result (λ r. spec.arms_type environment.now scope.old (spec.type_or (spec.type_of environment.now scope.old (expr x.now))) (arm_trees (map arm_tree arms.now)) ≡ Some r.ty) }
-    ensures term { IfOk result (λ r. term r.forms.term ≡ s.match_on (spec.term_of environment.now scope.old (expr x.now)) (spec.arms_of environment.now scope.old (spec.type_or (spec.type_of environment.now scope.old (expr x.now))) (arm_trees (map arm_tree arms.now)))) }
+    ensures answer { Agrees result (spec.matched_fault environment.now scope.old (spec.part environment.now scope.old (expr x.now))
+        (arm_trees (map arm_tree arms.now)) span) }
+    ensures ty { IfOk result (λ r. spec.arms_type environment.now scope.old (spec.type_or (spec.type_of environment.now scope.old (expr x.now)))
+        (arm_trees (map arm_tree arms.now)) ≡ Some r.ty) }
+    ensures term { IfOk result (λ r. term r.forms.term ≡ s.match_on (spec.term_of environment.now scope.old (expr x.now))
+        (spec.arms_of environment.now scope.old (spec.type_or (spec.type_of environment.now scope.old (expr x.now))) (arm_trees (map arm_tree arms.now)))) }
     ensures core { IfOk result (λ r. core r.forms.core ≡ k.choose (cores.core_in environment.now scope.old (expr x.now))
-        (tree_of (match_answer (shapes_of environment.now) (shape_of (spec.type_or (spec.type_of environment.now scope.old (expr x.now)))) (spec.rows_of environment.now scope.old (spec.type_or (spec.type_of environment.now scope.old (expr x.now))) (arm_trees (map arm_tree arms.now)))))
+        (tree_of (match_answer (shapes_of environment.now) (shape_of (spec.type_or (spec.type_of environment.now scope.old (expr x.now))))
+        (spec.rows_of environment.now scope.old (spec.type_or (spec.type_of environment.now scope.old (expr x.now))) (arm_trees (map arm_tree arms.now)))))
         (cores.arm_cores environment.now scope.old (spec.type_or (spec.type_of environment.now scope.old (expr x.now))) (arm_trees (map arm_tree arms.now)))) }
     ensures scope { OnOk result (scope.new ≡ scope.old) }
 {
@@ -480,7 +515,8 @@ fn check_arms<'a>(
     ensures answer { Agrees result (spec.arms_fault environment.now scope.old from None (arm_trees (map arm_tree arms.now))) }
     ensures ty { IfOk result (λ r. r.ty ≡ spec.arms_type environment.now scope.old from (arm_trees (map arm_tree arms.now))) }
     ensures patterns { IfOk result (λ r. map pat r.patterns.items ≡ spec.rows_of environment.now scope.old from (arm_trees (map arm_tree arms.now))) }
-    ensures term { IfOk result (λ r. s.arms (zip (map pat r.patterns.items) (map term r.terms.items)) ≡ spec.arms_of environment.now scope.old from (arm_trees (map arm_tree arms.now))) }
+    ensures term { IfOk result (λ r. s.arms (zip (map pat r.patterns.items) (map term r.terms.items))
+        ≡ spec.arms_of environment.now scope.old from (arm_trees (map arm_tree arms.now))) }
     ensures core { IfOk result (λ r. k.cores (map core r.cores.items) ≡ cores.arm_cores environment.now scope.old from (arm_trees (map arm_tree arms.now))) }
     ensures scope { OnOk result (scope.new ≡ scope.old) }
 {
@@ -506,10 +542,13 @@ fn check_arm<'a>(
     requires scope { is_scope environment.now scope.old ≡ true }
     requires from { is_type environment.now from ≡ true }
     ensures answer { Agrees result (spec.arm_fault environment.now scope.old from want (arm_tree arm.now).pat (arm_tree arm.now).body) }
-    ensures ty { IfOk result (λ r. spec.type_of environment.now (scope.old ++ pattern.variables environment.now from (arm_tree arm.now).pat) (arm_tree arm.now).body ≡ Some r.ty) }
+    ensures ty { IfOk result (λ r. spec.type_of environment.now (scope.old ++ pattern.variables environment.now from (arm_tree arm.now).pat)
+        (arm_tree arm.now).body ≡ Some r.ty) }
     ensures pattern { IfOk result (λ r. pat r.pattern ≡ pattern.pattern_of environment.now scope.old from (arm_tree arm.now).pat) }
-    ensures term { IfOk result (λ r. term r.body.term ≡ spec.term_of environment.now (scope.old ++ pattern.variables environment.now from (arm_tree arm.now).pat) (arm_tree arm.now).body) }
-    ensures core { IfOk result (λ r. core r.body.core ≡ cores.core_in environment.now (scope.old ++ pattern.variables environment.now from (arm_tree arm.now).pat) (arm_tree arm.now).body) }
+    ensures term { IfOk result (λ r. term r.body.term ≡ spec.term_of environment.now
+        (scope.old ++ pattern.variables environment.now from (arm_tree arm.now).pat) (arm_tree arm.now).body) }
+    ensures core { IfOk result (λ r. core r.body.core ≡ cores.core_in environment.now
+        (scope.old ++ pattern.variables environment.now from (arm_tree arm.now).pat) (arm_tree arm.now).body) }
     ensures scope { OnOk result (scope.new ≡ scope.old) }
 {
     let depth = scope.depth();

@@ -1,9 +1,7 @@
 -- Numbers in digits.
-use Rattle.std.specs.Prelude.{ℕ, zero, suc, ◌+◌, ◌*◌, ◌/◌, ◌%◌, ◌^◌, ◌==◌, ◌&&◌, not, nat_le, nat_lt, Bool, false, List, [], ◌∷◌, Option, Some, None, length, if◌then◌else◌}
+use Rattle.std.specs.Prelude.{ℕ, ◌+◌, ◌*◌, ◌==◌, ◌&&◌, not, nat_le, nat_lt, Bool, false, List, [], ◌∷◌, Option, Some, None, length, if◌then◌else◌}
 use Rattle.std.specs.Char.{digit_value}
-use Rattle.std.specs.Fmt.{digit_glyph}
-
--- ---- reading
+pub use Rattle.spec_ir.specs.Hex.{digits_of, hex_digits}
 
 -- the number that hex digits write behind the number `high`, in either case, if all are digits
 abbrev pub hex_from : ℕ → List ℕ → Option ℕ
@@ -27,14 +25,3 @@ is_plain (b ∷ bytes) = nat_lt (length bytes) 16 && not (b == 48 && nat_lt 0 (l
 -- the number that decimal digits without leading zeros write
 abbrev pub decimal_number : List ℕ → Option ℕ
 decimal_number digits = if is_plain digits then decimal_from 0 digits else None
-
--- ---- writing
-
--- the last so many hex digits of a number, in lower case
-abbrev pub hex_digits : ℕ → ℕ → List ℕ
-hex_digits zero value = []
-hex_digits (suc n) value = digit_glyph false (value / 2 ^ (4 * n) % 16) ∷ hex_digits n value
-
--- one hex digit for four bits, rounded up
-abbrev pub digits_of : ℕ → ℕ
-digits_of width = (width + 3) / 4

@@ -1,14 +1,13 @@
 //! Keys of maps.
 
-ghost use Rattle.std.specs.Prelude.{◌≡◌, length, map, nat_le, slice_get};
-ghost use Rattle.spec_ir.specs.Texts.{cases_of};
+ghost use Rattle.std.specs.Prelude.{◌≡◌, map, nat_le};
 ghost use Rattle.spec_ir.specs.Views.{case_of, specification};
 ghost use Rattle.semantics_values.specs.Types.{environment_of, key_count};
 ghost use Rattle.state_cell_text.specs.Keys as defined;
 
 use crate::digits::{decimal_number, fits, hex_number};
 use crate::places::same;
-use spec_ir::{Case, Spec, Ty};
+use spec_ir::{Case, Spec, Ty, case_count};
 
 /// The number of a key that is a word of w bits, by its text.
 fn word_key(w: u32, text: &[u8]) -> Option<u64>
@@ -52,23 +51,13 @@ pub fn key_number(spec: &Spec, ty: Ty, text: &[u8]) -> Option<u64>
     }
 }
 
-/// How many constructors a datatype has.
-fn constructors(spec: &Spec, number: u32) -> usize
-    ensures { result ≡ length (cases_of (slice_get (specification spec.now).datas number)) }
-{
-    match spec.datas.get(number as usize) {
-        Some(data) => data.cases.len(),
-        None => 0,
-    }
-}
-
 /// Whether a type has at least so many keys.
 pub fn has_keys(spec: &Spec, ty: Ty, count: u64) -> bool
     ensures { result ≡ nat_le count (key_count (environment_of (specification spec.now)) ty) }
 {
     match ty {
         Ty::Word(w) => w >= 64 || count <= 1 << w,
-        Ty::Data(number) => count <= constructors(spec, number) as u64,
+        Ty::Data(number) => count <= case_count(spec, number) as u64,
         Ty::Bool | Ty::Map(_) => count == 0,
     }
 }

@@ -12,7 +12,7 @@ use Rattle.hex.proofs.HexLemmas.{decode_of-ok}
 use Rattle.semantics_values.specs.declared.entry.GivenNumber.{GivenNumber}
 use Rattle.semantics_values.specs.declared.entry.GivenNumber.TheVariants.{One, Any, Range}
 use Rattle.state_cell_text.specs.Digits.{hex_from, hex_number}
-use Rattle.state_text.specs.Forms.{Form, single, run, CellSuffix, whole, rest, at, from, HasForm, IsOnePart, IsRun, IsValue, begins_name, is_key, is_mark, is_name, is_word_byte, part_text}
+use Rattle.state_text.specs.Forms.{Form, single, run, most_run, CellSuffix, whole, rest, at, from, HasForm, IsOnePart, IsRun, IsValue, begins_name, is_key, is_mark, is_name, is_word_byte, part_text}
 use Rattle.state_text.specs.Parsing.{after_cell, cut_closing, cut, cut_at, form, formed, is_no_dot, is_space, range, run_of as bytes_of, value_of}
 use Rattle.state_text.proofs.Bytes.{apart, begins_more, behind_spaces, run_of, spaces_of}
 use Rattle.spec_ir.proofs.Entered.{same_name as same_text}
@@ -182,7 +182,7 @@ digit_no_space (b ∷ text) bytes h =
 
 run_is : (bytes text : List ℕ) → IsRun bytes text → bytes_of text ≡ Some bytes
 run_is bytes text h =
-    let count : (nat_lt 0 (length bytes) && nat_le (length bytes) 4096) ≡ true = grind (arith, nat_tests, h.1, h.2) in
+    let count : (nat_lt 0 (length bytes) && nat_le (length bytes) most_run) ≡ true = grind (arith, nat_tests, h.1, h.2) in
     rw (h.0, count) refl
 
 -- ---- the line

@@ -1,5 +1,5 @@
 -- The text of a state is an entry of which that state is the one state.
-use Rattle.std.proofs.Common.{◌≡◌, ◌+◌, ◌%◌, ◌<◌, ◌≤◌, ◌^◌, ◌==◌, ◌&&◌, ℕ, Bool, true, not, List, [], ◌∷◌, ◌++◌, length, map, Some, Ok, refl, sym, subst, ap, ◌∙◌, arith, nat_lt, append_assoc, append-nil, codes}
+use Rattle.std.proofs.Common.{◌≡◌, ◌+◌, ◌%◌, ◌<◌, ◌≤◌, ◌^◌, ◌==◌, ◌&&◌, ℕ, true, not, List, [], ◌∷◌, ◌++◌, length, map, Some, Ok, refl, sym, subst, ap, ◌∙◌, arith, nat_lt, append_assoc, append-nil, codes}
 use Rattle.std.proofs.lemmas.Bool.{and_parts, not-true as not_true}
 use Rattle.std.proofs.lemmas.Bool.Decides.{nat_tests}
 use Rattle.std.proofs.lemmas.Fmt.{decimal_by_steps}
@@ -69,9 +69,6 @@ from_line : (spec : Spec) (s : State) (n : ℕ) → HasFields spec → IsStateOf
 from_line spec s n has is = read_state spec s n (state_fields spec) refl has.some has.few has.names has.types is.counter is.typed
 
 -- ---- a stop
-
-is_plain_byte : ℕ → Bool
-is_plain_byte b = not (b == 10) && not (b == 13)
 
 plain_text : (xs : List ℕ) → list_all (λ b. not (b == 10) && not (b == 13)) xs ≡ true → AllPlain xs
 plain_text [] h = tt

@@ -11,7 +11,7 @@ use Rattle.hex.specs.declared.error.FromHexError.{FromHexError}
 use Rattle.semantics_values.specs.declared.entry.GivenNumber.{GivenNumber}
 use Rattle.semantics_values.specs.declared.entry.GivenNumber.TheVariants.{One, Any, Range}
 use Rattle.state_cell_text.specs.Digits.{hex_number}
-use Rattle.state_text.specs.Forms.{Form, single, run, CellSuffix, whole, rest, at, from, HasForm, IsOnePart, IsRun, IsValue, begins_name, is_mark, is_name, is_word_byte, part_text}
+use Rattle.state_text.specs.Forms.{Form, single, run, most_run, CellSuffix, whole, rest, at, from, HasForm, IsOnePart, IsRun, IsValue, begins_name, is_mark, is_name, is_word_byte, part_text}
 use Rattle.state_text.specs.Parsing.{Cut, after_cell, begins_dots, behind_dot, behind_key, behind_star, cut_closing, counted, cut, form, formed, is_no_dot, is_space, cut_name, one_or, range, range_of, run_of, value_of}
 use Rattle.state_text.proofs.Computed.{IsPart}
 use Rattle.spec_ir.proofs.Entered.{same_name as same_text}
@@ -160,11 +160,11 @@ value_shown text given h = elim (cases_Bool (bytes_eq text (codes "any"))) [
 
 counted_shown : (text bytes : List ℕ) (r : Result (List ℕ) FromHexError) → decode_of text ≡ r → counted r ≡ Some bytes → IsRun bytes text
 counted_shown text bytes (Err x) e h = absurd (none-some bytes h)
-counted_shown text bytes (Ok found) e h = elim (cases_Bool (nat_lt 0 (length found) && nat_le (length found) 4096)) [
+counted_shown text bytes (Ok found) e h = elim (cases_Bool (nat_lt 0 (length found) && nat_le (length found) most_run)) [
   | inl t ↦
-      let both = and_parts (nat_lt 0 (length found)) (nat_le (length found) 4096) t in
+      let both = and_parts (nat_lt 0 (length found)) (nat_le (length found) most_run) t in
       let some : 1 ≤ length found = grind (arith, nat_tests, both.0) in
-      let few : length found ≤ 4096 = grind (arith, nat_tests, both.1) in
+      let few : length found ≤ most_run = grind (arith, nat_tests, both.1) in
       subst (λ (bs : List ℕ). IsRun bs text) (same_Some found bytes (rw t at h)) (e, some, few)
   | inr t ↦ absurd (none-some bytes (rw t at h))
 ]

@@ -61,9 +61,13 @@ IsValue (One v) text = hex_number 16 text ≡ Some v
 IsValue Any text = text ≡ codes "any"
 IsValue (Range lo hi) text = (a : List ℕ) × (b : List ℕ) × (text ≡ a ++ (codes ".." ++ b)) × (hex_number 16 a ≡ Some lo) × (hex_number 16 b ≡ Some hi) × (lo ≤ hi)
 
+-- how many bytes a run may have
+abbrev pub most_run : ℕ
+most_run = 4096
+
 -- A text of a run: pairs of hex digits for 1 to 4,096 bytes.
 abbrev pub IsRun : List ℕ → List ℕ → Type 0
-IsRun bytes text = (decode_of text ≡ Ok bytes) × (1 ≤ length bytes) × (length bytes ≤ 4096)
+IsRun bytes text = (decode_of text ≡ Ok bytes) × (1 ≤ length bytes) × (length bytes ≤ most_run)
 
 -- A line that is a cell, one or more spaces, and a value.
 abbrev pub IsCellLine : List ℕ → CellSuffix → List ℕ → List ℕ → Type 0

@@ -6,7 +6,7 @@ use Rattle.hex.specs.declared.error.FromHexError.{FromHexError}
 use Rattle.semantics_values.specs.declared.entry.GivenNumber.{GivenNumber}
 use Rattle.semantics_values.specs.declared.entry.GivenNumber.TheVariants.{One, Any, Range}
 use Rattle.state_cell_text.specs.Digits.{hex_number}
-use Rattle.state_text.specs.Forms.{Form, single, run, CellSuffix, whole, rest, at, from, begins_name, is_mark, is_word_byte}
+use Rattle.state_text.specs.Forms.{Form, single, run, most_run, CellSuffix, whole, rest, at, from, begins_name, is_mark, is_word_byte}
 
 -- ---- the cell
 
@@ -87,7 +87,7 @@ value_of bytes = if bytes_eq bytes (codes "any") then Some Any else one_or (hex_
 
 abbrev pub counted : Result (List ℕ) FromHexError → Option (List ℕ)
 counted (Err e) = None
-counted (Ok bytes) = if nat_lt 0 (length bytes) && nat_le (length bytes) 4096 then Some bytes else None
+counted (Ok bytes) = if nat_lt 0 (length bytes) && nat_le (length bytes) most_run then Some bytes else None
 
 -- pairs of hex digits for 1 to 4,096 bytes
 abbrev pub run_of : List ℕ → Option (List ℕ)

@@ -68,7 +68,8 @@ fn counter_says(given: GivenNumber) -> Said
 
 /// What it says that a cell, or the rest of a map, has a value.
 fn single_says(spec: &Spec, cut: &Cut, given: GivenNumber) -> Said
-    ensures said { said_of result ≡ defined.single_says (specification spec.now) (place_of (specification spec.now) (cut_of cut.now).name) (cut_of cut.now).part given }
+    ensures said { said_of result ≡ defined.single_says (specification spec.now) (place_of (specification spec.now) (cut_of cut.now).name)
+        (cut_of cut.now).part given }
     ensures room { HasRoom result }
 {
     match place_of(spec, cut.name) {
@@ -133,7 +134,8 @@ fn run_says(spec: &Spec, name: &[u8], text: &[u8], bytes: Vec<u8>) -> Said
 
 /// What a line says of one cell, or of the rest of a map, by the text of its value.
 fn value_says(spec: &Spec, cut: &Cut, value: &[u8]) -> Said
-    ensures said { said_of result ≡ defined.form_says (specification spec.now) (option_map (single (cut_of cut.now).name (cut_of cut.now).part) (parsing.value_of value.now)) }
+    ensures said { said_of result ≡ defined.form_says (specification spec.now)
+        (option_map (single (cut_of cut.now).name (cut_of cut.now).part) (parsing.value_of value.now)) }
     ensures room { HasRoom result }
 {
     match value_of(value) {
@@ -161,7 +163,8 @@ fn bytes_say(
 
 /// What a line says, by its cell and the text of its value.
 fn formed_says(alloc: Global, spec: &Spec, cut: &Cut, value: &[u8]) -> Result<Said, AllocError>
-    ensures said { IfOk result (λ s. said_of s ≡ defined.form_says (specification spec.now) (parsing.formed (cut_of cut.now).name (cut_of cut.now).part value.now)) }
+    ensures said { IfOk result (λ s. said_of s ≡ defined.form_says (specification spec.now)
+        (parsing.formed (cut_of cut.now).name (cut_of cut.now).part value.now)) }
     ensures room { IfOk result (λ s. HasRoom s) }
 {
     match cut.part {

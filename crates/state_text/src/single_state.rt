@@ -42,7 +42,8 @@ fn field_at(spec: &Spec, n: u32) -> Option<&(Text, Ty)>
 
 /// Appends the cell of a line, as a state prints it.
 fn push_cell_of(out: &mut String, spec: &Spec, line: Line) -> Result<(), AllocError>
-    ensures { OnOk result (string_bytes out.new ≡ string_bytes out.old ++ defined.cell_of (specification spec.now) (slice_get (state_fields (specification spec.now)) line.field) line.key) }
+    ensures { OnOk result (string_bytes out.new ≡ string_bytes out.old ++ defined.cell_of (specification spec.now)
+        (slice_get (state_fields (specification spec.now)) line.field) line.key) }
 {
     match field_at(spec, line.field) {
         Some(field) => push_cell(out, spec, field, line.key),
@@ -150,7 +151,8 @@ fn entry_map(
     field: usize,
     number: u32,
 ) -> Result<Value, AllocError>
-    ensures { IfOk result (λ r. val r ≡ entries.entry_map (environment_of (specification spec.now)) lines.now field number (slice_get (specification spec.now).maps number)) }
+    ensures { IfOk result (λ r. val r ≡ entries.entry_map (environment_of (specification spec.now)) lines.now field number
+        (slice_get (specification spec.now).maps number)) }
 {
     match map_type(spec, number) {
         Some(ty) => Ok(Value::Map(MapValue {
@@ -188,7 +190,8 @@ fn entry_field(
 
 /// The fields behind the program counter.
 fn entry_fields(alloc: Global, spec: &Spec, lines: &[Line]) -> Result<Vec<Value>, AllocError>
-    ensures { IfOk result (λ r. map val r.items ≡ entries.entry_fields (environment_of (specification spec.now)) lines.now 1 (defined.types_behind (state_fields (specification spec.now)))) }
+    ensures { IfOk result (λ r. map val r.items ≡ entries.entry_fields (environment_of (specification spec.now)) lines.now 1
+        (defined.types_behind (state_fields (specification spec.now)))) }
 {
     let fields = state_fields(spec);
     let mut out = Vec::new(alloc);

@@ -52,7 +52,8 @@ fn push_address(out: &mut String, at: u32) -> Result<(), AllocError>
 
 /// Appends an address, and the word there.
 fn push_word(out: &mut String, at: u32, word: u32) -> Result<(), AllocError>
-    ensures { OnOk result (string_bytes out.new ≡ string_bytes out.old ++ (codes " at " ++ (defined.word_digits at ++ (codes " word " ++ defined.word_digits word)))) }
+    ensures { OnOk result (string_bytes out.new ≡ string_bytes out.old
+        ++ (codes " at " ++ (defined.word_digits at ++ (codes " word " ++ defined.word_digits word)))) }
 {
     out.push_str(" at ")?;
     push_digits(out, at)?;

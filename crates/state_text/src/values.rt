@@ -11,6 +11,9 @@ use semantics_values::GivenNumber;
 use state_cell_text::{fits, hex_number, same};
 use std::alloc::{AllocError, Global};
 
+/// How many bytes a run of an entry may have.
+const MOST_RUN: usize = 4096;
+
 /// The number of bytes before the first dot.
 fn dot_at(bytes: &[u8]) -> usize
     ensures count { result ≡ prefix_len defined.is_no_dot bytes.now }
@@ -65,7 +68,7 @@ pub(crate) fn run_of(alloc: Global, text: &[u8]) -> Result<Option<Vec<u8>>, Allo
 {
     match hex::decode(alloc, text) {
         Ok(bytes) => {
-            if !bytes.is_empty() && bytes.len() <= 4096 {
+            if !bytes.is_empty() && bytes.len() <= MOST_RUN {
                 Ok(Some(bytes))
             } else {
                 Ok(None)

@@ -81,7 +81,8 @@ fn push_map(
     number: u32,
     map: &MapValue,
 ) -> Result<(), AllocError>
-    ensures { OnOk result (string_bytes out.new ≡ string_bytes out.old ++ defined.map_lines (specification spec.now) field.now (slice_get (specification spec.now).maps number) map.now.rest map.now.cells.items) }
+    ensures { OnOk result (string_bytes out.new ≡ string_bytes out.old ++ defined.map_lines (specification spec.now) field.now
+        (slice_get (specification spec.now).maps number) map.now.rest map.now.cells.items) }
 {
     let Some(ty) = spec.maps.get(number as usize) else {
         return Ok(());

@@ -1,5 +1,5 @@
 -- Texts of digits.
-use Rattle.std.proofs.Common.{◌≡◌, ◌≢◌, ℕ, ◌<◌, ◌≤◌, Bool, true, false, List, [], ◌∷◌, length, refl, ap, subst, arith, sym, ◌∙◌, lt-ltb, le-leb, le-ltb, ltb-true, ltb-false, ◌^◌, Some, None, ◌&&◌, get_or, eq-eqb, eqb-true}
+use Rattle.std.proofs.Common.{◌≡◌, ◌≢◌, ℕ, ◌<◌, ◌≤◌, Bool, true, false, List, [], ◌∷◌, length, refl, ap, subst, arith, sym, ◌∙◌, lt-ltb, le-leb, le-ltb, ltb-true, ltb-false, ◌^◌, Some, None, ◌&&◌, get_or, eq-eqb}
 use Rattle.std.specs.Char.{is_ascii_digit, is_ascii_hexdigit, is_digit, digit_value}
 use Rattle.std.specs.List.{list_all}
 use Rattle.std.specs.Prelude.{Result, Ok, Err, OkIff, if◌then◌else◌, nat_le, nat_lt, ◌==◌}
@@ -91,9 +91,6 @@ module _ (radix : ℕ) where
 
 pub no_plus : (text : List ℕ) (plus : Bool) → plus ≡ (get_or text 0 0 == 43) → plus ≡ false → get_or text 0 0 ≢ 43
 no_plus text plus is none first = let yes = eq-eqb (get_or text 0 0) 43 first in cc
-
-pub a_plus : (text : List ℕ) (plus : Bool) → plus ≡ (get_or text 0 0 == 43) → plus ≡ true → get_or text 0 0 ≡ 43
-a_plus text plus is some = eqb-true (get_or text 0 0) 43 (sym is ∙ some)
 
 -- the address of a text
 pub address_is : (text : List ℕ) → number_in 16 8 text ≡ address_in text

@@ -9,11 +9,6 @@ of_option : {A : Type 0} (found : Option A) → Gives found (λ x. x) (ok_or fou
 of_option None = refl
 of_option (Some x) = refl
 
--- what is found is what is given, and nothing is bad words
-pub ok_or_gives : {A : Type 0} (found given : Option A) (answer : Result A WordsError) → given ≡ found → answer ≡ ok_or found BadWords → Gives given (λ x. x) answer
-ok_or_gives {A = A} found given answer same is =
-    subst (λ (given : Option A). Gives given (λ x. x) answer) (sym same) (subst (λ (answer : Result A WordsError). Gives found (λ x. x) answer) (sym is) (of_option found))
-
 -- where a step fails, the whole fails so
 pub carried : {A B C D : Type 0} (first : Option B) (whole : Option D) (seen : A → B) (seen' : C → D) (e : WordsError) (answer : Result C WordsError)
     → Gives first seen (Err e) → (first ≡ None → whole ≡ None) → IsErrAnd answer (λ other. other ≡ e) → Gives whole seen' answer

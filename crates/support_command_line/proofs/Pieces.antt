@@ -1,6 +1,6 @@
 -- Pieces of the word CODE.
-use Rattle.std.proofs.Common.{◌≡◌, ℕ, ◌<◌, ◌≤◌, ◌+◌, Bor, le-leb, Bool, true, false, List, [], ◌∷◌, length, refl, arith, ◌||◌, get_or, sym, ◌∙◌, eq-eqb, eqb-true, lt-ltb, ne_eqb, ◌&&◌, ◌-◌, take, drop}
-use Rattle.std.specs.Prelude.{Option, Some, None, if◌then◌else◌, not, suc, ◌==◌, nat_lt}
+use Rattle.std.proofs.Common.{◌≡◌, ℕ, ◌<◌, ◌≤◌, ◌+◌, Bor, le-leb, Bool, true, false, List, [], ◌∷◌, length, refl, arith, ◌||◌, get_or, sym, ◌∙◌, eq-eqb, lt-ltb, ne_eqb, ◌&&◌, ◌-◌, take, drop}
+use Rattle.std.specs.Prelude.{Option, Some, None, if◌then◌else◌, not, suc, ◌==◌}
 use Rattle.std.specs.List.{after_first, before_first, list_any, position_or_len, slice_split}
 use Rattle.support_command_line.specs.Code.{CodePart, code_parts, is_at, is_comma, part_at, part_in, parts_after, parts_from}
 use Rattle.support_command_line.specs.Numbers.{address_in}
@@ -68,13 +68,6 @@ and_false false = refl
 pub is_named : (name : List ℕ) (base : ℕ) → length name == 0 ≡ false → list_any is_at name ≡ false → part_at name base ≡ Some (record { name = name; base = base })
 is_named [] base some none = cc
 is_named (x ∷ xs) base some none = rw (none, lt-ltb 0 (length (x ∷ xs)) (omega arith)) refl
-
-pub is_empty_name : (name : List ℕ) (base : ℕ) → length name == 0 ≡ true → part_at name base ≡ None
-is_empty_name [] base none = refl
-is_empty_name (x ∷ xs) base none = let zero : length (x ∷ xs) ≡ 0 = eqb-true (length (x ∷ xs)) 0 none in absurd (omega arith)
-
-pub has_an_at : (name : List ℕ) (base : ℕ) → list_any is_at name ≡ true → part_at name base ≡ None
-has_an_at name base some = rw (some, and_false (nat_lt 0 (length name))) refl
 
 -- the first piece, and those after it
 pub from_first : (base : ℕ) (pieces : List (Bor (List ℕ))) (d : Bor (List ℕ)) (found : Option CodePart) → 1 ≤ length pieces → found ≡ part_at (get_or pieces 0 d).now base

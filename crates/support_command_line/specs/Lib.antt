@@ -1,6 +1,7 @@
 pub mod Bases
 pub mod Code
 pub mod CommandLine
+pub mod Defaults
 pub mod Commands
 pub mod Giving
 pub mod Numbers

@@ -140,14 +140,3 @@ analysis_inputs request = spec_inputs request.spec ++ code_inputs request.code +
 
 abbrev pub check_inputs : CheckRequest → List (List ℕ)
 check_inputs request = analysis_inputs request.analysis ++ request.table ∷ []
-
-abbrev pub inputs_of : Request → List (List ℕ)
-inputs_of (call request) = spec_inputs request.spec
-inputs_of (emulate request) = spec_inputs request.spec ++ code_inputs request.code ++ request.entry ∷ []
-inputs_of (analyse request) = analysis_inputs request
-inputs_of (check request) = check_inputs request
-inputs_of (convert request) = spec_inputs request.spec ++ code_inputs request.code ++ request.table ∷ []
-inputs_of (list request) = spec_inputs request.spec ++ code_inputs request.code
-inputs_of (slice request) = check_inputs request.check
-inputs_of (claims request) = check_inputs request.check ++ request.claims ∷ []
-inputs_of (stress request) = []

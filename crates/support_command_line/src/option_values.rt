@@ -5,17 +5,10 @@ ghost use Rattle.support_command_line.specs.OptionValues.{address_of, base_of, c
 ghost use Rattle.support_command_line.specs.Views.{given_of};
 
 use crate::bases::BaseName;
+use crate::defaults::{DEFAULT_CALLS, DEFAULT_JOINS, DEFAULT_LIMIT, DEFAULT_STEPS};
 use crate::given_words::GivenWords;
 use crate::numbers::{DecimalForm, address, decimal};
 use crate::orders::Order;
-
-const DEFAULT_STEPS: u32 = 1_000_000;
-
-const DEFAULT_CALLS: u32 = 4096;
-
-const DEFAULT_LIMIT: u32 = 64;
-
-const DEFAULT_JOINS: u32 = 3;
 
 /// The base address of the first part of the code.
 pub fn base_address(given: &GivenWords) -> Option<u32>

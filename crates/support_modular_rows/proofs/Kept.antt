@@ -1,6 +1,5 @@
 -- The rows that are not 0 span what all rows span.
-use Rattle.std.proofs.Common.{◌≡◌, ◌≢◌, ℕ, zero, suc, ◌+◌, ◌*◌, ◌%◌, ◌^◌, ◌<◌, ◌≤◌, List, [], ◌∷◌, ◌++◌, length, get_or, take, drop, refl, ap, sym, ◌∙◌, subst, arith, inl, inr, ◌==◌, if◌then◌else◌, length-append, append_assoc, append-nil}
-use Rattle.std.proofs.Math.ListN.{drop_of_length-le}
+use Rattle.std.proofs.Common.{◌≡◌, ◌≢◌, ℕ, zero, suc, ◌+◌, ◌*◌, ◌%◌, ◌^◌, ◌<◌, List, [], ◌∷◌, ◌++◌, length, get_or, take, drop, refl, ap, sym, ◌∙◌, subst, arith, inl, inr, ◌==◌, if◌then◌else◌, append_assoc, append-nil}
 use Rattle.std.proofs.Math.Seq.{drop-cons}
 use Rattle.std.proofs.lemmas.Bool.{cases_eq}
 use Rattle.support_modular_rows.specs.Reduction.{Span, Reduced, kept_from, IsPlace}
@@ -84,24 +83,6 @@ module _ (n : ℕ) where
       span_sub greatest n (kept_from n 0 rs) rs v
       (in_kept 0 rs (λ i j lt within zero_there. red.empty i j lt (omega arith) (subst (λ k. of (row rs i) k ≡ 0) (let f : 0 + i ≡ i = omega arith in f) zero_there)))
       h
-
--- how many rows are kept from c on, by the row of column c
-pub count_none : (n c : ℕ) (rs : List (List ℕ)) → c < length rs → of (row rs c) c ≡ 0
-    → length (kept_from n c (drop c rs)) ≡ length (kept_from n (suc c) (drop (suc c) rs))
-count_none n c rs lt none =
-    ap (λ l. length (kept_from n c l)) (drop-cons rs c [] lt)
-    ∙ ap (λ l. length (kept_from n (suc c) (drop (suc c) rs) ++ l)) (if_none (get_or (get_or rs c []) c 0) [] (take n (get_or rs c []) ∷ []) none)
-    ∙ length-append (kept_from n (suc c) (drop (suc c) rs)) [] ∙ omega arith
-
-pub count_some : (n c : ℕ) (rs : List (List ℕ)) → c < length rs → of (row rs c) c ≢ 0
-    → length (kept_from n c (drop c rs)) ≡ length (kept_from n (suc c) (drop (suc c) rs)) + 1
-count_some n c rs lt some =
-    ap (λ l. length (kept_from n c l)) (drop-cons rs c [] lt)
-    ∙ ap (λ l. length (kept_from n (suc c) (drop (suc c) rs) ++ l)) (if_kept (get_or (get_or rs c []) c 0) [] (take n (get_or rs c []) ∷ []) some)
-    ∙ length-append (kept_from n (suc c) (drop (suc c) rs)) (take n (get_or rs c []) ∷ []) ∙ omega arith
-
-pub count_end : (n c : ℕ) (rs : List (List ℕ)) → length rs ≤ c → length (kept_from n c (drop c rs)) ≡ 0
-count_end n c rs le = ap (λ l. length (kept_from n c l)) (drop_of_length-le rs le)
 
 -- the kept rows from a later column on come first
 kept_split : (n c j : ℕ) (rs : List (List ℕ)) → (out : List (List ℕ)) × (kept_from n c rs ≡ kept_from n (c + j) (drop j rs) ++ out)

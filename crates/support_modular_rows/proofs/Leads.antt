@@ -5,7 +5,7 @@ use Rattle.std.proofs.lemmas.Nat.{mul-mod_second}
 use Rattle.std.proofs.lemmas.Bool.{cases_lt}
 use Rattle.support_modular_rows.specs.Reduction.{Span, divisor_of, IsLead, Reduced}
 use Rattle.support_modular_rows.proofs.Powers.{mod_power}
-use Rattle.support_modular_rows.proofs.Spans.{cong_drop, cong_mul_zero, span_alike, span_zero, step_down, span_join, stuck}
+use Rattle.support_modular_rows.proofs.Spans.{cong_drop, cong_mul_zero, span_alike, step_down, span_join, stuck}
 
 -- the entry is its divisor, or 0 under 2 ^ 32
 pub divisor_cases : (e : ℕ) → (divisor_of e ≡ e) ⊎ ((e ≡ 0) × (divisor_of e ≡ 2 ^ 32))
@@ -97,6 +97,3 @@ zero_more rs c q x x' red few lt step z below j lt' =
 pub not_spanned : (rs : List (List ℕ)) (c : ℕ) (x : List ℕ) → Reduced rs → c < length rs → (get_or x c 0 % divisor_of (get_or (get_or rs c []) c 0) ≡ 0 → ⊥) → Spans rs c x → ⊥
 not_spanned rs c x red lt bad h =
     stuck (2 ^ 32 - 1) (length rs) rs c (λ j. get_or x j 0) lt lt red.triangular (never_cancels (get_or x c 0) (get_or (get_or rs c []) c 0) (red.leads c lt) bad) h
-
-pub all_zero : (rs : List (List ℕ)) (c : ℕ) (x : List ℕ) → ZeroBelow (length rs) x → Spans rs c x
-all_zero rs c x z = span_zero (2 ^ 32 - 1) (length rs) (drop c rs) (λ j. get_or x j 0) z

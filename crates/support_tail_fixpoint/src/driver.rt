@@ -73,13 +73,15 @@ impl<T: Turn> Driver<T> {
         requires out_fits { IfSome (option_map T.out_view out) (OutFits (T.meaning turn.old)) }
         requires next_fits { IfSome (option_map T.args_view next) (ArgsFit (T.meaning turn.old)) }
 
-        ensures answer { IfOk result (λ asked. Answers (T.meaning turn.old).moves (plain T.args_view T.out_view self.old) (option_map T.out_view out) (option_map T.args_view next) (view.asked T.out_view asked) (plain T.args_view T.out_view self.new)) }
+        ensures answer { IfOk result (λ asked. Answers (T.meaning turn.old).moves (plain T.args_view T.out_view self.old) (option_map T.out_view out)
+            (option_map T.args_view next) (view.asked T.out_view asked) (plain T.args_view T.out_view self.new)) }
         ensures running { IfOk result (λ asked. IsTrue self.new.running ↔ asked ≡ Turn) }
         ensures fits { IfOk result (λ asked. asked ≡ Turn → Fits (T.meaning turn.old) (plain T.args_view T.out_view self.new)) }
         ensures result_fits { IfOk result (λ asked. ResultFits (T.meaning turn.old) (view.asked T.out_view asked)) }
         // Each further turn lowers a measure, so there are finitely many.
         ensures can_end { IfOk result (λ asked. asked ≡ Turn → CanEnd (T.meaning turn.old) self.old.left → CanEnd (T.meaning turn.old) self.new.left) }
-        ensures falls { IfOk result (λ asked. asked ≡ Turn → CanEnd (T.meaning turn.old) self.old.left → Falls (T.meaning turn.old).rank (plain T.args_view T.out_view self.old) (plain T.args_view T.out_view self.new)) }
+        ensures falls { IfOk result (λ asked. asked ≡ Turn → CanEnd (T.meaning turn.old) self.old.left
+            → Falls (T.meaning turn.old).rank (plain T.args_view T.out_view self.old) (plain T.args_view T.out_view self.new)) }
         ensures kept { T.meaning turn.new ≡ T.meaning turn.old }
     {
         prove!(self.running);

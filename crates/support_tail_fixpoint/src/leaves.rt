@@ -16,7 +16,8 @@ pub fn join_of_leaves<T: Turn>(
 ) -> Result<Option<T::Out>, AllocError>
     requires before_fit { IfSome (option_map T.out_view before) (OutFits (T.meaning turn.old)) }
     requires out_fits { IfSome (option_map T.out_view out) (OutFits (T.meaning turn.old)) }
-    ensures value { IfOk result (λ r. option_map T.out_view r ≡ join_leaves (T.meaning turn.old).moves (option_map T.out_view before) (option_map T.out_view out)) }
+    ensures value { IfOk result (λ r. option_map T.out_view r ≡ join_leaves (T.meaning turn.old).moves (option_map T.out_view before)
+        (option_map T.out_view out)) }
     ensures kept { T.meaning turn.new ≡ T.meaning turn.old }
 {
     match (before, out) {

@@ -8,31 +8,9 @@ ghost use Rattle.syntax_grammar.specs.View.{term as term_view, arm as arm_view, 
 use crate::pattern::pattern_span;
 use crate::reader::hull;
 use std::alloc::{AllocError, Global};
+use syntax_grammar::span_of;
 use syntax_grammar::tree::{Arm, BinOp, Expr, Name, Num, Pat, PreOp, Span};
 use syntax_lexer::Keyword;
-
-#[tactic(auto, unfolding(syntax_grammar::specs::Nodes::span_of))]
-fn span_of(e: &Expr) -> Span
-    ensures { result ≡ nodes.span_of (term_view e.now) }
-{
-    match e {
-        Expr::Let { span, .. }
-        | Expr::If { span, .. }
-        | Expr::Binary { span, .. }
-        | Expr::Prefix { span, .. }
-        | Expr::Get { span, .. }
-        | Expr::Put { span, .. }
-        | Expr::Word { span, .. }
-        | Expr::Flag { span, .. }
-        | Expr::Call { span, .. }
-        | Expr::Make { span, .. }
-        | Expr::Op { span, .. }
-        | Expr::Cast { span, .. }
-        | Expr::Match { span, .. }
-        | Expr::Paren { span, .. } => *span,
-        Expr::Var(name) => name.span,
-    }
-}
 
 /// Both in boxes.
 fn boxes<T: Drop>(alloc: Global, x: T, y: T) -> Result<(Box<T>, Box<T>), AllocError>
@@ -58,6 +36,7 @@ fn three_boxes<T: Drop>(
     Ok((first, second, third))
 }
 
+/// `let NAME = x in then`, from its first token to the end of `then`.
 #[tactic(auto, unfolding(syntax_grammar::specs::Nodes::let_of))]
 pub fn let_of(
     alloc: Global,
@@ -78,6 +57,7 @@ pub fn let_of(
     })
 }
 
+/// `if c then yes else no`, from its first token to the end of `no`.
 #[tactic(auto, unfolding(syntax_grammar::specs::Nodes::if_of))]
 pub fn if_of(alloc: Global, start: Span, c: Expr, yes: Expr, no: Expr) -> Result<Expr, AllocError>
     ensures { IfOk result (λ e. term_view e ≡ nodes.if_of start (term_view c) (term_view yes) (term_view no)) }
@@ -87,6 +67,7 @@ pub fn if_of(alloc: Global, start: Span, c: Expr, yes: Expr, no: Expr) -> Result
     Ok(Expr::If { c, yes, no, span })
 }
 
+/// An operator between two operands, from the beginning of the first to the end of the second.
 #[tactic(auto, unfolding(syntax_grammar::specs::Nodes::binary_of))]
 pub fn binary_of(alloc: Global, op: BinOp, x: Expr, y: Expr) -> Result<Expr, AllocError>
     ensures { IfOk result (λ e. term_view e ≡ nodes.binary_of op (term_view x) (term_view y)) }
@@ -96,6 +77,7 @@ pub fn binary_of(alloc: Global, op: BinOp, x: Expr, y: Expr) -> Result<Expr, All
     Ok(Expr::Binary { op, x, y, span })
 }
 
+/// A prefix operator, which stands at `start`, before its operand.
 #[tactic(auto, unfolding(syntax_grammar::specs::Nodes::prefix_of))]
 pub fn prefix_of(alloc: Global, op: PreOp, start: Span, x: Expr) -> Result<Expr, AllocError>
     ensures { IfOk result (λ e. term_view e ≡ nodes.prefix_of op start (term_view x)) }
@@ -108,6 +90,7 @@ pub fn prefix_of(alloc: Global, op: PreOp, start: Span, x: Expr) -> Result<Expr,
     })
 }
 
+/// `x[key]`, to the bracket at `end`.
 #[tactic(auto, unfolding(syntax_grammar::specs::Nodes::get_of))]
 pub fn get_of(alloc: Global, x: Expr, key: Expr, end: Span) -> Result<Expr, AllocError>
     ensures { IfOk result (λ e. term_view e ≡ nodes.get_of (term_view x) (term_view key) end) }
@@ -117,6 +100,7 @@ pub fn get_of(alloc: Global, x: Expr, key: Expr, end: Span) -> Result<Expr, Allo
     Ok(Expr::Get { x, key, span })
 }
 
+/// `x[key := v]`, to the bracket at `end`.
 #[tactic(auto, unfolding(syntax_grammar::specs::Nodes::put_of))]
 pub fn put_of(alloc: Global, x: Expr, key: Expr, v: Expr, end: Span) -> Result<Expr, AllocError>
     ensures { IfOk result (λ e. term_view e ≡ nodes.put_of (term_view x) (term_view key) (term_view v) end) }
@@ -126,6 +110,7 @@ pub fn put_of(alloc: Global, x: Expr, key: Expr, v: Expr, end: Span) -> Result<E
     Ok(Expr::Put { x, key, v, span })
 }
 
+/// `op(x, y)`, from the word of the operation to the parenthesis at `end`.
 pub fn operation_of(
     alloc: Global,
     op: Keyword,
@@ -145,6 +130,7 @@ pub fn operation_of(
     })
 }
 
+/// `op(x, to)`, from the word of the cast to the parenthesis at `end`; `to` is the width in bits.
 pub fn cast_of(
     alloc: Global,
     op: Keyword,
@@ -163,6 +149,7 @@ pub fn cast_of(
     })
 }
 
+/// `pat => body;`, to the semicolon at `end`.
 pub fn arm_of(pat: Pat, body: Expr, end: Span) -> Arm
     ensures { arm_view result ≡ nodes.arm_of (pattern_view pat) (term_view body) end }
 {
@@ -170,6 +157,7 @@ pub fn arm_of(pat: Pat, body: Expr, end: Span) -> Arm
     Arm { pat, body, span }
 }
 
+/// `match x with { arms }`, from its first token to the brace at `end`.
 pub fn match_of(
     alloc: Global,
     start: Span,
@@ -193,6 +181,7 @@ pub fn match_of(
     })
 }
 
+/// `(x)`, from one parenthesis to the other.
 pub fn paren_of(alloc: Global, start: Span, x: Expr, end: Span) -> Result<Expr, AllocError>
     ensures { IfOk result (λ e. term_view e ≡ nodes.paren_of start (term_view x) end) }
 {

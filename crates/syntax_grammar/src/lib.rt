@@ -8,7 +8,8 @@
 //! - Nodes, Operators, Tokens: the node of each production with its span, precedences, classes of tokens.
 //! - State, Parsing, Lists, PatternRules, TermRules, ItemRules: the spec parser, a definition for each function that parses.
 //!
-//! What is proved: `fault_line` writes the line of a fault, as `spec 31 P1` for `Syntax { at: 31 }` (specs/FaultLines). That the
+//! What is proved: `fault_line` writes the line of a fault, as `spec 31 P1` for `Syntax { at: 31 }` (specs/FaultLines), and `span_of` gives the
+//! span of a term's node. That the
 //! spec parser and the grammar agree is shown in `syntax_parser`. This crate stands on `syntax_lexer`, which has the tokens.
 #![tactic(auto)]
 
@@ -17,8 +18,10 @@ ghost use Rattle.std.specs.String.{string_bytes};
 ghost use Rattle.syntax_grammar.specs.FaultLines.{fault_line};
 
 pub mod rules;
+mod spans;
 pub mod tree;
 
+pub use spans::span_of;
 use std::alloc::{AllocError, Global};
 
 /// Why tokens have no tree. `at` is a byte offset into the source.

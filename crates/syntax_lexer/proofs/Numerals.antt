@@ -1,6 +1,6 @@
 -- Digits in a base, read from the front.
 use Rattle.std.proofs.Common.{◌≡◌, ◌≢◌, ℕ, ◌+◌, ◌*◌, ◌^◌, ◌<◌, ◌≤◌, Bool, List, [], ◌∷◌, ◌++◌, length, drop, get_or, refl, sym, subst, arith, drop-cons, add-one}
-use Rattle.std.specs.Prelude.{IsTrue, codes}
+use Rattle.std.specs.Prelude.{codes}
 use Rattle.std.proofs.Math.Nat.{mul-le-mul_left}
 use Rattle.std.proofs.lemmas.List.{drop_all}
 use Rattle.std.specs.Char.{digit_value}
@@ -12,12 +12,6 @@ use Rattle.syntax_lexer.specs.Lexeme.{is_digit_of, value_from, IsNumeral, IsNumb
 pub value_step : (base high : ℕ) (s : List ℕ) (i : ℕ) → i < length s
     → value_from base high (drop i s) ≡ value_from base (high * base + digit_value (get_or s i 0)) (drop (i + 1) s)
 value_step base high s i below = rw (add-one, drop-cons s i 0) refl
-
-pub passes_in : (test : ℕ → Bool) (s : List ℕ) (i : ℕ) → i < length s → Passes test (drop i s) → IsTrue (test (get_or s i 0)) × Passes test (drop (i + 1) s)
-passes_in test s i below h = rw (add-one) (rw (drop-cons s i 0) at h)
-
-pub passes_out : (test : ℕ → Bool) (s : List ℕ) (i : ℕ) → i < length s → IsTrue (test (get_or s i 0)) → Passes test (drop (i + 1) s) → Passes test (drop i s)
-passes_out test s i below first rest = rw (drop-cons s i 0) (first, rw (add-one) at rest)
 
 -- digits behind a number make it no less
 pub at_least : (base high : ℕ) (bytes : List ℕ) → 0 < base → high ≤ value_from base high bytes

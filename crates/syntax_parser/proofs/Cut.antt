@@ -55,7 +55,3 @@ cut_under (u ∷ us) rest o o' h =
     elim (nat_le u.1 max_level) as (λ b. nat_le u.1 max_level ≡ b → (if b then cut us rest o else (Err TooDeep, at max_level (u.0 ∷ tokens_of us ++ rest)))
     ≡ (if b then cut us rest o' else (Err TooDeep, at max_level (u.0 ∷ tokens_of us ++ rest))))
     [ true ↦ λ e. cut_under us rest o o' (λ f. h (fits_by u.1 e, f)) | false ↦ λ e. refl ] refl
-
--- one token of a level that is not too deep
-pub cut_one : {A : Type 0} (u : Leveled) (rest : List Token) (o : Outcome A) → u.1 ≤ max_level → cut (u ∷ []) rest o ≡ o
-cut_one u rest o h = rw (by_fits u.1 h) refl

@@ -175,11 +175,3 @@ read_token_then tok p default L ℓ s f (inl none) low go =
 read_token_then tok p default L ℓ s f (inr found) low go =
     let here : ℓ ≤ max_level = (let l : Low ℓ (tok found.0 ∷ found.1) = rw found.2 at low in l) in
     rw found.3 (read_shift L ((tok found.0, ℓ) ∷ []) s found.1 (f found.0 (at ℓ found.1)) found.2 (here, tt) (go found.0 found.1 (low_any ℓ found.1 here)))
-
--- the rule of one token by itself
-pub read_token : {A : Type 0} (tok : A → Token) (p : Parser A) (default : A) (ℓ : ℕ) (s : List Token) → Takes tok p ℓ s → Low ℓ s
-    → Read (λ top us a. (top ≡ ℓ) × (us ≡ (tok a, ℓ) ∷ [])) s (p (at ℓ s))
-read_token tok p default ℓ s (inl none) low = rw none (read_refuse (λ top us a. (top ≡ ℓ) × (us ≡ (tok a, ℓ) ∷ [])) ℓ ℓ s ((tok default, ℓ) ∷ []) default (refl, refl))
-read_token tok p default ℓ s (inr found) low =
-    let here : ℓ ≤ max_level = (let l : Low ℓ (tok found.0 ∷ found.1) = rw found.2 at low in l) in
-    rw found.3 (record { used = (tok found.0, ℓ) ∷ []; whole = found.2; fits = (here, tt); low = low_any ℓ found.1 here; read = (refl, refl) })

@@ -9,7 +9,7 @@ use Rattle.syntax_grammar.specs.declared.tree.Span.{Span}
 use Rattle.syntax_grammar.specs.declared.rules.Literal.{Literal}
 use Rattle.syntax_grammar.specs.Tree.{Pattern}
 use Rattle.syntax_grammar.specs.Tree as e
-use Rattle.syntax_grammar.specs.Parsing.{Parser, ◌>>◌, and_then, pure, first_kind, is_mark, leave, begins_pattern}
+use Rattle.syntax_grammar.specs.Parsing.{Parser, ◌>>◌, and_then, pure, leave, begins_pattern}
 use Rattle.syntax_grammar.specs.Lists.{separated, separated_from}
 use Rattle.syntax_grammar.specs.PatternRules.{pattern, pattern_body, pattern_any, pattern_variable, pattern_word, pattern_flag, pattern_make, pattern_parts}
 use Rattle.syntax_grammar.specs.Grammar.{Leveled, tokens_of, IsLiteral, Pat, Pats, name, mark, upper}
@@ -63,10 +63,6 @@ in_alone text s ℓ T low = again_next _ (again_upper text s ℓ low) (again_the
 body_alone : {ℓ : ℕ} (text : List ℕ) (s : Span) → PatBodyAgain ℓ (upper text s ℓ ∷ []) (e.Pattern.make (name text s) e.Patterns.none s)
 unfolding pattern_body
 body_alone {ℓ = ℓ} text s depth deep low = record { again = λ rest ok. (in_alone text s ℓ (pattern depth) low).again rest ok }
-
--- parts are read up to the closing mark
-abbrev closes_parts : List Token → Type 0
-closes_parts rest = (is_mark m.RParen (first_kind rest) ≡ true) × stops rest
 
 parts_again : {ℓ : ℕ} {us : List Leveled} {ps : List Pattern} → PatsAgain ℓ us ps → (depth : ℕ) → max_level ≤ depth + ℓ → ℓ ≤ max_level → Again (separated (pattern depth) m.Comma) ℓ us ps ℓ stops
 unfolding separated

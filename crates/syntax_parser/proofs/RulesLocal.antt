@@ -29,7 +29,7 @@ use Rattle.syntax_grammar.specs.Nodes.{let_of, if_of, binary_of, prefix_of, get_
 use Rattle.syntax_grammar.specs.Operators.{binds, groups, operator, prefix_operator, loosest}
 use Rattle.syntax_grammar.specs.Tokens.{max_level, is_prefix, is_operation, is_cast}
 use Rattle.syntax_parser.proofs.Cut.{at}
-use Rattle.syntax_parser.proofs.TokensFound.{of_mark, of_word, of_number, of_lower, of_upper, takes_mark, takes_word, takes_number, takes_lower, takes_upper}
+use Rattle.syntax_parser.proofs.TokensFound.{of_mark, of_word, of_lower, of_upper, takes_mark, takes_word, takes_lower, takes_upper}
 use Rattle.syntax_parser.proofs.Local.{Local, Moves, Needs, local_then, local_pure, local_stop, local_leave, local_skip, local_by_next, local_choose, local_rise, local_enter, local_expect, local_word, local_number, local_lower, local_upper, local_literal, local_eat, local_separated, local_until, local_many, local_turns, takes_moves, moves_then, moves_after, moves_by_next, moves_stop, moves_literal, moves_choose, same_then, no_more}
 
 word_moves : (word : Keyword) → Moves (expect_word word)
@@ -43,9 +43,6 @@ lower_moves = takes_moves of_lower lower takes_lower
 
 upper_moves : Moves upper
 upper_moves = takes_moves of_upper upper takes_upper
-
-number_moves : Moves number
-number_moves = takes_moves of_number number takes_number
 
 -- ---- patterns
 

@@ -8,7 +8,7 @@ use Rattle.spec_ir.specs.Views.{specification}
 use Rattle.program_common.specs.declared.outcome.Halt.{Halt}
 use Rattle.program_common.specs.Outcomes.{Gives}
 use Rattle.program_common.specs.Sources.{Specifies}
-use Rattle.program_emulate.proofs.Giving.{gives_accepted, gives_machine}
+use Rattle.program_machine.proofs.Giving.{gives_accepted, gives_machine}
 use Rattle.domain_laws.specs.States.{has_states}
 use Rattle.analysis_problems.proofs.States.{accepted_have_states}
 

@@ -1,4 +1,4 @@
-//! Tests of the code of a specification. They stand apart, since a crate with tests is proved a second time with them.
+//! Tests of the code of a specification.
 #![tactic(auto)]
 
 #[cfg(test)]

@@ -1,4 +1,4 @@
-//! Tests of the driver of self calls. They stand apart, since a crate with tests is proved a second time with them.
+//! Tests of the driver of self calls.
 #![tactic(auto)]
 
 #[cfg(test)]

@@ -15,8 +15,8 @@ pub(crate) struct Known {
     pub width: u32,
 }
 
-/// What a line says by itself: nothing, by its form; no claim, by its form or since a number is too big for its cell; a claim of a cell that is not there; or
-/// this claim.
+/// What a line says by itself: nothing, by its form; no claim, by its form or since a number is too big for its cell; a claim of a cell
+/// that is not there; or this claim.
 #[derive(Drop)]
 pub(crate) enum Meant {
     Nothing,

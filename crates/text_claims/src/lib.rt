@@ -14,9 +14,9 @@
 //! cells add to 0, modulo 2^32; or no run comes there. All numbers are in hex, one space stands between words, and lines end as in an
 //! entry. Lines that are empty or begin with `#` say nothing.
 //!
-//! `read_claims` answers the claims of a text, or the first faulty line: it is no claim by its form; it names an address or a cell that is not there; or
-//! elements tell of no such claim. Proved: the answer is exactly this (specs/Reading), and a claim that is read is one of which `answer` may be
-//! asked. `answers_text` has `yes` or `open` for each claim, as `answer` gives it.
+//! `read_claims` answers the claims of a text, or the first faulty line: it is no claim by its form; it names an address or a cell that is
+//! not there; or elements tell of no such claim. Proved: the answer is exactly this (specs/Reading), and a claim that is read is one of
+//! which `answer` may be asked. `answers_text` has `yes` or `open` for each claim, as `answer` gives it.
 #![tactic(auto)]
 
 mod answers;

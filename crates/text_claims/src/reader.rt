@@ -76,7 +76,8 @@ fn with_line<D: ClaimElement>(
     n: u32,
     meant: Meant,
 ) -> Result<(), ClaimError>
-    ensures { defined.Gives result (claims_of claims.new) (defined.with_line (D.telling domain.now) (has_word image.now) n (meant_of meant) (claims_of claims.old)) }
+    ensures { defined.Gives result (claims_of claims.new) (defined.with_line (D.telling domain.now) (has_word image.now) n (meant_of meant)
+        (claims_of claims.old)) }
 {
     match meant {
         Meant::Nothing => Ok(()),

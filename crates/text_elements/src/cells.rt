@@ -43,7 +43,8 @@ fn push_line<B: BaseText>(
     w: u32,
     cell: (&B::Word, &B::Note),
 ) -> Result<(), NoMemory>
-    ensures { OnOk result (string_bytes out.new ≡ string_bytes out.old ++ lines.cell_line B.texts (specification spec.now) field.now key w (record { word = cell.entry.0.now; note = cell.entry.1.now })) }
+    ensures { OnOk result (string_bytes out.new ≡ string_bytes out.old ++ lines.cell_line B.texts (specification spec.now) field.now key w
+        (record { word = cell.entry.0.now; note = cell.entry.1.now })) }
 {
     push_cell(out, spec, field, key)?;
     out.push_str(" ")?;
@@ -58,7 +59,8 @@ fn push_listed<B: BaseText>(
     field: &(Text, Ty),
     m: &AbstractMap<B>,
 ) -> Result<(), NoMemory>
-    ensures { OnOk result (string_bytes out.new ≡ string_bytes out.old ++ lines.listed_lines B.texts (specification spec.now) field.now m.now.width m.now.cells) }
+    ensures { OnOk result (string_bytes out.new ≡ string_bytes out.old ++ lines.listed_lines B.texts (specification spec.now) field.now m.now.width
+        m.now.cells) }
 {
     for place in 0..m.listed() {
         let key = KeyAt::At(m.key_at(place));
@@ -103,7 +105,8 @@ fn push_fields<B: BaseText>(
     fields: &[(Text, Ty)],
     values: &[AbstractValue<B>],
 ) -> Result<(), NoMemory>
-    ensures { OnOk result (string_bytes out.new ≡ string_bytes out.old ++ lines.field_lines B.texts (specification spec.now) fields.now (parts (map abs values.now))) }
+    ensures { OnOk result (string_bytes out.new ≡ string_bytes out.old ++ lines.field_lines B.texts (specification spec.now) fields.now
+        (parts (map abs values.now))) }
 {
     for i in 0..fields.len().min(values.len()) {
         push_value::<B>(out, spec, &fields[i], &values[i])?;
@@ -117,7 +120,8 @@ pub(crate) fn push_cells<B: BaseText>(
     spec: &Spec,
     values: &[AbstractValue<B>],
 ) -> Result<(), NoMemory>
-    ensures { OnOk result (string_bytes out.new ≡ string_bytes out.old ++ lines.cell_lines B.texts (specification spec.now) (state_fields (specification spec.now)) (parts (map abs values.now))) }
+    ensures { OnOk result (string_bytes out.new ≡ string_bytes out.old ++ lines.cell_lines B.texts (specification spec.now)
+        (state_fields (specification spec.now)) (parts (map abs values.now))) }
 {
     match state_fields(spec) {
         [] => Ok(()),

@@ -83,7 +83,8 @@ fn read_listed_cell<B: CellBase>(
     last: Option<u64>,
     lines: &mut LinesOf<'_>,
 ) -> Result<Option<(u64, CellOf<B>)>, NoMemory>
-    ensures { IfOk result (λ r. (r, lines.new) ≡ one (defined.listed_said B.readings (λ a. is_some (code_at image.now a)) (specification spec.now) name.now ty w last) lines.old) }
+    ensures { IfOk result (λ r. (r, lines.new) ≡ one (defined.listed_said B.readings (λ a. is_some (code_at image.now a)) (specification spec.now)
+        name.now ty w last) lines.old) }
 {
     let Some((line, rest)) = lines.next() else {
         return Ok(None);
@@ -107,7 +108,8 @@ fn read_listed<B: CellBase>(
     w: u32,
     lines: &mut LinesOf<'_>,
 ) -> Result<Vec<(u64, CellOf<B>)>, NoMemory>
-    ensures { IfOk result (λ r. (r.items, lines.new) ≡ defined.listed_read B.readings (λ a. is_some (code_at image.now a)) (specification spec.now) B.CAP name.now ty w lines.old) }
+    ensures { IfOk result (λ r. (r.items, lines.new) ≡ defined.listed_read B.readings (λ a. is_some (code_at image.now a)) (specification spec.now)
+        B.CAP name.now ty w lines.old) }
 {
     let mut cells = Vec::new(alloc);
     let mut last = None;
@@ -164,7 +166,8 @@ fn read_map<B: CellBase>(
     lines: &mut LinesOf<'_>,
 ) -> Result<Option<AbstractValue<B>>, NoMemory>
     requires right { is_field (states.map_field (environment_of (specification spec.now)) number (Some ty.now)) ≡ true }
-    ensures { IfOk result (λ r. (option_map abs r, lines.new) ≡ defined.map_read B.readings (λ a. is_some (code_at image.now a)) (specification spec.now) B.CAP name.now number (Some ty.now) lines.old) }
+    ensures { IfOk result (λ r. (option_map abs r, lines.new) ≡ defined.map_read B.readings (λ a. is_some (code_at image.now a))
+        (specification spec.now) B.CAP name.now number (Some ty.now) lines.old) }
 {
     let w = ty.width;
     match read_rest::<B>(alloc, image, name, w, lines)? {
@@ -187,7 +190,8 @@ fn read_map_at<B: CellBase>(
     lines: &mut LinesOf<'_>,
 ) -> Result<Option<AbstractValue<B>>, NoMemory>
     requires right { is_field (states.map_field (environment_of (specification spec.now)) number (slice_get (specification spec.now).maps number)) ≡ true }
-    ensures { IfOk result (λ r. (option_map abs r, lines.new) ≡ defined.map_read B.readings (λ a. is_some (code_at image.now a)) (specification spec.now) B.CAP name.now number (slice_get (specification spec.now).maps number) lines.old) }
+    ensures { IfOk result (λ r. (option_map abs r, lines.new) ≡ defined.map_read B.readings (λ a. is_some (code_at image.now a))
+        (specification spec.now) B.CAP name.now number (slice_get (specification spec.now).maps number) lines.old) }
 {
     match spec.maps.get(number as usize) {
         Some(ty) => read_map::<B>(alloc, ctx, spec, image, name, number, ty, lines),
@@ -205,7 +209,8 @@ fn read_value<B: CellBase>(
     lines: &mut LinesOf<'_>,
 ) -> Result<Option<AbstractValue<B>>, NoMemory>
     requires right { is_field (states.field_of (environment_of (specification spec.now)) field.now.1) ≡ true }
-    ensures { IfOk result (λ r. (option_map abs r, lines.new) ≡ defined.value_read B.readings (λ a. is_some (code_at image.now a)) (specification spec.now) B.CAP field.now.0 field.now.1 lines.old) }
+    ensures { IfOk result (λ r. (option_map abs r, lines.new) ≡ defined.value_read B.readings (λ a. is_some (code_at image.now a))
+        (specification spec.now) B.CAP field.now.0 field.now.1 lines.old) }
 {
     let name = field.0.as_str().as_bytes();
     match field.1 {
@@ -239,7 +244,8 @@ fn read_fields<B: CellBase>(
     lines: &mut LinesOf<'_>,
 ) -> Result<Option<Vec<AbstractValue<B>>>, NoMemory>
     requires right { list_all is_field (states.fields_of (environment_of (specification spec.now)) (map (λ f. f.1) fields.now)) ≡ true }
-    ensures { IfOk result (λ r. (option_map (λ xs. parts (map abs xs.items)) r, lines.new) ≡ defined.fields_read B.readings (λ a. is_some (code_at image.now a)) (specification spec.now) B.CAP fields.now lines.old) }
+    ensures { IfOk result (λ r. (option_map (λ xs. parts (map abs xs.items)) r, lines.new)
+        ≡ defined.fields_read B.readings (λ a. is_some (code_at image.now a)) (specification spec.now) B.CAP fields.now lines.old) }
 {
     let mut values = Vec::with_capacity(alloc, fields.len())?;
     for i in 0..fields.len() {
@@ -271,8 +277,10 @@ pub fn read_cells<B: CellBase>(
     lines: &mut LinesOf<'_>,
 ) -> Result<Option<Vec<AbstractValue<B>>>, NoMemory>
     requires states { has_states (specification spec.now) ≡ true }
-    ensures value { IfOk result (λ r. (option_map (λ xs. parts (map abs xs.items)) r, lines.new) ≡ defined.states_read B.readings (λ a. is_some (code_at image.now a)) (specification spec.now) B.CAP lines.old) }
-    ensures fits { IfOk result (λ r. IfSome r (λ xs. FieldsFit B.algebra ctx.now B.CAP (state_type (specification spec.now)).fields (parts (map abs xs.items)))) }
+    ensures value { IfOk result (λ r. (option_map (λ xs. parts (map abs xs.items)) r, lines.new)
+        ≡ defined.states_read B.readings (λ a. is_some (code_at image.now a)) (specification spec.now) B.CAP lines.old) }
+    ensures fits { IfOk result (λ r. IfSome r (λ xs. FieldsFit B.algebra ctx.now B.CAP (state_type (specification spec.now)).fields
+        (parts (map abs xs.items)))) }
 {
     let fields = behind_counter(state_fields(spec));
     read_fields::<B>(alloc, ctx, spec, image, fields, lines)

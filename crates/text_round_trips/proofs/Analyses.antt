@@ -25,8 +25,8 @@ use Rattle.text_elements.specs.Parts.{ElementText}
 use Rattle.text_element_readers.specs.Reading.{ElementReading}
 use Rattle.text_element_readers.specs.Words.{WordReading}
 use Rattle.text_table_reader.specs.Ends.{is_word_of}
-use Rattle.text_table_reader_laws.specs.Readings.{AreAlike, AreAlikeAt}
-use Rattle.text_table_reader_laws.proofs.Errors.{read_tables_fit, tables_are_alike}
+use Rattle.text_table_reader.specs.Readings.{AreAlike, AreAlikeAt}
+use Rattle.text_table_reader.proofs.Errors.{read_tables_fit, tables_are_alike}
 use Rattle.text_round_trips.specs.Analyses.{TextsOfTracesAreAccepted, TracesAreWritable}
 use Rattle.text_round_trips.proofs.Addresses.{words_are_code}
 use Rattle.text_round_trips.proofs.Fitting.{fitting_tables_are_of_code}

@@ -6,8 +6,6 @@ use Rattle.std.specs.List.{list_all}
 use Rattle.std.proofs.lemmas.Bool.Decides.{nat_tests}
 use Rattle.std.proofs.lemmas.Fmt.{decimal_by_steps}
 use Rattle.base_trait.specs.Lists.{Each}
-use Rattle.support_command_line.specs.Bases.{base_text}
-use Rattle.support_command_line.specs.declared.bases.BaseName.{BaseName}
 use Rattle.support_command_line.specs.declared.bases.BaseName.TheVariants as b
 use Rattle.code_image.specs.declared.order.Order.{Order}
 use Rattle.code_image.specs.declared.order.Order.TheVariants.{Big, Little}
@@ -38,28 +36,6 @@ decimal_inside : (n : ℕ) → n < 2 ^ 64 → IsTrue (list_all is_inside (decima
 decimal_inside n h =
     decimal_by_steps (λ m digits. IsTrue (list_all is_inside digits)) one_digit
     (λ m digits some rest. both_all is_inside digits ((48 + m % 10) ∷ []) rest (one_digit (m % 10) (omega arith))) n h
-
--- no name of a base has LF in it
-pub base_inside : (base : BaseName) → IsTrue (list_all is_inside (base_text base))
-base_inside b.Const = refl
-base_inside b.KSet = refl
-base_inside b.Interval = refl
-base_inside b.Affine = refl
-base_inside b.DefUse = refl
-base_inside b.ConstInterval = refl
-base_inside b.KSetInterval = refl
-base_inside b.KSetAffine = refl
-base_inside b.KSetDefUse = refl
-base_inside b.IntervalAffine = refl
-base_inside b.IntervalDefUse = refl
-base_inside b.AffineDefUse = refl
-base_inside b.Bits = refl
-base_inside b.KSetBits = refl
-base_inside b.IntervalBits = refl
-base_inside b.BitsDefUse = refl
-base_inside b.Strides = refl
-base_inside b.StridesAffine = refl
-base_inside b.StridesDefUse = refl
 
 -- ---- lines that are determined
 

@@ -21,7 +21,6 @@ pub mod NoKey
 pub mod OpenAnalyses
 pub mod Pairs
 pub mod PartLines
-pub mod Parts
 pub mod Reduced
 pub mod Relations
 pub mod Rows

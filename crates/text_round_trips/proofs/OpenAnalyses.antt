@@ -40,8 +40,8 @@ use Rattle.text_elements.specs.Parts.{ElementText}
 use Rattle.text_element_readers.specs.Reading.{ElementReading}
 use Rattle.text_element_readers.specs.Words.{WordReading}
 use Rattle.text_table_reader.specs.Ends.{is_word_of}
-use Rattle.text_table_reader_laws.specs.Readings.{AreAlike, AreAlikeAt}
-use Rattle.text_table_reader_laws.proofs.Errors.{open_tables_are_alike, read_open_tables_fit}
+use Rattle.text_table_reader.specs.Readings.{AreAlike, AreAlikeAt}
+use Rattle.text_table_reader.proofs.Errors.{open_tables_are_alike, read_open_tables_fit}
 use Rattle.text_round_trips.specs.OpenAnalyses.{OpenTracesAreWritable, TextsOfOpenTracesAreAccepted}
 use Rattle.text_round_trips.specs.Writable.{AreEndingsOf, MayEnd, MayEndAt}
 use Rattle.text_round_trips.proofs.Addresses.{words_are_code}

@@ -23,7 +23,7 @@ use Rattle.text_table_reader.specs.Endings.{endings_in}
 use Rattle.text_table_reader.specs.Ends.{is_word_of}
 use Rattle.text_table_reader.specs.Heads.{read_head}
 use Rattle.text_table_reader.specs.Tables.{IsOpenTableIn}
-use Rattle.text_table_reader_laws.proofs.Errors.{open_tables_are_alike, read_open_tables_fit, tables_are_alike}
+use Rattle.text_table_reader.proofs.Errors.{open_tables_are_alike, read_open_tables_fit, tables_are_alike}
 use Rattle.text_round_trips.specs.FirstTexts.{IsOpenTextOf, IsTextOf, first_head}
 use Rattle.text_round_trips.specs.TableLaws.{ConvertedTextsAreRead, HasParts, OpenTablesReadAreWritable, OpenTextsAreRead, OpenTextsAreTold, OpenTextsTellTables, TablesReadAreWritable, TextsAreRead, TextsAreTold, TextsTellTables}
 use Rattle.text_round_trips.specs.Writable.{AreEndingsOf, IsBlockOfCode, IsWritable, MayEndAt}

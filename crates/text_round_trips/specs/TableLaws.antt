@@ -18,7 +18,7 @@ use Rattle.text_round_trips.specs.Words.{WordsTell}
 use Rattle.text_table_reader.specs.Blocks.{BlocksFit}
 use Rattle.text_table_reader.specs.Ends.{is_word_of}
 use Rattle.text_table_reader.specs.Tables.{IsOpenTableIn, IsTableIn}
-use Rattle.text_table_reader_laws.specs.Readings.{AreAlike}
+use Rattle.text_table_reader.specs.Readings.{AreAlike}
 use Rattle.text_round_trips.specs.Fields.{HasUseTexts}
 use Rattle.text_round_trips.specs.FirstTexts.{IsOpenTextOf, IsTextOf}
 use Rattle.text_round_trips.specs.Writable.{AreBlocksOfCode, AreEndingsOf, IsWritable}

@@ -185,7 +185,8 @@ pub fn traces_are_writable<D: WrittenDomain>(domain: &D)
 
 /// A text of the table of a complete legal trace is read as that table, and accepted.
 pub fn texts_of_traces_are_accepted<D: WrittenDomain>(domain: &D)
-    ensures { TextsOfTracesAreAccepted D.B.algebra D.B.CAP (D.elements domain.now) (D.meaning domain.now) D.ElementFits D.Reads D.word_in D.IsText D.word_text D.WordFits }
+    ensures { TextsOfTracesAreAccepted D.B.algebra D.B.CAP (D.elements domain.now) (D.meaning domain.now) D.ElementFits D.Reads D.word_in D.IsText
+        D.word_text D.WordFits }
 {}
 
 /// The table of a trace of an analysis that is left open, with its endings, is one that its texts tell.
@@ -195,5 +196,6 @@ pub fn open_traces_are_writable<D: WrittenDomain>(domain: &D)
 
 /// A text of the table of a complete legal trace of such an analysis is read as that table with its endings, and accepted.
 pub fn texts_of_open_traces_are_accepted<D: WrittenDomain>(domain: &D)
-    ensures { TextsOfOpenTracesAreAccepted D.B.algebra D.B.CAP (D.elements domain.now) (D.meaning domain.now) D.ElementFits D.Reads D.word_in D.IsText D.word_text }
+    ensures { TextsOfOpenTracesAreAccepted D.B.algebra D.B.CAP (D.elements domain.now) (D.meaning domain.now) D.ElementFits D.Reads D.word_in
+        D.IsText D.word_text }
 {}

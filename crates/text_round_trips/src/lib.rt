@@ -22,10 +22,11 @@
 //! `convert` writes is the table that it read. Tables of analyses are such tables: what is printed of an analysis is read as its table, and the
 //! verdict on what is read of it is that it is accepted.
 //!
-//! A table may be left open (`fixpoint_open_tables`): what is said of it is said of the table with its endings, and of one without endings as of any table.
+//! A table may be left open (`fixpoint_open_tables`): what is said of it is said of the table with its endings, and of one without endings
+//! as of any table.
 //!
-//! The laws stand on the round trip of elements and of words, on the laws of their readings, on fields of states whose names and keys tell uses, and on an
-//! image in which nothing is wrong (`HasParts`). The fields of each machine that was checked are such fields.
+//! The laws stand on the round trip of elements and of words, on the laws of their readings, on fields of states whose names and keys tell
+//! uses, and on an image in which nothing is wrong (`HasParts`). The fields of each machine that was checked are such fields.
 //!
 //! | law | says |
 //! |---|---|

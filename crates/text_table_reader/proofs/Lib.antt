@@ -2,8 +2,15 @@ pub mod AllKept
 pub mod BlockSteps
 pub mod BlocksSoFar
 pub mod CodeLines
+pub mod Errors
 pub mod FaultsFound
+pub mod FirstOpen
+pub mod Fits
 pub mod LastUse
 pub mod LineCounts
 pub mod LineEnds
+pub mod One
+pub mod Shorter
+pub mod Some
 pub mod Told
+pub mod Views

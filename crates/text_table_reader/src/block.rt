@@ -98,7 +98,8 @@ pub(crate) fn read_block<D: ReadElement>(
 ) -> Result<Option<BlockAt<D::Element, <D::B as Base>::Word>>, NoMemory>
     requires made { IsTrue (D.is_for domain.now (specification at.now.spec.now)) }
     requires fields { at.now.fields.now ≡ (state_type (specification at.now.spec.now)).fields }
-    ensures block { IfOk result (λ r. BlockRead (D.Reads domain.now) (D.word_in domain.now) (specification at.now.spec.now) (is_word_of at.now.image.now) low lines.old (option_map (λ p. (p.address, listing (λ x. x) p.block)) r) (option_and_then (λ p. p.ending) r) lines.new) }
+    ensures block { IfOk result (λ r. BlockRead (D.Reads domain.now) (D.word_in domain.now) (specification at.now.spec.now)
+        (is_word_of at.now.image.now) low lines.old (option_map (λ p. (p.address, listing (λ x. x) p.block)) r) (option_and_then (λ p. p.ending) r) lines.new) }
     ensures fits { IfOk result (λ r. IfSome r (λ p. IsTrue (is_word_of at.now.image.now p.address) × (D.elements domain.now).fits (D.view p.block.elem))) }
     ensures least { IfOk result (λ r. IfSome r (λ p. low ≤ p.address)) }
     ensures shorter { IfOk result (λ r. IfSome r (λ p. length lines.new < length lines.old)) }

@@ -11,7 +11,10 @@
 //!
 //! What is read of a text, specs/Tables says: the head line by line (specs/Heads), then the blocks (specs/Blocks), each with its address
 //! (specs/Starts), the element that its domain reads, what stands behind that (specs/Ends), and how the block ends where it is left open
-//! (specs/Endings). A line is taken where it stands; the first line that is not taken is faulty. So a field of states may be called `use`, `next` or `at`.
+//! (specs/Endings). A line is taken where it stands; the first line that is not taken is faulty. So a field of states may be called `use`,
+//! `next` or `at`.
+//!
+//! Laws of these definitions (specs/Readings, proofs/One, Some, Shorter) say what holds of tables that are read.
 #![tactic(auto)]
 
 mod addresses;

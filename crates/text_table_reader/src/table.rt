@@ -46,8 +46,10 @@ fn read_blocks<D: ReadElement>(
 ) -> Result<Option<OpenTable<D::Element, <D::B as Base>::Word>>, NoMemory>
     requires made { IsTrue (D.is_for domain.now (specification at.now.spec.now)) }
     requires fields { at.now.fields.now ≡ (state_type (specification at.now.spec.now)).fields }
-    ensures read { IfOk result (λ r. AreReadAs (D.Reads domain.now) (D.word_in domain.now) (specification at.now.spec.now) (is_word_of at.now.image.now) lines.old (option_map (λ t. (listings (λ x. x) t.table, λ a. get nat_cmp t.endings a)) r) lines.new) }
-    ensures fits { IfOk result (λ r. IfSome r (λ t. BlocksFit (is_word_of at.now.image.now) (λ x. (D.elements domain.now).fits (D.view x)) (listings (λ x. x) t.table))) }
+    ensures read { IfOk result (λ r. AreReadAs (D.Reads domain.now) (D.word_in domain.now) (specification at.now.spec.now)
+        (is_word_of at.now.image.now) lines.old (option_map (λ t. (listings (λ x. x) t.table, λ a. get nat_cmp t.endings a)) r) lines.new) }
+    ensures fits { IfOk result (λ r. IfSome r (λ t. BlocksFit (is_word_of at.now.image.now) (λ x. (D.elements domain.now).fits (D.view x))
+        (listings (λ x. x) t.table))) }
 {
     let mut blocks = BTreeMap::new(alloc);
     let mut endings = BTreeMap::new(alloc);
@@ -109,8 +111,10 @@ pub fn read_table<D: ReadElement>(
     requires made { IsTrue (D.is_for domain.now (specification spec.now)) }
     requires states { has_states (specification spec.now) ≡ true }
     requires short { length bytes.now < 2 ^ 32 }
-    ensures table { IfOk result (λ r. IsOpenTableIn (D.Reads domain.now) (D.word_in domain.now) (specification spec.now) (base_text base) image.now bytes.now (listings (λ x. x) r.table) (λ a. get nat_cmp r.endings a)) }
-    ensures error { IfErr result (λ e. (e ≡ TableError.NoMemory) ⊎ IsErrorIn (D.Reads domain.now) (D.word_in domain.now) (specification spec.now) (base_text base) image.now bytes.now e) }
+    ensures table { IfOk result (λ r. IsOpenTableIn (D.Reads domain.now) (D.word_in domain.now) (specification spec.now) (base_text base) image.now
+        bytes.now (listings (λ x. x) r.table) (λ a. get nat_cmp r.endings a)) }
+    ensures error { IfErr result (λ e. (e ≡ TableError.NoMemory) ⊎ IsErrorIn (D.Reads domain.now) (D.word_in domain.now) (specification spec.now)
+        (base_text base) image.now bytes.now e) }
     ensures fits { IfOk result (λ r. BlocksFit (is_word_of image.now) (λ x. (D.elements domain.now).fits (D.view x)) (listings (λ x. x) r.table)) }
 {
     let rest = match read_head(alloc, base.name(), image, bytes) {

@@ -135,7 +135,8 @@ fn is_use_behind(fields: &[Field], uses: &[Use], of: &Use) -> bool
 
 /// The use that a line is, where it may stand behind others.
 fn next_use(alloc: Global, at: &Setting, uses: &[Use], line: &[u8]) -> Result<Option<Use>, NoMemory>
-    ensures { IfOk result (λ r. option_map seen r ≡ ends.next_use (specification at.now.spec.now) (is_word_of at.now.image.now) at.now.fields.now (map seen uses.now) line.now) }
+    ensures { IfOk result (λ r. option_map seen r ≡ ends.next_use (specification at.now.spec.now) (is_word_of at.now.image.now) at.now.fields.now
+        (map seen uses.now) line.now) }
 {
     let Some(of) = use_said(alloc, at, line)? else {
         return Ok(None);
@@ -154,7 +155,8 @@ fn read_use(
     uses: &[Use],
     lines: &mut LinesOf<'_>,
 ) -> Result<Option<Use>, NoMemory>
-    ensures value { IfOk result (λ r. (option_map seen r, lines.new) ≡ one (ends.next_use (specification at.now.spec.now) (is_word_of at.now.image.now) at.now.fields.now (map seen uses.now)) lines.old) }
+    ensures value { IfOk result (λ r. (option_map seen r, lines.new) ≡ one
+        (ends.next_use (specification at.now.spec.now) (is_word_of at.now.image.now) at.now.fields.now (map seen uses.now)) lines.old) }
     ensures shorter { IfOk result (λ r. IfSome r (λ u. length lines.new < length lines.old)) }
 {
     let Some((line, rest)) = lines.next() else {
@@ -175,7 +177,8 @@ pub(crate) fn read_uses(
     at: &Setting,
     lines: &mut LinesOf<'_>,
 ) -> Result<Vec<Use>, NoMemory>
-    ensures { IfOk result (λ r. (map seen r.items, lines.new) ≡ ends.read_uses (specification at.now.spec.now) (is_word_of at.now.image.now) at.now.fields.now lines.old) }
+    ensures { IfOk result (λ r. (map seen r.items, lines.new) ≡ ends.read_uses (specification at.now.spec.now) (is_word_of at.now.image.now)
+        at.now.fields.now lines.old) }
 {
     let mut uses = Vec::new(alloc);
     'uses: loop {

@@ -89,7 +89,8 @@ fn push_uses(out: &mut String, spec: &Spec, uses: &[Use]) -> Result<(), NoMemory
 
 /// Appends what stands behind the element of a block: the uses, the next addresses, and the exits.
 fn push_end<E>(out: &mut String, spec: &Spec, block: &Block<E>) -> Result<(), NoMemory>
-    ensures { OnOk result (string_bytes out.new ≡ string_bytes out.old ++ lines.end_lines (specification spec.now) (map seen block.now.uses.items) block.now.next.items block.now.exits.items) }
+    ensures { OnOk result (string_bytes out.new ≡ string_bytes out.old ++ lines.end_lines (specification spec.now) (map seen block.now.uses.items)
+        block.now.next.items block.now.exits.items) }
 {
     push_uses(out, spec, &block.uses)?;
     push_addresses(out, "next", &block.next)?;
@@ -112,7 +113,8 @@ pub(crate) fn push_block<D: WriteElement>(
     at: u32,
     block: &Block<D::Element>,
 ) -> Result<(), NoMemory>
-    ensures { OnOk result (Appended (lines.IsBlock (D.IsText (specification spec.now)) (specification spec.now) at (listing (λ x. x) block.now)) (string_bytes out.old) (string_bytes out.new)) }
+    ensures { OnOk result (Appended (lines.IsBlock (D.IsText (specification spec.now)) (specification spec.now) at (listing (λ x. x) block.now))
+        (string_bytes out.old) (string_bytes out.new)) }
 {
     push_at(out, at)?;
     append_element::<D>(out, spec, &block.elem)?;

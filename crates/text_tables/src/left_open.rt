@@ -65,7 +65,8 @@ fn push_open_block<D: WriteElement>(
     block: &Block<D::Element>,
     endings: &BTreeMap<u32, Ending<<D::B as Base>::Word>>,
 ) -> Result<(), NoMemory>
-    ensures { OnOk result (Appended (IsOpenBlock D.word_text (D.IsText (specification spec.now)) (specification spec.now) at (listing (λ x. x) block.now) (get nat_cmp endings.now at)) (string_bytes out.old) (string_bytes out.new)) }
+    ensures { OnOk result (Appended (IsOpenBlock D.word_text (D.IsText (specification spec.now)) (specification spec.now) at
+        (listing (λ x. x) block.now) (get nat_cmp endings.now at)) (string_bytes out.old) (string_bytes out.new)) }
 {
     push_block::<D>(out, spec, at, block)?;
     push_ending::<D>(out, at, endings)?;
@@ -80,7 +81,8 @@ fn push_listed<D: WriteElement>(
     table: &Table<D::Element>,
     endings: &BTreeMap<u32, Ending<<D::B as Base>::Word>>,
 ) -> Result<(), NoMemory>
-    ensures { OnOk result (Appended (IsOpenAt D.word_text (D.IsText (specification spec.now)) (specification spec.now) at (listings (λ x. x) table.now at) (get nat_cmp endings.now at)) (string_bytes out.old) (string_bytes out.new)) }
+    ensures { OnOk result (Appended (IsOpenAt D.word_text (D.IsText (specification spec.now)) (specification spec.now) at
+        (listings (λ x. x) table.now at) (get nat_cmp endings.now at)) (string_bytes out.old) (string_bytes out.new)) }
 {
     match table.blocks.get(&at) {
         Some(block) => push_open_block::<D>(out, spec, at, block, endings),
@@ -96,7 +98,8 @@ fn push_blocks<D: WriteElement>(
     table: &Table<D::Element>,
     endings: &BTreeMap<u32, Ending<<D::B as Base>::Word>>,
 ) -> Result<(), NoMemory>
-    ensures { OnOk result (Appended (AreOpenBlocks D.word_text (D.IsText (specification spec.now)) (specification spec.now) (listings (λ x. x) table.now) (λ a. get nat_cmp endings.now a) addresses.now) (string_bytes out.old) (string_bytes out.new)) }
+    ensures { OnOk result (Appended (AreOpenBlocks D.word_text (D.IsText (specification spec.now)) (specification spec.now)
+        (listings (λ x. x) table.now) (λ a. get nat_cmp endings.now a) addresses.now) (string_bytes out.old) (string_bytes out.new)) }
 {
     for at in addresses {
         push_listed::<D>(out, spec, *at, table, endings)?;
@@ -114,7 +117,8 @@ fn push_table<D: WriteElement>(
     table: &Table<D::Element>,
     endings: &BTreeMap<u32, Ending<<D::B as Base>::Word>>,
 ) -> Result<(), NoMemory>
-    ensures { OnOk result (Appended (IsOpenTableText D.word_text (D.IsText (specification spec.now)) (specification spec.now) image.now base.now (listings (λ x. x) table.now) (λ a. get nat_cmp endings.now a)) (string_bytes out.old) (string_bytes out.new)) }
+    ensures { OnOk result (Appended (IsOpenTableText D.word_text (D.IsText (specification spec.now)) (specification spec.now) image.now base.now
+        (listings (λ x. x) table.now) (λ a. get nat_cmp endings.now a)) (string_bytes out.old) (string_bytes out.new)) }
 {
     push_head(out, base, image)?;
     let addresses = image.addresses(alloc)?;
@@ -131,7 +135,8 @@ pub fn open_table_text<D: WriteElement>(
     table: &Table<D::Element>,
     endings: &BTreeMap<u32, Ending<<D::B as Base>::Word>>,
 ) -> Result<Vec<u8>, NoMemory>
-    ensures { IfOk result (λ r. IsOpenTableText D.word_text (D.IsText (specification spec.now)) (specification spec.now) image.now base.now (listings (λ x. x) table.now) (λ a. get nat_cmp endings.now a) r.items) }
+    ensures { IfOk result (λ r. IsOpenTableText D.word_text (D.IsText (specification spec.now)) (specification spec.now) image.now base.now
+        (listings (λ x. x) table.now) (λ a. get nat_cmp endings.now a) r.items) }
 {
     let mut out = String::new(alloc);
     push_table::<D>(alloc, &mut out, spec, image, base, table, endings)?;

@@ -25,8 +25,9 @@
 //! exit 00001008
 //! ```
 //!
-//! Of a table that is left open (`fixpoint_open_tables`) a block that is has neither `next` nor `exit`, and a last line that says why: `open WORD`, where the
-//! instruction's new counter may be too many addresses, with the word of it, or `undecodable WORD` (specs/Open). Where no block is, it is the text of the table (`laws`).
+//! Of a table that is left open (`fixpoint_open_tables`) a block that is has neither `next` nor `exit`, and a last line that says why:
+//! `open WORD`, where the instruction's new counter may be too many addresses, with the word of it, or `undecodable WORD` (specs/Open).
+//! Where no block is, it is the text of the table (`laws`).
 //!
 //! What the text of a table is, specs/Tables says, over the texts of its elements. It is a function of the table but where an element
 //! has several texts, as those of affine relations have.

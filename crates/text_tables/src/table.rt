@@ -22,7 +22,8 @@ fn push_listed<D: WriteElement>(
     at: u32,
     table: &Table<D::Element>,
 ) -> Result<(), NoMemory>
-    ensures { OnOk result (Appended (IsAt (D.IsText (specification spec.now)) (specification spec.now) at (listings (λ x. x) table.now at)) (string_bytes out.old) (string_bytes out.new)) }
+    ensures { OnOk result (Appended (IsAt (D.IsText (specification spec.now)) (specification spec.now) at (listings (λ x. x) table.now at))
+        (string_bytes out.old) (string_bytes out.new)) }
 {
     match table.blocks.get(&at) {
         Some(block) => push_block::<D>(out, spec, at, block),
@@ -37,7 +38,8 @@ fn push_blocks<D: WriteElement>(
     addresses: &[u32],
     table: &Table<D::Element>,
 ) -> Result<(), NoMemory>
-    ensures { OnOk result (Appended (AreBlocks (D.IsText (specification spec.now)) (specification spec.now) (listings (λ x. x) table.now) addresses.now) (string_bytes out.old) (string_bytes out.new)) }
+    ensures { OnOk result (Appended (AreBlocks (D.IsText (specification spec.now)) (specification spec.now) (listings (λ x. x) table.now)
+        addresses.now) (string_bytes out.old) (string_bytes out.new)) }
 {
     for at in addresses {
         push_listed::<D>(out, spec, *at, table)?;
@@ -54,7 +56,8 @@ fn push_table<D: WriteElement>(
     base: &str,
     table: &Table<D::Element>,
 ) -> Result<(), NoMemory>
-    ensures { OnOk result (Appended (IsTableText (D.IsText (specification spec.now)) (specification spec.now) image.now base.now (listings (λ x. x) table.now)) (string_bytes out.old) (string_bytes out.new)) }
+    ensures { OnOk result (Appended (IsTableText (D.IsText (specification spec.now)) (specification spec.now) image.now base.now
+        (listings (λ x. x) table.now)) (string_bytes out.old) (string_bytes out.new)) }
 {
     push_head(out, base, image)?;
     let addresses = image.addresses(alloc)?;
@@ -90,7 +93,8 @@ pub fn table_text<D: WriteElement>(
     base: &str,
     table: &Table<D::Element>,
 ) -> Result<Vec<u8>, NoMemory>
-    ensures { IfOk result (λ r. IsTableText (D.IsText (specification spec.now)) (specification spec.now) image.now base.now (listings (λ x. x) table.now) r.items) }
+    ensures { IfOk result (λ r. IsTableText (D.IsText (specification spec.now)) (specification spec.now) image.now base.now
+        (listings (λ x. x) table.now) r.items) }
 {
     // (a table may be large: room for it is taken once, and not doubled again and again)
     let len = table_len::<D>(alloc, spec, image, base, table)?;

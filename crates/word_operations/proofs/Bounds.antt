@@ -1,7 +1,7 @@
 -- When a result is exact, what bounds it, and in which arguments it grows. Each lemma is over the width.
-use Rattle.std.proofs.Common.{◌≡◌, ◌≢◌, ℕ, suc, ◌+◌, ◌-◌, ◌*◌, ◌/◌, ◌%◌, ◌^◌, ◌<◌, ◌≤◌, min, max, Bool, ◌==◌, if◌then◌else◌, ◌*ℤ◌, ◌≤ℤ◌, ◌<ℤ◌, int_div, int_rem, ap, ap₂, sym, subst, ◌∙◌, inl, inr, arith, pow_pos, pow_mono, mod-lt, mod-eq_of_lt, div-le_self, le_trans, le_refl, pow-add, lt_of_mul-lt-mul_right, add-zero, div-mul-le_self, mul-le-mul_left, ne_eqb, subst₂, true, false, zero-le, div-add-mod'}
+use Rattle.std.proofs.Common.{◌≡◌, ◌≢◌, ℕ, suc, ◌+◌, ◌-◌, ◌*◌, ◌/◌, ◌%◌, ◌^◌, ◌<◌, ◌≤◌, min, max, Bool, ◌==◌, if◌then◌else◌, ◌*ℤ◌, ◌≤ℤ◌, ◌<ℤ◌, int_div, int_rem, ap, ap₂, sym, ◌∙◌, inl, inr, arith, pow_pos, pow_mono, mod-lt, mod-eq_of_lt, div-le_self, le_trans, le_refl, pow-add, lt_of_mul-lt-mul_right, add-zero, div-mul-le_self, mul-le-mul_left, ne_eqb, true, false, zero-le, div-add-mod'}
 use Rattle.word_operations.proofs.Fits.{product_high}
-use Rattle.std.proofs.Math.Nat.{add-mod_right, mod_self, div-eq_of_lt, mod-le}
+use Rattle.std.proofs.Math.Nat.{div-eq_of_lt, mod-le}
 use Rattle.std.proofs.lemmas.Bool.{cases_lt}
 use Rattle.std.proofs.lemmas.Int.{ints}
 use Rattle.std.proofs.lemmas.Nat.{and_le_l, and_le_r, le_or_l, le_or_r, or_lt, xor_lt, le-div, mul-le}
@@ -9,8 +9,8 @@ use Rattle.word_operations.specs.Casts.{sext_of, trunc_of}
 use Rattle.word_operations.specs.Op1.{op1_of}
 use Rattle.word_operations.specs.Op2.{op2_of, high_part}
 use Rattle.word_operations.specs.Signed.{signed, unsigned}
-use Rattle.word_operations.specs.declared.kinds.UnaryOperation.TheVariants.{Neg, Not}
-use Rattle.word_operations.specs.declared.kinds.BinaryOperation.TheVariants.{Add, Sub, Mul, And, Or, Xor, Shl, ShrU, ShrS, RotL, DivU, DivS, RemU, RemS, MulHiU, MulHiS}
+use Rattle.word_operations.specs.declared.kinds.UnaryOperation.TheVariants.{Not}
+use Rattle.word_operations.specs.declared.kinds.BinaryOperation.TheVariants.{Mul, And, Or, Xor, Shl, ShrU, ShrS, RotL, DivU, DivS, RemU, RemS, MulHiU, MulHiS}
 use Rattle.word_operations.proofs.Readings.{signed_low, signed_negative, unsigned_pos, unsigned_negsuc}
 use Rattle.word_operations.proofs.ShiftLaws.{left_shift}
 
@@ -25,41 +25,9 @@ div_anti x y y' positive less =
 
 -- ---- sums, differences, products, negation
 
--- a sum that stays below 2 ^ w
-pub add_exact : (w x y : ℕ) → x + y < 2 ^ w → op2_of Add w x y ≡ x + y
-add_exact w x y below = mod-eq_of_lt below
-
--- a sum that passes the greatest word
-pub add_past : (w x y : ℕ) → x < 2 ^ w → y < 2 ^ w → 2 ^ w ≤ x + y → op2_of Add w x y + 2 ^ w ≡ x + y
-add_past w x y left right past =
-    let split : x + y ≡ x + y - 2 ^ w + 2 ^ w = omega arith in
-    let is : (x + y) % 2 ^ w ≡ x + y - 2 ^ w =
-    ap (λ n. n % 2 ^ w) split ∙ add-mod_right (x + y - 2 ^ w) (2 ^ w) ∙ mod-eq_of_lt (omega arith) in
-    omega arith
-
--- a difference of a greater and a lesser word
-pub sub_exact : (w x y : ℕ) → x < 2 ^ w → y ≤ x → op2_of Sub w x y ≡ x - y
-sub_exact w x y below less =
-    let split : x + 2 ^ w - y ≡ x - y + 2 ^ w = omega arith in
-    ap (λ n. n % 2 ^ w) split ∙ add-mod_right (x - y) (2 ^ w) ∙ mod-eq_of_lt (omega arith)
-
--- a difference that would be below 0
-pub sub_past : (w x y : ℕ) → x < y → y ≤ 2 ^ w → op2_of Sub w x y + y ≡ x + 2 ^ w
-sub_past w x y more below =
-    let is : (x + 2 ^ w - y) % 2 ^ w ≡ x + 2 ^ w - y = mod-eq_of_lt (omega arith) in
-    omega arith
-
 -- a product that stays below 2 ^ w
 pub mul_exact : (w x y : ℕ) → x * y < 2 ^ w → op2_of Mul w x y ≡ x * y
 mul_exact w x y below = mod-eq_of_lt below
-
-pub neg_zero : (w : ℕ) → op1_of Neg w 0 ≡ 0
-neg_zero w =
-    let whole : 2 ^ w - 0 ≡ 2 ^ w = omega arith in
-    ap (λ n. n % 2 ^ w) whole ∙ mod_self (2 ^ w)
-
-pub neg_exact : (w x : ℕ) → 0 < x → x ≤ 2 ^ w → op1_of Neg w x ≡ 2 ^ w - x
-neg_exact w x positive below = mod-eq_of_lt (omega arith)
 
 -- the high half grows in both factors
 pub mul_hi_u_mono : (w x x' y y' : ℕ) → x ≤ x' → y ≤ y' → op2_of MulHiU w x y ≤ op2_of MulHiU w x' y'
@@ -138,28 +106,12 @@ unless_zero_le : (b : Bool) (v m : ℕ) → v ≤ m → (if b then 0 else v) ≤
 unless_zero_le true v m h = zero-le
 unless_zero_le false v m h = h
 
-div_u_is : (w x y : ℕ) → y ≢ 0 → op2_of DivU w x y ≡ x / y
-div_u_is w x y nonzero = ap (λ (b : Bool). if b then 0 else x / y) (ne_eqb y 0 nonzero)
-
 rem_u_is : (w x y : ℕ) → y ≢ 0 → op2_of RemU w x y ≡ x % y
 rem_u_is w x y nonzero = ap (λ (b : Bool). if b then 0 else x % y) (ne_eqb y 0 nonzero)
-
--- a quotient grows in the dividend, and falls in the divisor
-pub div_u_mono : (w x x' y y' : ℕ) → x ≤ x' → y' ≤ y → 0 < y' → op2_of DivU w x y ≤ op2_of DivU w x' y'
-div_u_mono w x x' y y' more less positive =
-    let some : 0 < y = omega arith in
-    let first : op2_of DivU w x y ≡ x / y = div_u_is w x y (omega arith) in
-    let second : op2_of DivU w x' y' ≡ x' / y' = div_u_is w x' y' (omega arith) in
-    let grows : x / y ≤ x' / y' = le_trans (div_mono x x' y some more) (div_anti x' y y' positive less) in
-    subst₂ (λ a b. a ≤ b) (sym first) (sym second) grows
 
 -- it is at most the dividend
 pub div_u_le : (w x y : ℕ) → op2_of DivU w x y ≤ x
 div_u_le w x y = unless_zero_le (y == 0) (x / y) x (div-le_self x y)
-
--- a remainder is below the divisor, and at most the dividend
-pub rem_u_below : (w x y : ℕ) → 0 < y → op2_of RemU w x y < y
-rem_u_below w x y positive = subst (λ n. n < y) (sym (rem_u_is w x y (omega arith))) (mod-lt x positive)
 
 pub rem_u_le : (w x y : ℕ) → op2_of RemU w x y ≤ x
 rem_u_le w x y = unless_zero_le (y == 0) (x % y) x (mod-le x y)
@@ -217,10 +169,6 @@ sext_high from to x widens below high =
     omega arith
 
 -- ---- truncation
-
--- a number that fits the lesser width
-pub trunc_exact : (from to x : ℕ) → x < 2 ^ to → trunc_of from to x ≡ x
-trunc_exact from to x below = mod-eq_of_lt below
 
 -- it grows in words whose high bits are the same
 pub trunc_mono : (from to x x' : ℕ) → x ≤ x' → x / 2 ^ to ≡ x' / 2 ^ to → trunc_of from to x ≤ trunc_of from to x'

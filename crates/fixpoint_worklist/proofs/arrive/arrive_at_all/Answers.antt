@@ -9,5 +9,6 @@ loop-to-preserved g c = record {
       (worklist_state_in g.A.Analyser.view c.args.work.now) (worklist_state_in g.A.Analyser.view c.loop-to.work) (worklist_state_in g.A.Analyser.view c.arrive.new.work) (g.A.Analyser.view c.args.new.now) c.args.targets.now c.loop-to.to-index
       c.loop-to-test.true c.requires.fits c.requires.fine c.loop-to.invariant.fine c.loop-to.invariant.value c.in_ok-arrive.ensures.value;
   fine = c.in_ok-arrive.ensures.fine;
+  settled = c.in_ok-arrive.ensures.settled;
   reached = c.in_ok-arrive.ensures.reached;
 }

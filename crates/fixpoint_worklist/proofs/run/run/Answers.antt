@@ -93,6 +93,10 @@ loop-at-preserved g c =
       legal = subst (IsLegal A) (sym pushed) (push_legal A laws c.loop-at.trace.items (worklist_state_in g.A.Analyser.view c.loop-at.work) c.in-Some.at least.0 c.loop-at.invariant.fine c.loop-at.invariant.legal c.loop-at.invariant.like least.1 value.0);
       like = subst (λ trace. AllLike A (worklist_state_in g.A.Analyser.view c.step.new.work) (worklist_state A trace)) (sym pushed) (push_like A laws c.loop-at.trace.items (worklist_state_in g.A.Analyser.view c.loop-at.work) (worklist_state_in g.A.Analyser.view c.step.new.work) c.in-Some.at c.loop-at.invariant.fine c.loop-at.invariant.like value.1);
       fine = c.in_ok-step.ensures.fine;
+      settled = c.in_ok-step.ensures.settled;
       reached = c.in_ok-step.ensures.reached;
       steps = let so_far = c.loop-at.invariant.steps in let one = (rw c.in-Moved.is at c.in_ok-step.ensures.one) tt in omega (arith, so_far, one, longer);
     }
+
+pub returns-clause-complete : goal.returns-clause-complete
+returns-clause-complete g c = rw c.in_default.is at c.first.ensures.none

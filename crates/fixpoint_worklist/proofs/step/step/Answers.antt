@@ -14,4 +14,4 @@ pub returns-clause-value : goal.returns-clause-value
 returns-clause-value g c =
     stepped_from (g.A.Analyser.analysis c.args.analyser.now) (g.met.A.Analyser.laws c.args.analyser.now c.requires.ready) (worklist_state_in g.A.Analyser.view c.args.work.now) (worklist_state_in g.A.Analyser.view c.send.new.work)
     c.args.at c.in-Some.place.now.changes (g.A.Analyser.view c.in-Some.place.now.elem) (moves c.in-List.targets.items (option_map g.A.Analyser.view c.in-Made.made.post) (map seen c.in-Made.made.uses.items))
-    c.in-Some.ensures.some c.requires.fine (rw c.in-List.is at (rw c.in-Made.is at c.in_ok-word.ensures.fits)) (rw c.in-List.is at (rw c.in-Made.is at c.in_ok-word.ensures.value)) tt (rw c.deref.ensures.value at c.in_ok-send.ensures.value)
+    c.in-Some.ensures.some c.requires.fine (rw c.in-List.is at (rw c.in-Made.is at c.in_ok-word.ensures.fits)) (rw c.in-List.is at (rw c.in-Made.is at c.in_ok-word.ensures.value)) tt (rw c.deref-3.ensures.value at c.in_ok-send.ensures.value)

@@ -24,7 +24,7 @@ returns-in_err-found-clause-gives g c =
     let s = c.args.it.now in
     let spec = specification s.spec.now in
     let base = base_text c.args.base in
-    gives_unread (OwnSlicesOpen (record { base = g.D.B.Base.algebra; cap = g.D.B.Base.CAP; elements = g.D.Domain.elements c.args.domain.now; meaning = g.D.Domain.meaning c.args.domain.now; view = g.D.Domain.view; IsText = g.D.WriteElement.IsText; Reads = g.D.ReadElement.Reads c.args.domain.now; word_in = g.D.ReadElement.word_in c.args.domain.now; word_text = g.D.WriteElement.word_text }) (problem_at spec s.image.now c.args.start.now) s.image.now base c.args.bytes.now c.args.at c.args.cell)
+    gives_unread (OwnSlicesOpen (record { base = g.D.B.Base.algebra; cap = g.D.B.Base.CAP; elements = g.D.Domain.elements c.args.domain.now; meaning = g.D.Domain.meaning c.args.domain.now; view = g.D.Domain.view; IsText = g.D.WriteElement.IsText; Reads = g.D.ReadElement.Reads c.args.domain.now; word_in = g.D.ReadElement.word_in c.args.domain.now; word_text = g.D.WriteElement.word_text }) (problem_at spec s.image.now c.args.start.now) s.image.now base c.args.bytes.now c.args.criterion.at c.args.criterion.cell)
     (IsErrorIn (g.D.ReadElement.Reads c.args.domain.now) (g.D.ReadElement.word_in c.args.domain.now) spec base s.image.now c.args.bytes.now) (λ error is. unread_slice is) answer_of c.in_err-found.field-0.0 c.in_err-found.ensures.error c.from_residual.result c.from_residual.ensures.1
 
 pub returns-in_err-require_closed-clause-gives : goal.returns-in_err-require_closed-clause-gives
@@ -32,15 +32,15 @@ returns-in_err-require_closed-clause-gives g c =
     let s = c.args.it.now in
     open_sliced_refusal (record { base = g.D.B.Base.algebra; cap = g.D.B.Base.CAP; elements = g.D.Domain.elements c.args.domain.now; meaning = g.D.Domain.meaning c.args.domain.now; view = g.D.Domain.view; IsText = g.D.WriteElement.IsText; Reads = g.D.ReadElement.Reads c.args.domain.now; word_in = g.D.ReadElement.word_in c.args.domain.now; word_text = g.D.WriteElement.word_text })
     (problem_at (specification s.spec.now) s.image.now c.args.start.now) s.image.now (base_text c.args.base) c.args.bytes.now c.in_ok-found.found.table (λ a. get nat_cmp c.in_ok-found.found.endings a) c.in_ok-verdict.verdict c.in_ok-found.ensures.table c.in_ok-verdict.ensures.verdict
-    c.args.at c.args.cell answer_of c.in_err-require_closed.field-0.0 c.in_err-require_closed.ensures c.from_residual-in_err-require_closed.result c.from_residual-in_err-require_closed.ensures.1
+    c.args.criterion.at c.args.criterion.cell answer_of c.in_err-require_closed.field-0.0 c.in_err-require_closed.ensures c.from_residual-in_err-require_closed.result c.from_residual-in_err-require_closed.ensures.1
 
 pub returns-clause-gives : goal.returns-clause-gives
 returns-clause-gives g c =
     let s = c.args.it.now in
     open_sliced_answer (record { base = g.D.B.Base.algebra; cap = g.D.B.Base.CAP; elements = g.D.Domain.elements c.args.domain.now; meaning = g.D.Domain.meaning c.args.domain.now; view = g.D.Domain.view; IsText = g.D.WriteElement.IsText; Reads = g.D.ReadElement.Reads c.args.domain.now; word_in = g.D.ReadElement.word_in c.args.domain.now; word_text = g.D.WriteElement.word_text })
     (problem_at (specification s.spec.now) s.image.now c.args.start.now) s.image.now (base_text c.args.base) c.args.bytes.now c.in_ok-found.found.table (λ a. get nat_cmp c.in_ok-found.found.endings a) c.in_ok-verdict.verdict c.in_ok-found.ensures.table c.in_ok-verdict.ensures.verdict
-    c.args.at c.args.cell (answer_of c.in_ok-mark_until_open.field-0) c.in_ok-require_closed.ensures
-    (marked_text (λ a. get nat_cmp c.in_ok-found.found.endings a) (IsSliceText (specification s.spec.now) (listings (λ x. x) c.in_ok-found.found.table) c.args.at c.args.cell) c.in_ok-text.text.items (answer_of c.in_ok-mark_until_open.field-0) c.in_ok-text.ensures c.in_ok-mark_until_open.ensures)
+    c.args.criterion.at c.args.criterion.cell (answer_of c.in_ok-mark_until_open.field-0) c.in_ok-require_closed.ensures
+    (marked_text (λ a. get nat_cmp c.in_ok-found.found.endings a) (IsSliceText (specification s.spec.now) (listings (λ x. x) c.in_ok-found.found.table) c.args.criterion.at c.args.criterion.cell) c.in_ok-text.text.items (answer_of c.in_ok-mark_until_open.field-0) c.in_ok-text.ensures c.in_ok-mark_until_open.ensures)
 
 pub returns-in_err-found-clause-work : goal.returns-in_err-found-clause-work
 returns-in_err-found-clause-work g c = inl (omega (arith))

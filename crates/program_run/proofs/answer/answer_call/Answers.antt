@@ -6,7 +6,8 @@ use Rattle.concrete_function_calls.specs.Calls.{call_end}
 use Rattle.concrete_function_calls.specs.Ends.{end_of}
 use Rattle.program_common.specs.Outcomes.{Stops, answer_of}
 use Rattle.program_common.specs.Reading.{Gave}
-use Rattle.program_common.specs.Sources.{IsSpecification, Specifies}
+use Rattle.program_common.specs.Sources.{IsSpecification, Specifies, source_inputs}
+use Rattle.program_common.proofs.Readings.{reads_still, reads_stopped}
 use Rattle.program_common.proofs.Steps.{gives_too}
 use Rattle.program_run.specs.Steps.{CallSteps, answered}
 use Rattle.program_run.proofs.Chain.{called, no_source, no_specification}
@@ -41,3 +42,19 @@ call_by_words-requires g c =
     let spec = specification c.in_ok-spec.spec in
     let specified = subst (λ (s : List ℕ). IsSpecification Library s spec) c.deref.ensures.value c.in_ok-spec.ensures in
     is_accepted Library c.in_ok-source.source.items spec specified
+
+pub returns-in_err-source-clause-reads : goal.returns-in_err-source-clause-reads
+returns-in_err-source-clause-reads g c =
+    reads_stopped g.I.Inputs.state (source_inputs (call_of c.args.request.now).spec) c.args.inputs.now c.source_of.new.inputs c.in_err-source.field-0.0 _ c.from_residual.ensures c.in_err-source.ensures.reads
+
+pub returns-in_err-spec-clause-reads : goal.returns-in_err-spec-clause-reads
+returns-in_err-spec-clause-reads g c =
+    reads_still g.I.Inputs.state (source_inputs (call_of c.args.request.now).spec) c.args.inputs.now c.source_of.new.inputs c.in_ok-source.source _ c.in_ok-source.ensures.reads
+
+pub returns-in_err-end-clause-reads : goal.returns-in_err-end-clause-reads
+returns-in_err-end-clause-reads g c =
+    reads_still g.I.Inputs.state (source_inputs (call_of c.args.request.now).spec) c.args.inputs.now c.source_of.new.inputs c.in_ok-source.source _ c.in_ok-source.ensures.reads
+
+pub returns-clause-reads : goal.returns-clause-reads
+returns-clause-reads g c =
+    reads_still g.I.Inputs.state (source_inputs (call_of c.args.request.now).spec) c.args.inputs.now c.source_of.new.inputs c.in_ok-source.source c.answer_of_end.result c.in_ok-source.ensures.reads

@@ -1,14 +1,15 @@
 use Rattle.std.proofs.Common.{ℕ, List, Bor, ap, sym, ◌∙◌}
 use Rattle.std.specs.Prelude.{Option}
 use Rattle.support_command_line.specs.Numbers.{decimal_in}
+use Rattle.support_command_line.specs.Defaults.{default_steps}
 use Rattle.support_command_line.specs.OptionValues.{steps_of, value_or}
 use Rattle.support_command_line.specs.Views.{borrowed_text}
 use Rattle.support_command_line.proofs.option_values.steps.Goals as goal
 
 pub returns-in-Some : goal.returns-in-Some
 unfolding steps_of
-returns-in-Some c = c.decimal.ensures ∙ ap (λ (text : Option (Bor (List ℕ))). value_or 1000000 (decimal_in 10 0 4294967295) (borrowed_text text)) (sym c.in-Some.is)
+returns-in-Some c = c.decimal.ensures ∙ ap (λ (text : Option (Bor (List ℕ))). value_or default_steps (decimal_in 10 0 4294967295) (borrowed_text text)) (sym c.in-Some.is)
 
 pub returns-in-None : goal.returns-in-None
 unfolding steps_of
-returns-in-None c = ap (λ (text : Option (Bor (List ℕ))). value_or 1000000 (decimal_in 10 0 4294967295) (borrowed_text text)) (sym c.in-None.is)
+returns-in-None c = ap (λ (text : Option (Bor (List ℕ))). value_or default_steps (decimal_in 10 0 4294967295) (borrowed_text text)) (sym c.in-None.is)

@@ -1,6 +1,7 @@
 use Rattle.std.proofs.Common.{map, sym, ap, subst}
 use Rattle.abstract_value.specs.View.{abs}
 use Rattle.base_trait.specs.Uses.{uses_of}
+use Rattle.base_trait.specs.Precision.{joined_turns, unrolled_turns}
 use Rattle.support_tail_fixpoint.specs.declared.policy.Policy.TheVariants.{Widen}
 use Rattle.abstract_semantics.specs.Calls.{AreArguments}
 use Rattle.abstract_semantics.specs.CallAnswers.{answers}
@@ -27,5 +28,5 @@ returns g c =
     let it = c.args.self.now in
     let p = problem it in
     let M = g.D.Domain.meaning it.domain.now in
-    let answer = λ (k : g.row.D-B-Ctx.Denot). answers B k cap p.spec c.args.at (Widen 64 2) it.machine.interp (map abs c.args.args.items) in
+    let answer = λ (k : g.row.D-B-Ctx.Denot). answers B k cap p.spec c.args.at (Widen unrolled_turns joined_turns) it.machine.interp (map abs c.args.args.items) in
     from_none abs c.eval_anew.result (uses_of c.eval_anew.new.log) (uses_of c.args.log.now) (answer c.args.ctx.now) (answer M.context) c.requires.log (ap answer (sym c.requires.context)) c.eval_anew.ensures.value

@@ -1,0 +1,14 @@
+pub mod Accepted
+pub mod Analyses
+pub mod Asked
+pub mod Chains
+pub mod Either
+pub mod Giving
+pub mod Holding
+pub mod Making
+pub mod One
+pub mod Problems
+pub mod Stops
+pub mod StressAccepted
+pub mod StressOne
+pub mod StressStops

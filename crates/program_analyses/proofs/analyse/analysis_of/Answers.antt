@@ -1,0 +1,17 @@
+use Rattle.support_command_line.specs.Views.{analyse_of}
+use Rattle.program_machine.specs.Views.{analysis_inputs_of}
+use Rattle.program_analyses.proofs.Analyses.{gives_analysis, takes_analysis}
+use Rattle.program_analyses.proofs.analyse.analysis_of.Goals as goal
+
+pub returns-clause-gives : goal.returns-clause-gives
+returns-clause-gives g c =
+    let posed = analysis_inputs_of c.args.posed.now in
+    gives_analysis (analyse_of c.args.request.now) posed c.in-Some.machine _ c.in-Some.is (c.analysis_from.ensures.task posed.spec posed.image) c.over_base.result c.over_base.ensures.gives
+
+pub returns-clause-work : goal.returns-clause-work
+returns-clause-work g c =
+    let posed = analysis_inputs_of c.args.posed.now in
+    takes_analysis (analyse_of c.args.request.now) posed c.in-Some.machine _ c.in-Some.is (c.analysis_from.ensures.task posed.spec posed.image) c.args.steps.now c.over_base.new.steps c.over_base.ensures.work
+
+pub over_base-requires : goal.over_base-requires
+over_base-requires g c = c.analysis_from.ensures.asked (analysis_inputs_of c.args.posed.now).spec (record { accepted = c.requires.accepted; is_machine = c.in-Some.is; few = c.requires.few; given = c.requires.entry })

@@ -1,0 +1,5 @@
+use Rattle.program_analyses.proofs.One.{claims_has_one}
+use Rattle.program_analyses.proofs.laws.claims_has_one.Goals as goal
+
+pub returns : goal.returns
+returns c = claims_has_one

@@ -1,0 +1,9 @@
+pub mod Laws
+pub mod Made
+pub mod Problems
+pub mod Read
+pub mod Steps
+pub mod StressLaws
+pub mod StressSteps
+pub mod StressWork
+pub mod Work

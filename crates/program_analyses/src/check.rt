@@ -1,0 +1,95 @@
+//! The command `check`.
+
+ghost use Rattle.std.specs.Prelude.{◌≡◌, ◌<◌, ◌≤◌, ◌^◌, IsSome, length};
+ghost use Rattle.program_common.specs.Outcomes.{Gives, answer_of};
+ghost use Rattle.program_common.specs.Reading.{Gave, ReadsOnly};
+ghost use Rattle.support_command_line.specs.Views.{analyse_of, check_of};
+ghost use Rattle.program_machine.specs.Inputs.{table_cap};
+ghost use Rattle.program_machine.specs.Views.{analysis_inputs_of as view};
+ghost use Rattle.code_image.specs.Image.{Image};
+ghost use Rattle.spec_ir.specs.Specification.{Spec};
+ghost use Rattle.program_domain_tasks.specs.Read.{IsAsked, IsRead, problem_at, task_of};
+ghost use Rattle.state_text.specs.Reading.{entry_of};
+ghost use Rattle.program_analyses.specs.Problems.{check_task_in};
+ghost use Rattle.program_analyses.specs.Read.{IsPosed};
+ghost use Rattle.program_analyses.specs.Steps.{CheckOf, CheckSteps, check_inputs};
+ghost use Rattle.program_analyses.specs.Work.{CheckTakes, CheckWork};
+
+use program_base_tasks::over_base;
+use program_common::{Answer, Halt, read_input};
+use program_domain_tasks::{AnalysisStart, DomainTask, Subject};
+use program_machine::{AnalysisInputs, TABLE_CAP, analysis_inputs_of};
+use std::alloc::Global;
+use std::sync::ledger::Ledger;
+use support_command_line::{AnalyseRequest, CheckRequest};
+use support_io::Inputs;
+use support_step_counter::Steps;
+
+/// The verdict on a table: a machine's specification, its code and an entry are read and examined, then the table is read, and it is checked; where the
+/// request says so, it may be left open.
+pub fn check_request<'a, I: Inputs, L: Ledger>(
+    alloc: Global,
+    inputs: &mut I,
+    request: &CheckRequest<'a>,
+    steps: &mut Steps<L>,
+) -> Result<Answer, Halt<'a>>
+    requires few { length request.now.analysis.code.parts.items ≤ 16 }
+    ensures reads { ReadsOnly I.state (check_inputs (check_of request.now)) inputs.old inputs.new result }
+    ensures gives { Gives (CheckSteps (Gave (I.state inputs.old) (I.state inputs.new)) (check_of request.now))
+        answer_of result }
+    // At most one transfer for each address that the table lists, and two where it may be left open.
+    ensures work { CheckWork (Gave (I.state inputs.old) (I.state inputs.new)) (check_of request.now) steps.old steps.new }
+{
+    let asked = &request.analysis;
+    let posed = analysis_inputs_of(alloc, inputs, asked.spec, &asked.code, asked.entry)?;
+    let table = read_input(alloc, inputs, request.table, TABLE_CAP)?;
+    verdict_of::<L>(alloc, &posed, asked, &table, steps)
+}
+
+/// What the check of a table comes to, against the analysis that is asked for.
+fn verdict_of<'a, L: Ledger>(
+    alloc: Global,
+    posed: &AnalysisInputs,
+    asked: &AnalyseRequest<'a>,
+    table: &[u8],
+    steps: &mut Steps<L>,
+) -> Result<Answer, Halt<'a>>
+    requires posed { IsPosed (view posed.now) }
+    requires short { length table.now ≤ table_cap }
+    ensures gives { Gives (CheckOf (analyse_of asked.now) (view posed.now) table.now) answer_of result }
+    ensures work { CheckTakes (analyse_of asked.now) (view posed.now) table.now steps.old steps.new }
+{
+    let Some(machine) = posed.spec.machine else {
+        unreachable!()
+    };
+    let start = AnalysisStart {
+        machine,
+        entry: &posed.entry,
+        limit: asked.limit,
+        joins: asked.joins,
+    };
+    let subject = Subject {
+        spec: &posed.spec,
+        image: &posed.image,
+        task: check_from(asked, start, table),
+    };
+    over_base::<L>(alloc, &subject, asked.base, steps)
+}
+
+/// The check from a start, of a table that may be left open or not.
+fn check_from<'a, 'b>(
+    asked: &AnalyseRequest<'b>,
+    start: AnalysisStart<'a>,
+    table: &'a [u8],
+) -> DomainTask<'a>
+    requires short { length table.now ≤ table_cap }
+    ensures task { (spec : Spec) (image : Image) → task_of spec image result
+        ≡ check_task_in (analyse_of asked.now) (problem_at spec image start.entry) table.now }
+    ensures asked { (spec : Spec) → IsRead spec start.entry.machine (entry_of start.entry.entry.now) → IsAsked spec result }
+{
+    if asked.open {
+        DomainTask::CheckOpen(start, table)
+    } else {
+        DomainTask::Check(start, table)
+    }
+}

@@ -1,9 +1,0 @@
-pub mod Ascending
-pub mod Cells
-pub mod Chains
-pub mod Giving
-pub mod Parts
-pub mod Several
-pub mod Single
-pub mod Typing
-pub mod Whole

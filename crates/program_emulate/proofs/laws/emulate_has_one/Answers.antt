@@ -1,5 +1,0 @@
-use Rattle.program_emulate.proofs.Single.{emulate_has_one}
-use Rattle.program_emulate.proofs.laws.emulate_has_one.Goals as goal
-
-pub returns : goal.returns
-returns c = emulate_has_one

@@ -1,5 +1,0 @@
-use Rattle.program_emulate.proofs.Whole.{emulate_has_some}
-use Rattle.program_emulate.proofs.laws.emulate_has_some.Goals as goal
-
-pub returns : goal.returns
-returns c = emulate_has_some

@@ -1,5 +1,0 @@
-use Rattle.program_emulate.proofs.Single.{list_has_one}
-use Rattle.program_emulate.proofs.laws.list_has_one.Goals as goal
-
-pub returns : goal.returns
-returns c = list_has_one

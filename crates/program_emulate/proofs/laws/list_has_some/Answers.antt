@@ -1,5 +1,0 @@
-use Rattle.program_emulate.proofs.Whole.{list_has_some}
-use Rattle.program_emulate.proofs.laws.list_has_some.Goals as goal
-
-pub returns : goal.returns
-returns c = list_has_some

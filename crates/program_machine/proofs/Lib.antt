@@ -1,0 +1,15 @@
+pub mod Ascending
+pub mod Cells
+pub mod Chains
+pub mod Giving
+pub mod Images
+pub mod InputChains
+pub mod InputGiving
+pub mod InputSingle
+pub mod Parts
+pub mod Problems
+pub mod Several
+pub mod Single
+pub mod Starts
+pub mod Typing
+pub mod Whole

@@ -1,0 +1,10 @@
+pub mod AnalysisEntry
+pub mod Cells
+pub mod Code
+pub mod Entry
+pub mod Inputs
+pub mod Laws
+pub mod Machines
+pub mod Running
+pub mod Steps
+pub mod Views

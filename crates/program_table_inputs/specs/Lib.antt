@@ -1,4 +1,0 @@
-pub mod Cells
-pub mod Entry
-pub mod Inputs
-pub mod Views

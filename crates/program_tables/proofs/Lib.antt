@@ -1,9 +1,0 @@
-pub mod Accepted
-pub mod Analyses
-pub mod Asked
-pub mod Chains
-pub mod Either
-pub mod Holding
-pub mod One
-pub mod Problems
-pub mod Stops

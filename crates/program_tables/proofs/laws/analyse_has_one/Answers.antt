@@ -1,5 +1,0 @@
-use Rattle.program_tables.proofs.One.{analyse_has_one}
-use Rattle.program_tables.proofs.laws.analyse_has_one.Goals as goal
-
-pub returns : goal.returns
-returns c = analyse_has_one

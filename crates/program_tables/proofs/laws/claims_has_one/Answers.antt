@@ -1,5 +1,0 @@
-use Rattle.program_tables.proofs.One.{claims_has_one}
-use Rattle.program_tables.proofs.laws.claims_has_one.Goals as goal
-
-pub returns : goal.returns
-returns c = claims_has_one

@@ -1,5 +1,0 @@
-use Rattle.program_tables.proofs.One.{convert_has_one}
-use Rattle.program_tables.proofs.laws.convert_has_one.Goals as goal
-
-pub returns : goal.returns
-returns c = convert_has_one

@@ -1,5 +1,0 @@
-use Rattle.program_tables.proofs.One.{slice_has_some}
-use Rattle.program_tables.proofs.laws.slice_has_some.Goals as goal
-
-pub returns : goal.returns
-returns c = slice_has_some

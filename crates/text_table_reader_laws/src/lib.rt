@@ -1,2 +1,0 @@
-//! What holds of tables that are read: laws of the definitions of `text_table_reader`.
-#![tactic(auto)]
