@@ -27,14 +27,13 @@ impl OpenBlocks {
 
     /// Takes in the next piece of what is written.
     pub fn take_in(&mut self, piece: &[u8]) -> Result<(), AllocError> {
-        for byte in piece {
+        for part in piece.split_inclusive(|byte| *byte == b'\n') {
             if self.lines.are_of_no_table() {
                 return Ok(());
             }
-            if *byte == b'\n' {
-                self.end_line()?;
-            } else if self.line.len() < MOST_OF_A_LINE {
-                self.line.push(*byte)?;
+            match part {
+                [line @ .., b'\n'] => self.end_line(line)?,
+                _ => self.begin_line(part)?,
             }
         }
         Ok(())
@@ -57,11 +56,19 @@ impl OpenBlocks {
         Ok(())
     }
 
-    /// Takes in the line that is ended.
-    fn end_line(&mut self) -> Result<(), AllocError> {
-        if let Ok(line) = std::str::from_utf8(&self.line) {
-            self.lines.take(line)?;
+    /// Keeps what was written of a line that is not ended yet.
+    fn begin_line(&mut self, part: &[u8]) -> Result<(), AllocError> {
+        let room = MOST_OF_A_LINE.saturating_sub(self.line.len());
+        self.line.extend_from_slice(&part[..part.len().min(room)])
+    }
+
+    /// Takes in a line, of which this is the last part. One that stands in one piece is read there.
+    fn end_line(&mut self, part: &[u8]) -> Result<(), AllocError> {
+        if self.line.is_empty() {
+            return self.lines.take(&part[..part.len().min(MOST_OF_A_LINE)]);
         }
+        self.begin_line(part)?;
+        self.lines.take(&self.line)?;
         self.line.clear();
         Ok(())
     }

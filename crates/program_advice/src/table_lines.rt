@@ -26,7 +26,7 @@ pub struct TableLines {
     /// The uses of the block.
     uses: String,
     /// The lines of the block, in a table without uses.
-    element: String,
+    element: Vec<u8>,
     /// The open blocks.
     blocks: Vec<OpenBlock>,
     /// Whether the last of them is the block whose lines come: its last line so far says that it is open. A cell may be called `open` too, but no
@@ -55,7 +55,7 @@ impl TableLines {
             text: Text::Unknown,
             at: String::new(alloc),
             uses: String::new(alloc),
-            element: String::new(alloc),
+            element: Vec::new(alloc),
             blocks: Vec::new(alloc),
             is_ended: false,
         }
@@ -71,8 +71,26 @@ impl TableLines {
         self.blocks.as_slice()
     }
 
-    /// Takes in the next line.
-    pub fn take(&mut self, line: &str) -> Result<(), AllocError> {
+    /// Takes in the next line. One that is no text counts for nothing.
+    pub fn take(&mut self, line: &[u8]) -> Result<(), AllocError> {
+        if self.is_other(line) {
+            self.go_on();
+            return self.keep(line);
+        }
+        match std::str::from_utf8(line) {
+            Ok(line) => self.take_text(line),
+            Err(_) => Ok(()),
+        }
+    }
+
+    /// Whether a line, of a text that is known to be a table, begins otherwise than those that are told of. Of a large table most do.
+    fn is_other(&self, line: &[u8]) -> bool {
+        let is_told = matches!(line.first(), Some(b'a' | b'b' | b'o' | b'u'));
+        self.text != Text::Unknown && !is_told && line.is_ascii()
+    }
+
+    /// Takes in the next line, which is a text.
+    fn take_text(&mut self, line: &str) -> Result<(), AllocError> {
         let (first, rest) = line.split_once(' ').unwrap_or((line, ""));
         if self.text == Text::Unknown {
             self.text = text_of(first);
@@ -89,7 +107,7 @@ impl TableLines {
             "undecodable" => self.push_undecodable(rest)?,
             _ => {}
         }
-        self.keep(line)
+        self.keep(line.as_bytes())
     }
 
     /// Begins the block of an address.
@@ -110,12 +128,13 @@ impl TableLines {
     }
 
     /// Keeps a line of the block, where it may be one of its element that is wanted.
-    fn keep(&mut self, line: &str) -> Result<(), AllocError> {
+    fn keep(&mut self, line: &[u8]) -> Result<(), AllocError> {
         if self.text != Text::Table || self.element.len() >= MOST_OF_AN_ELEMENT {
             return Ok(());
         }
-        self.element.push_str(line)?;
-        self.element.push('\n')
+        self.element.extend_from_slice(line)?;
+        self.element.push(b'\n')?;
+        Ok(())
     }
 
     /// The block is open if this is its last line: what comes next may be this word.
@@ -135,7 +154,8 @@ impl TableLines {
             return OpenBlock::told(self.alloc, &self.at, word, uses);
         }
         if self.blocks.len() < MOST_ELEMENTS && self.element.len() < MOST_OF_AN_ELEMENT {
-            return OpenBlock::untold(self.alloc, &self.at, word, &self.element);
+            let element = std::str::from_utf8(&self.element).unwrap_or("");
+            return OpenBlock::untold(self.alloc, &self.at, word, element);
         }
         OpenBlock::told(self.alloc, &self.at, word, ANOTHER_BASE)
     }
