@@ -64,26 +64,6 @@ fn push_table<D: WriteElement>(
     push_blocks::<D>(out, spec, &addresses, table)
 }
 
-/// How many bytes the text of a table takes: its head and each block are written once, one after another into the same room.
-fn table_len<D: WriteElement>(
-    alloc: Global,
-    spec: &Spec,
-    image: &Image,
-    base: &str,
-    table: &Table<D::Element>,
-) -> Result<usize, NoMemory> {
-    let mut piece = String::new(alloc);
-    push_head(&mut piece, base, image)?;
-    let mut len = piece.len();
-    let addresses = image.addresses(alloc)?;
-    for at in &addresses {
-        piece.clear();
-        push_listed::<D>(&mut piece, spec, *at, table)?;
-        len = len.saturating_add(piece.len());
-    }
-    Ok(len)
-}
-
 /// The text of a table of an image: its head, with the name of its base, and the blocks of the code words that it lists. Blocks at
 /// other addresses are left out; a table of an analysis has none.
 pub fn table_text<D: WriteElement>(
@@ -96,9 +76,7 @@ pub fn table_text<D: WriteElement>(
     ensures { IfOk result (λ r. IsTableText (D.IsText (specification spec.now)) (specification spec.now) image.now base.now
         (listings (λ x. x) table.now) r.items) }
 {
-    // (a table may be large: room for it is taken once, and not doubled again and again)
-    let len = table_len::<D>(alloc, spec, image, base, table)?;
-    let mut out = String::with_capacity(alloc, len)?;
+    let mut out = String::new(alloc);
     push_table::<D>(alloc, &mut out, spec, image, base, table)?;
     Ok(out.into_bytes())
 }
