@@ -13,9 +13,7 @@ pub fn copy(alloc: Global, k: u32, x: &Rows) -> Result<Rows, NoMemory>
     ensures members { IfOk result (λ r. SameMembers k r.rows x.now.rows) }
     ensures fits { IfOk result (λ r. r.k ≡ k) }
 {
-    let mut rows = Rows::new(alloc, k)?;
-    add_rows(x, &mut rows);
-    Ok(rows)
+    x.copy(alloc)
 }
 
 /// The least element that holds each member of both.

@@ -39,6 +39,14 @@ impl Rows {
         Ok(Rows { k, slots })
     }
 
+    /// The same submodule once more, with the same rows.
+    pub fn copy(&self, alloc: Global) -> Result<Rows, AllocError>
+        ensures { IfOk result (λ s. s ≡ self.now) }
+    {
+        let slots = Vec::from_slice(alloc, &self.slots)?;
+        Ok(Rows { k: self.k, slots })
+    }
+
     /// Whether the row is a member. With (2, 0) alone inserted (6, 0) is one, and (1, 0) is none.
     pub fn contains(&self, row: &[u32]) -> bool
         requires { length row.now ≡ self.now.k + 1 }

@@ -1,8 +1,9 @@
-use Rattle.std.proofs.Common.{◌++◌, ap, subst}
+use Rattle.std.proofs.Common.{◌≡◌, subst, sym}
+use Rattle.std.proofs.lemmas.Result.{IfOk-weaker}
 use Rattle.domain_affine_element_laws.specs.Elements.{SameMembers}
 use Rattle.domain_affine_elements.proofs.joins.copy.Goals as goal
 
 pub returns-clause-members : goal.returns-clause-members
 returns-clause-members c =
-    subst (λ l. SameMembers c.args.k c.add_rows.new.into.rows (l ++ c.args.x.now.rows)) (ap (λ s. s.rows) c.in_ok-rows.ensures)
-    (subst (λ k. SameMembers k c.add_rows.new.into.rows (c.in_ok-rows.rows.rows ++ c.args.x.now.rows)) c.requires.cells c.add_rows.ensures.members)
+    IfOk-weaker c.copy.result (λ r. r ≡ c.args.x.now) (λ r. SameMembers c.args.k r.rows c.args.x.now.rows)
+    (λ r same. subst (λ s. SameMembers c.args.k s.rows c.args.x.now.rows) (sym same) (λ y. (λ h. h, λ h. h))) c.copy.ensures
