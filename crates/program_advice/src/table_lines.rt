@@ -71,7 +71,7 @@ impl TableLines {
         self.blocks.as_slice()
     }
 
-    /// Takes in the next line. One that is no text counts for nothing.
+    /// Takes in the next line. Of those that are told of, one that is no text counts for nothing.
     pub fn take(&mut self, line: &[u8]) -> Result<(), AllocError> {
         if self.is_other(line) {
             self.go_on();
@@ -83,10 +83,10 @@ impl TableLines {
         }
     }
 
-    /// Whether a line, of a text that is known to be a table, begins otherwise than those that are told of. Of a large table most do.
+    /// Whether a line, of what is known to be a table, begins otherwise than those that are told of. Most lines of a large table do.
     fn is_other(&self, line: &[u8]) -> bool {
         let is_told = matches!(line.first(), Some(b'a' | b'b' | b'o' | b'u'));
-        self.text != Text::Unknown && !is_told && line.is_ascii()
+        self.text != Text::Unknown && !is_told
     }
 
     /// Takes in the next line, which is a text.
