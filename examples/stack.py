@@ -5,7 +5,7 @@ For each run below it finds the least `ulimit -s`, in KiB, with which the answer
 
 - a source of 255 levels, 254 matches within one another, and a value of 250 types within one another;
 - evaluations as deep as the program lets them go, in functions of which each calls the one before: over single numbers (`call`), and
-  over each BASE (`analyse`), `kset+interval` and `kset+defuse` where none is named;
+  over each BASE (`analyse`), `kset+interval`, `kset+defuse` and `strides+defuse` where none is named;
 - tables of 16,384 blocks, analysed, checked and written again.
 
 The status is 1 where a run takes more than the 8 MiB that systems give.
@@ -24,6 +24,7 @@ CHAINS = {
     "prefix operators": lambda call: "~" * 119 + call,
     "matches": lambda call: "match x with { 7:32 => " * 60 + call + "; _ => x; }" * 60,
     "calls alone": lambda call: call,
+    "values of branches": lambda call: "~(if x == 7:32 then x else " * 60 + call + ")" * 60,
     "branches with a call": lambda call: f"if x == 8:32 then x else ~{call}",
 }
 
@@ -110,7 +111,7 @@ def main(program, *bases):
         for name, source in NESTED.items():
             runs.put("s", source)
             runs.tell(name, ["call", "s", "f", "7"])
-        tell_evaluations(runs, bases or ("kset+interval", "kset+defuse"))
+        tell_evaluations(runs, bases or ("kset+interval", "kset+defuse", "strides+defuse"))
         tell_tables(runs)
         return int(runs.most > GIVEN)
 

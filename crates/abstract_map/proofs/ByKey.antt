@@ -1,8 +1,7 @@
 -- What a walk along ascending cells gives, by keys.
-use Rattle.std.proofs.Common.{◌≡◌, ℕ, ◌+◌, ◌<◌, ◌≤◌, Bool, true, false, zero, suc, List, [], ◌∷◌, ◌++◌, map, length, get_or, take, drop, drop-cons, take-suc, Option, Some, None, refl, sym, ap, subst, ◌∙◌, arith, cond, eqb, append_assoc}
-use Rattle.std.specs.Prelude.{◌==◌, ◌&&◌, ◌||◌, not, is_some, option_map, nat_lt, unwrap_or, slice_get, slice_index}
-use Rattle.std.proofs.lemmas.List.{get_or-map, drop_all}
-use Rattle.std.proofs.lemmas.Option.{slice_get-get_or, slice_get-map}
+use Rattle.std.proofs.Common.{◌≡◌, ℕ, ◌+◌, ◌<◌, ◌≤◌, Bool, true, false, zero, suc, List, [], ◌∷◌, ◌++◌, map, length, get_or, take, drop, drop-cons, Option, Some, None, refl, sym, ap, subst, ◌∙◌, arith, cond, eqb, append_assoc}
+use Rattle.std.specs.Prelude.{◌==◌, ◌&&◌, ◌||◌, not, is_some, option_map, nat_lt, unwrap_or}
+use Rattle.std.proofs.lemmas.List.{drop_all}
 use Rattle.std.specs.List.{filter, list_all}
 use Rattle.base_trait.specs.Algebra.{Algebra}
 use Rattle.base_trait.specs.Lists.{IsAscendingFrom}
@@ -14,7 +13,7 @@ use Rattle.abstract_map_laws.specs.Maps.{Map, Fits, keys, cell, cell_in, cells_a
 use Rattle.abstract_map_laws.specs.Calls.{news}
 use Rattle.abstract_map_laws.proofs.Joining.{take_all}
 use Rattle.abstract_map_laws.proofs.Places.{cells_again, each_cell}
-use Rattle.abstract_map.specs.Listed.{listed_at}
+use Rattle.abstract_cell_tree.specs.Entries.{listed_at}
 use Rattle.abstract_map.proofs.Ascending.{cell_or, each_index}
 
 module _ {W N : Type 0} where
@@ -84,14 +83,6 @@ all_either test (k ∷ ks) js = grouped (test k) (list_all test ks) (list_all te
     grouped true b c = refl
     grouped false b c = refl
 
--- ---- what stands at a place
-module _ {A : Type 0} (es ds : List (ℕ × A)) (i : ℕ) (d : ℕ × A) where
-  pub key_there : es ≡ ds → i < length ds → slice_get (map (λ e. e.0) ds) i ≡ Some (get_or es i d).0
-  key_there e l = slice_get-map (λ e. e.0) ds i ∙ ap (λ o. option_map (λ e. e.0) o) (slice_get-get_or ds i d l) ∙ ap (λ xs. Some (get_or xs i d).0) (sym e)
-
-  pub entry_there : es ≡ ds → i < length ds → slice_get ds i ≡ Some (slice_index (map (λ e. e.0) ds) i, (get_or es i d).1)
-  entry_there e l = slice_get-get_or ds i d l ∙ ap (λ k. Some (k, (get_or ds i d).1)) (sym (get_or-map (λ e. e.0) ds i d 0 l)) ∙ ap (λ xs. Some (slice_index (map (λ e. e.0) ds) i, (get_or xs i d).1)) (sym e)
-
 -- ---- the cell at a key, from what is listed there
 module _ {W N : Type 0} where
   pub found_some : (rest : AbstractCell W N) (es : List (ℕ × AbstractCell W N)) (k : ℕ) (x : AbstractCell W N) → Some x ≡ listed_at k es → x ≡ cell_in rest es k
@@ -135,12 +126,6 @@ module _ {A D : Type 0} (f : A → D) where
 
   pub behind_done : (start out : List D) (xs : List A) (i : ℕ) → length xs ≤ i → out ≡ start ++ map f (take i xs) → out ≡ start ++ map f xs
   behind_done start out xs i l h = h ∙ ap (λ t. start ++ map f t) (take_all i xs l)
-
--- one more item behind others
-pub take_more : {A : Type 0} (start out out' : List A) (y : A) (xs : List A) (i : ℕ) (d : A) → i < length xs → out ≡ start ++ take i xs → out' ≡ out ++ y ∷ [] → y ≡ get_or xs i d → out' ≡ start ++ take (i + 1) xs
-take_more start out out' y xs i d l h p e =
-    let next : suc i ≡ i + 1 = omega arith in
-    p ∙ ap (λ l. l ++ y ∷ []) h ∙ append_assoc start (take i xs) (y ∷ []) ∙ ap (λ z. start ++ (take i xs ++ z ∷ [])) e ∙ ap (λ l. start ++ l) (sym (take-suc xs i d l) ∙ ap (λ n. take n xs) next)
 
 -- ---- a test at the keys that either map lists, taken at those of one and then of the other
 module _ {W N : Type 0} (test : ℕ → Bool) (own other m n : Map W N) (es ds : List (ℕ × AbstractCell W N)) (a b : Bool) where

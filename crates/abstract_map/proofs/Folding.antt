@@ -1,6 +1,9 @@
 -- Cells past what may be listed.
-use Rattle.std.proofs.Common.{◌≡◌, ℕ, ◌^◌, ◌<◌, ◌≤◌, Bool, true, false, zero, suc, List, [], ◌∷◌, ◌++◌, length, take, drop, refl, sym, ap, subst, ◌∙◌, arith, IsTrue, cond, ◌⊎◌, inl, inr}
+use Rattle.std.proofs.Common.{◌≡◌, ℕ, ◌+◌, Some, ◌^◌, ◌<◌, ◌≤◌, Bool, true, false, zero, suc, List, [], ◌∷◌, ◌++◌, length, take, drop, refl, sym, ap, subst, ◌∙◌, arith, IsTrue, cond, ◌⊎◌, inl, inr}
+use Rattle.std.proofs.Math.Seq.{take-suc}
+use Rattle.std.specs.Prelude.{slice_get}
 use Rattle.std.proofs.lemmas.List.{drop_all}
+use Rattle.abstract_map.proofs.Items.{item_is}
 use Rattle.base_trait.specs.Algebra.{Algebra}
 use Rattle.base_trait.specs.Lists.{Each, IsAscending}
 use Rattle.abstract_map_laws.specs.declared.cell.AbstractCell.{AbstractCell}
@@ -11,19 +14,16 @@ use Rattle.abstract_map_laws.proofs.Fitting.{length_keys, no_more}
 use Rattle.abstract_map_laws.proofs.Joining.{take_all}
 
 module _ {A : Type 0} where
+  -- one less from the front
+  pub take_back : (n i k : ℕ) (x : A) (es : List (ℕ × A)) → n ≡ i + 1 → n ≤ length es → slice_get es i ≡ Some (k, x) → take n es ≡ take i es ++ (k, x) ∷ []
+  take_back n i k x es e l h =
+      let next : n ≡ suc i = omega (arith, e) in
+      ap (λ j. take j es) next ∙ take-suc es i (k, x) (omega (arith, e)) ∙ ap (λ y. take i es ++ y ∷ []) (sym (item_is es i k x h))
+
   drop_push : (n : ℕ) (xs : List A) (x : A) → n ≤ length xs → drop n (xs ++ x ∷ []) ≡ drop n xs ++ x ∷ []
   drop_push zero xs x l = refl
   drop_push (suc n) [] x l = absurd (omega arith)
   drop_push (suc n) (y ∷ xs) x l = drop_push n xs x (omega arith)
-
-  take_push : (n : ℕ) (xs : List A) (x : A) → n ≤ length xs → take n (xs ++ x ∷ []) ≡ take n xs
-  take_push zero xs x l = refl
-  take_push (suc n) [] x l = absurd (omega arith)
-  take_push (suc n) (y ∷ xs) x l = ap (λ l. y ∷ l) (take_push n xs x (omega arith))
-
-  pub each_push : (P : A → Type 0) (xs : List A) (x : A) → Each P (xs ++ x ∷ []) → Each P xs × P x
-  each_push P [] x h = (tt, h.0)
-  each_push P (y ∷ xs) x h = let later = each_push P xs x h.1 in ((h.0, later.0), later.1)
 
 module _ {W N C : Type 0} (B : Algebra W N C) (c : C) (w cap : ℕ) where
   rest_push : (rest : AbstractCell W N) (es : List (ℕ × AbstractCell W N)) (x : ℕ × AbstractCell W N) → rest_with B c w rest (es ++ x ∷ []) ≡ rest_with B c w (join_cells B c w rest x.1) es
@@ -35,9 +35,6 @@ module _ {W N C : Type 0} (B : Algebra W N C) (c : C) (w cap : ℕ) where
       → rest_with B c w rest' (drop cap front) ≡ rest_with B c w rest (drop cap es)
   fold_rest rest rest' es front x e l r =
       ap (λ t. rest_with B c w t (drop cap front)) r ∙ sym (rest_push rest (drop cap front) x) ∙ ap (λ xs. rest_with B c w rest xs) (sym (drop_push cap front x l) ∙ ap (λ xs. drop cap xs) (sym e))
-
-  pub fold_cells : (es front : List (ℕ × AbstractCell W N)) (x : ℕ × AbstractCell W N) → es ≡ front ++ x ∷ [] → cap ≤ length front → take cap front ≡ take cap es
-  fold_cells es front x e l = sym (take_push cap front x l) ∙ ap (λ xs. take cap xs) (sym e)
 
   -- the map of the rest and of the cells that are left
   pub fold_made : (rest rest' : AbstractCell W N) (es es' : List (ℕ × AbstractCell W N)) → IsTrue B.joins ⊎ (length es ≤ cap) → rest' ≡ rest_with B c w rest (drop cap es) → es' ≡ take cap es

@@ -2,6 +2,10 @@ pub mod Ascending
 pub mod ByKey
 pub mod Equality
 pub mod Folding
+pub mod Items
+pub mod Laid
 pub mod Merging
+pub mod Named
 pub mod Putting
+pub mod Walked
 pub mod Whole

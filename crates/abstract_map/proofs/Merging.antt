@@ -1,7 +1,8 @@
 -- The keys of two ascending lists.
-use Rattle.std.proofs.Common.{◌≡◌, ℕ, ◌+◌, ◌-◌, ◌<◌, ◌≤◌, Bool, true, false, zero, suc, List, [], ◌∷◌, ◌++◌, map, length, get_or, ltb, eqb, leb, take, drop, min, refl, sym, ap, subst, ◌∙◌, arith, ◌⊎◌, inl, inr, append_assoc, drop-cons, length-drop}
-use Rattle.std.proofs.Math.Seq.{take-length}
+use Rattle.std.proofs.Common.{◌≡◌, ℕ, Some, ◌+◌, ◌<◌, ◌≤◌, Bool, true, false, zero, suc, List, [], ◌∷◌, ◌++◌, map, length, get_or, ltb, eqb, leb, drop, min, refl, sym, ap, subst, ◌∙◌, arith, ◌⊎◌, inl, inr, append_assoc, drop-cons}
 use Rattle.std.specs.Int.{from_bool}
+use Rattle.std.specs.Prelude.{slice_get}
+use Rattle.abstract_map.proofs.Items.{item_is}
 use Rattle.std.proofs.lemmas.Bool.Decides.{nat_tests}
 use Rattle.std.proofs.lemmas.List.{drop_all}
 use Rattle.base_trait.specs.Lists.{IsAscendingFrom, Each}
@@ -123,15 +124,33 @@ module _ {A : Type 0} where
         ap (λ l. l ++ either_key (names (drop (i + a) es)) (names (drop (j + b) ds))) o
         ∙ pushed out m (either_key (names (drop (i + a) es)) (names (drop (j + b) ds))) (either_key (names (drop i es)) (names (drop j ds))) whole (next m (i + a) (j + b) m_is (ap (λ n. i + n) a_is) (ap (λ n. j + n) b_is)) h
 
-  left_all : (i : ℕ) (es : List (ℕ × A)) → take (length es - i) (drop i es) ≡ drop i es
-  left_all i es = ap (λ n. take n (drop i es)) (sym (length-drop i es)) ∙ take-length (drop i es)
+  -- the entries that stand at these places
+  pub merge_at : (es ds : List (ℕ × A)) (i j k l : ℕ) (x y : A) → slice_get es i ≡ Some (k, x) → slice_get ds j ≡ Some (l, y) → i < length es → j < length ds → IsAscendingFrom 0 (names es) → IsAscendingFrom 0 (names ds)
+      → (out out' whole : List ℕ) (m a b : ℕ) → m ≡ min k l → a ≡ from_bool (leb k l) → b ≡ from_bool (leb l k)
+      → out' ≡ out ++ m ∷ [] → out ++ either_key (names (drop i es)) (names (drop j ds)) ≡ whole → out' ++ either_key (names (drop (i + a) es)) (names (drop (j + b) ds)) ≡ whole
+  merge_at es ds i j k l x y h g more also left right out out' whole m a b m_is a_is b_is =
+      let here = ap (λ e. e.0) (item_is es i k x h) in
+      let there = ap (λ e. e.0) (item_is ds j l y g) in
+      merge_more es ds i j (k, x) (l, y) more also left right out out' whole m a b
+      (m_is ∙ ap (λ n. min n l) here ∙ ap (λ n. min (get_or es i (k, x)).0 n) there)
+      (a_is ∙ ap (λ n. from_bool (leb n l)) here ∙ ap (λ n. from_bool (leb (get_or es i (k, x)).0 n)) there)
+      (b_is ∙ ap (λ n. from_bool (leb l n)) here ∙ ap (λ n. from_bool (leb n (get_or es i (k, x)).0)) there)
+
+  -- one more key behind others
+  pub key_more : (es : List (ℕ × A)) (i k : ℕ) (x : A) → slice_get es i ≡ Some (k, x) → i < length es → (out out' whole : List ℕ) → out' ≡ out ++ k ∷ [] → out ++ names (drop i es) ≡ whole → out' ++ names (drop (i + 1) es) ≡ whole
+  key_more es i k x h more out out' whole o e =
+      let next : i + 1 ≡ suc i = omega arith in
+      let first = item_is es i k x h in
+      ap (λ l. l ++ names (drop (i + 1) es)) o
+      ∙ pushed out k (names (drop (i + 1) es)) (names (drop i es)) whole
+      (ap (λ n. k ∷ names (drop n es)) next ∙ ap (λ d. d.0 ∷ names (drop (suc i) es)) first ∙ sym (ap (λ l. names l) (drop-cons es i (k, x) more))) e
 
   -- where one list is done, what is left of the other comes behind
   pub merge_end : (es ds : List (ℕ × A)) (i j : ℕ) (out all done whole : List ℕ) → IsAscendingFrom 0 (names es) → (length es ≤ i) ⊎ (length ds ≤ j)
       → out ++ either_key (names (drop i es)) (names (drop j ds)) ≡ whole
-      → all ≡ out ++ names (take (length es - i) (drop i es)) → done ≡ all ++ names (take (length ds - j) (drop j ds)) → done ≡ whole
+      → all ≡ out ++ names (drop i es) → done ≡ all ++ names (drop j ds) → done ≡ whole
   merge_end es ds i j out all done whole left ends h a b =
-      b ∙ ap (λ l. all ++ names l) (left_all j ds) ∙ ap (λ l. l ++ names (drop j ds)) (a ∙ ap (λ l. out ++ names l) (left_all i es)) ∙ append_assoc out (names (drop i es)) (names (drop j ds)) ∙ ap (λ l. out ++ l) (sorted ends) ∙ h
+      b ∙ ap (λ l. l ++ names (drop j ds)) a ∙ append_assoc out (names (drop i es)) (names (drop j ds)) ∙ ap (λ l. out ++ l) (sorted ends) ∙ h
     where
       sorted : (length es ≤ i) ⊎ (length ds ≤ j) → names (drop i es) ++ names (drop j ds) ≡ either_key (names (drop i es)) (names (drop j ds))
       sorted (inl l) = ap (λ x. names x ++ names (drop j ds)) (drop_all i es l) ∙ sym (ap (λ x. either_key (names x) (names (drop j ds))) (drop_all i es l))

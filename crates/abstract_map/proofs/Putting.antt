@@ -8,7 +8,7 @@ use Rattle.base_trait.proofs.Tests.{at_choice}
 use Rattle.abstract_map_laws.specs.declared.cell.AbstractCell.{AbstractCell}
 use Rattle.abstract_map_laws.specs.Keys.{with_key}
 use Rattle.abstract_map_laws.specs.Maps.{cell_in, cells_at}
-use Rattle.abstract_map.specs.Listed.{put}
+use Rattle.abstract_cell_tree.specs.Entries.{put}
 use Rattle.abstract_map_laws.proofs.KeyLists.{with_only}
 use Rattle.abstract_map_laws.proofs.Places.{made_same, cells_again}
 

@@ -15,7 +15,7 @@ use Rattle.abstract_map_laws.proofs.Fitting.{folded_fits, merged_bound, merged_o
 use Rattle.abstract_map_laws.proofs.Absorbing.{folded_each}
 use Rattle.abstract_map_laws.proofs.Joining.{fit_at, merged_each, take_all}
 use Rattle.abstract_map_laws.proofs.Writing.{written_each}
-use Rattle.abstract_map.specs.Listed.{put}
+use Rattle.abstract_cell_tree.specs.Entries.{put}
 use Rattle.abstract_map.specs.Unfolded.{FitsUnfolded}
 use Rattle.abstract_map.proofs.ByKey.{cells_by_key}
 use Rattle.abstract_map.proofs.Putting.{put_written}

@@ -1,4 +1,5 @@
-pub mod Listed
+pub mod Merged
+pub mod Placed
 pub mod Same
 pub mod Unfolded
 pub mod View

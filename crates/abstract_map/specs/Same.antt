@@ -1,5 +1,5 @@
 -- Equality of maps.
-use Rattle.std.specs.Prelude.{ℕ, ◌==◌, Bool, ◌&&◌, ◌++◌}
+use Rattle.std.specs.Prelude.{ℕ, ◌==◌, Bool, ◌&&◌, ◌++◌, length}
 use Rattle.std.specs.Hash as fed
 use Rattle.std.specs.Cmp.{IsEquivalence, IsPartialEquivalence}
 use Rattle.std.proofs.Common.{ap, ◌∙◌}
@@ -9,9 +9,9 @@ use Rattle.base_trait.proofs.Tests.{and_both, and_parts}
 use Rattle.abstract_map_laws.specs.declared.cell.AbstractCell.{AbstractCell}
 use Rattle.abstract_map_laws.specs.Maps.{Map}
 
--- what is hashed: the width, the rest, and the listed cells
+-- what is hashed: the width, the rest, and the number of the listed cells
 abbrev pub hashed : {W N : Type 0} → (W → fed.HashWrites) → (N → fed.HashWrites) → Map W N → fed.HashWrites
-hashed word note m = fed.u32 m.width ++ (word m.rest.word ++ note m.rest.note) ++ fed.slice (λ e. fed.u64 e.0 ++ (word e.1.word ++ note e.1.note)) m.cells
+hashed word note m = fed.u32 m.width ++ (word m.rest.word ++ note m.rest.note) ++ fed.u64 (length m.cells)
 
 module _ {W N : Type 0} (word : W → W → Bool) (note : N → N → Bool) where
   -- part by part
@@ -37,7 +37,7 @@ module _ {W N : Type 0} (word : W → W → Bool) (note : N → N → Bool) wher
         (and_both (same_cell m.rest m.rest) (same_list same_entry m.cells m.cells) (same_cell_itself m.rest) (same_list_itself same_entry same_entry_itself m.cells))
 
   module _ (words : IsIdentity word) (notes : IsIdentity note) where
-    same_cell_is : IsIdentity same_cell
+    pub same_cell_is : IsIdentity same_cell
     same_cell_is x y h = let p = and_parts (word x.word y.word) (note x.note y.note) h in
         ap (λ w. record { word = w; note = x.note }) (words x.word y.word p.0) ∙ ap (λ n. record { word = y.word; note = n }) (notes x.note y.note p.1)
 

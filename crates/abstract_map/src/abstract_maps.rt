@@ -1,21 +1,20 @@
-//! Maps as sorted lists of cells.
+//! Maps as trees of cells.
 
-ghost use Rattle.std.specs.Prelude.{◌≡◌, ◌<◌, [], Some, length, slice_get, slice_index, IfOk};
+ghost use Rattle.std.specs.Prelude.{◌≡◌, ◌<◌, [], Some, length, map, slice_get, slice_index, IfOk};
 ghost use Rattle.word_operations.specs.Width.{IsWidth};
 ghost use Rattle.base_trait.specs.Lists.{IsAscending};
+ghost use Rattle.abstract_cell_tree.specs.Entries.{listed_at};
 ghost use Rattle.abstract_map_laws.specs.Calls.{folded};
 ghost use Rattle.abstract_map_laws.specs.Keys.{has_key};
 ghost use Rattle.abstract_map_laws.specs.Maps.{Fits, cell, keys};
 ghost use Rattle.abstract_map.specs.Unfolded.{FitsUnfolded};
 
 use super::cells::{CellOf, copy_cell};
-use super::fold::Unfolded;
-use super::listed::{is_listed, listed_at};
+use abstract_cell_tree::{Branch, Tree};
 use abstract_map_laws::AbstractCell;
 use base_trait::Base;
 use std::alloc::{AllocError as NoMemory, Global};
 use std::marker::Model;
-use std::rc::Rc;
 
 /// Listed cells, ascending by their keys, and a rest for every other key. It describes each concrete map whose cell at
 /// each key the listed cell describes, or else the rest.
@@ -23,12 +22,19 @@ use std::rc::Rc;
 pub struct AbstractMap<B: Base> {
     pub(crate) width: u32,
     pub(crate) rest: CellOf<B>,
-    pub(crate) cells: Rc<Vec<(u64, CellOf<B>)>>,
+    pub(crate) cells: Tree<CellOf<B>>,
 }
 
-/// Written out, so that there is one for each base, and not one in each crate that lets a map go.
+/// Written out, so that what lets a map go stands once for each base, and not once more in each crate where one is let go.
 impl<B: Base> Drop for AbstractMap<B> {
     fn drop(self) {
+        self.let_go();
+    }
+}
+
+impl<B: Base> AbstractMap<B> {
+    /// Lets go what it holds.
+    fn let_go(self) {
         let AbstractMap {
             width: _width,
             rest: _rest,
@@ -42,7 +48,7 @@ impl<B: Base> Model for AbstractMap<B> {
 
     ghost Value = { Map B.Word B.Note };
 
-    ghost view = { λ m. record { width = m.width; rest = m.rest; cells = m.cells.value.items } };
+    ghost view = { λ m. record { width = m.width; rest = m.rest; cells = m.cells } };
 }
 
 impl<B: Base> AbstractMap<B> {
@@ -61,7 +67,11 @@ impl<B: Base> AbstractMap<B> {
         ensures value { IfOk result (λ r. r ≡ record { width = w; rest = record { word = rest; note = note }; cells = [] }) }
         ensures fits { IfOk result (λ r. Fits B.algebra ctx.now B.CAP r) }
     {
-        AbstractMap::of_parts(alloc, w, AbstractCell { word: rest, note }, Vec::new(alloc))
+        Ok(AbstractMap {
+            width: w,
+            rest: AbstractCell { word: rest, note },
+            cells: Tree::new(),
+        })
     }
 
     /// The map of a rest and of listed cells, as they are.
@@ -71,13 +81,14 @@ impl<B: Base> AbstractMap<B> {
         rest: CellOf<B>,
         cells: Vec<(u64, CellOf<B>)>,
     ) -> Result<AbstractMap<B>, NoMemory>
+        requires order { IsAscending (map (λ e. e.0) cells.items) }
         ensures value { IfOk result (λ r. r ≡ record { width = width; rest = rest; cells = cells.items }) }
     {
-        match Rc::new(alloc, cells) {
+        match Tree::of_ascending(alloc, cells) {
             Ok(cells) => Ok(AbstractMap { width, rest, cells }),
             Err(error) => {
                 drop(rest);
-                Err(error.into())
+                Err(error)
             }
         }
     }
@@ -97,11 +108,7 @@ impl<B: Base> AbstractMap<B> {
         ensures value { IfOk result (λ r. r ≡ folded B.algebra ctx.now B.CAP (record { width = w; rest = rest; cells = cells.items })) }
         ensures fits { IfOk result (λ r. Fits B.algebra ctx.now B.CAP r) }
     {
-        let map = Unfolded {
-            width: w,
-            rest,
-            cells,
-        };
+        let map = AbstractMap::of_parts(alloc, w, rest, cells)?;
         map.folded(alloc, ctx)
     }
 
@@ -116,7 +123,7 @@ impl<B: Base> AbstractMap<B> {
     pub fn listed(&self) -> u64
         ensures { result ≡ length self.now.cells }
     {
-        self.cells.len() as u64
+        self.cells().len()
     }
 
     /// Whether a cell is listed at a key.
@@ -124,7 +131,7 @@ impl<B: Base> AbstractMap<B> {
         requires order { IsAscending (keys self.now) }
         ensures { result ≡ has_key (keys self.now) key }
     {
-        is_listed(self.cells(), key)
+        self.cells().get(key).is_some()
     }
 
     /// The listed key at a place, counted from 0. Keys ascend.
@@ -132,7 +139,7 @@ impl<B: Base> AbstractMap<B> {
         requires { place < length self.now.cells }
         ensures { slice_get (keys self.now) place ≡ Some result }
     {
-        self.cells()[place as usize].0
+        self.cells().at(place).0
     }
 
     /// The listed cell at a place: it describes what a concrete map has at the key of that place.
@@ -140,7 +147,16 @@ impl<B: Base> AbstractMap<B> {
         requires { place < length self.now.cells }
         ensures { slice_get self.now.cells place ≡ Some (slice_index (keys self.now) place, record { word = result.0.now; note = result.1.now }) }
     {
-        let cell = &self.cells()[place as usize].1;
+        let cell = self.cells().at(place).1;
+        (&cell.word, &cell.note)
+    }
+
+    /// The cell at a key, listed or not: it describes what a concrete map has there.
+    pub fn cell_of(&self, key: u64) -> (&B::Word, &B::Note)
+        requires order { IsAscending (keys self.now) }
+        ensures { cell self.now key ≡ record { word = result.0.now; note = result.1.now } }
+    {
+        let cell = self.cell(key);
         (&cell.word, &cell.note)
     }
 
@@ -152,10 +168,28 @@ impl<B: Base> AbstractMap<B> {
     }
 
     /// The listed cells, ascending by their keys.
-    pub(crate) fn cells(&self) -> &[(u64, CellOf<B>)]
+    pub(crate) fn cells(&self) -> &Tree<CellOf<B>>
         ensures value { result.now ≡ self.now.cells }
     {
         &self.cells
+    }
+
+    /// The listed cells, as a tree to walk over.
+    pub(crate) fn root(&self) -> &Branch<CellOf<B>>
+        ensures value { result.now ≡ self.now.cells }
+    {
+        self.cells.root()
+    }
+
+    /// The cell at a key, of which the cells of a part of it know as much.
+    pub(crate) fn cell_near<'a>(&'a self, cells: &'a Branch<CellOf<B>>, key: u64) -> &'a CellOf<B>
+        requires near { listed_at key cells.now ≡ listed_at key self.now.cells }
+        ensures value { result.now ≡ cell self.now key }
+    {
+        match cells.get(key) {
+            Some(cell) => cell,
+            None => &self.rest,
+        }
     }
 
     /// The cell at a key.
@@ -163,7 +197,7 @@ impl<B: Base> AbstractMap<B> {
         requires order { IsAscending (keys self.now) }
         ensures value { result.now ≡ cell self.now key }
     {
-        match listed_at(self.cells(), key) {
+        match self.cells().get(key) {
             Some(cell) => cell,
             None => &self.rest,
         }
@@ -175,7 +209,7 @@ impl<B: Base> AbstractMap<B> {
     {
         let width = self.width;
         let rest = copy_cell::<B>(alloc, ctx, &self.rest)?;
-        match self.cells.clone() {
+        match self.cells.copy() {
             Ok(cells) => Ok(AbstractMap { width, rest, cells }),
             Err(error) => {
                 drop(rest);

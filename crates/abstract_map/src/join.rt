@@ -1,16 +1,19 @@
 //! Joining two maps.
 
-ghost use Rattle.std.specs.Prelude.{◌≡◌, ◌++◌, IfOk, OnOk};
+ghost use Rattle.std.specs.Prelude.{◌≡◌, IfOk};
+ghost use Rattle.base_trait.specs.Lists.{Each};
+ghost use Rattle.abstract_cell_tree.specs.Entries.{Alike};
 ghost use Rattle.abstract_map_laws.specs.Calls.{join_of, merged};
-ghost use Rattle.abstract_map_laws.specs.Cells.{join_cells};
+ghost use Rattle.abstract_map_laws.specs.Cells.{CellFits, join_cells};
 ghost use Rattle.abstract_map_laws.specs.Keys.{either_key};
 ghost use Rattle.abstract_map_laws.specs.Maps.{Fits, cell, cells_at, keys};
+ghost use Rattle.abstract_map.specs.Merged.{with_new};
 ghost use Rattle.abstract_map.specs.Unfolded.{FitsUnfolded};
 
 use super::abstract_maps::AbstractMap;
 use super::cells::{CellOf, join_cell};
-use super::fold::Unfolded;
-use super::listed::either_key;
+use super::merge::Merge;
+use abstract_cell_tree::{Branch, Parts, Tree};
 use base_trait::Base;
 use std::alloc::{AllocError as NoMemory, Global};
 
@@ -39,7 +42,7 @@ impl<B: Base> AbstractMap<B> {
         alloc: Global,
         ctx: &B::Ctx,
         other: &AbstractMap<B>,
-    ) -> Result<Unfolded<B>, NoMemory>
+    ) -> Result<AbstractMap<B>, NoMemory>
         requires left { Fits B.algebra ctx.now B.CAP self.now }
         requires right { Fits B.algebra ctx.now B.CAP other.now }
         requires width { self.now.width ≡ other.now.width }
@@ -49,7 +52,7 @@ impl<B: Base> AbstractMap<B> {
         let width = self.width;
         let rest = join_cell::<B>(alloc, ctx, width, &self.rest, &other.rest)?;
         match self.merged_cells(alloc, ctx, other) {
-            Ok(cells) => Ok(Unfolded { width, rest, cells }),
+            Ok(cells) => Ok(AbstractMap { width, rest, cells }),
             Err(error) => {
                 drop(rest);
                 Err(error)
@@ -63,57 +66,45 @@ impl<B: Base> AbstractMap<B> {
         alloc: Global,
         ctx: &B::Ctx,
         other: &AbstractMap<B>,
-    ) -> Result<Vec<(u64, CellOf<B>)>, NoMemory>
+    ) -> Result<Tree<CellOf<B>>, NoMemory>
         requires left { Fits B.algebra ctx.now B.CAP self.now }
         requires right { Fits B.algebra ctx.now B.CAP other.now }
         requires width { self.now.width ≡ other.now.width }
-        ensures value { IfOk result (λ r. r.items ≡ cells_at (either_key (keys self.now) (keys other.now)) (λ k. join_cells B.algebra ctx.now self.now.width (cell self.now k) (cell other.now k))) }
+        ensures value { IfOk result (λ r. r ≡ cells_at (either_key (keys self.now) (keys other.now)) (λ k. join_cells B.algebra ctx.now self.now.width (cell self.now k) (cell other.now k))) }
     {
-        let keys = either_key(alloc, self.cells(), other.cells())?;
-        self.joined_cells(alloc, ctx, other, &keys)
+        let cells = self.merged_with(alloc, ctx, Merge::Join, other)?;
+        self.with_new(alloc, ctx, other.root(), self.root(), cells)
     }
 
-    /// The joined cells at these keys.
-    fn joined_cells(
+    /// Cells, with those of a part of another map whose keys are not listed here, joined with the rest. Its own cells are a
+    /// part around them.
+    fn with_new(
         &self,
         alloc: Global,
         ctx: &B::Ctx,
-        other: &AbstractMap<B>,
-        keys: &[u64],
-    ) -> Result<Vec<(u64, CellOf<B>)>, NoMemory>
-        requires left { Fits B.algebra ctx.now B.CAP self.now }
-        requires right { Fits B.algebra ctx.now B.CAP other.now }
-        requires width { self.now.width ≡ other.now.width }
-        ensures value { IfOk result (λ r. r.items ≡ cells_at keys.now (λ k. join_cells B.algebra ctx.now self.now.width (cell self.now k) (cell other.now k))) }
+        cells: &Branch<CellOf<B>>,
+        own: &Branch<CellOf<B>>,
+        out: Tree<CellOf<B>>,
+    ) -> Result<Tree<CellOf<B>>, NoMemory>
+        requires map { Fits B.algebra ctx.now B.CAP self.now }
+        requires cells { Each (λ e. CellFits B.algebra ctx.now self.now.width e.1) cells.now }
+        requires own { Alike cells.now own.now self.now.cells }
+        ensures value { IfOk result (λ r. r ≡ with_new self.now.cells (λ x. join_cells B.algebra ctx.now self.now.width self.now.rest x) cells.now out) }
     {
-        let mut cells = Vec::with_capacity(alloc, keys.len())?;
-        match self.push_joined(alloc, ctx, other, keys, &mut cells) {
-            Ok(()) => Ok(cells),
-            Err(error) => {
-                drop(cells);
-                Err(error)
+        match cells.parts() {
+            Parts::Empty => Ok(out),
+            Parts::One(key, new) => {
+                if own.get(key).is_some() {
+                    return Ok(out);
+                }
+                let cell = join_cell::<B>(alloc, ctx, self.width, &self.rest, new)?;
+                out.put(alloc, key, cell)
+            }
+            Parts::Two(sides) => {
+                let (left, right) = (sides.left, sides.right);
+                let out = self.with_new(alloc, ctx, left, own.around(left), out)?;
+                self.with_new(alloc, ctx, right, own.around(right), out)
             }
         }
-    }
-
-    /// The joined cells at these keys, behind others.
-    fn push_joined(
-        &self,
-        alloc: Global,
-        ctx: &B::Ctx,
-        other: &AbstractMap<B>,
-        keys: &[u64],
-        out: &mut Vec<(u64, CellOf<B>)>,
-    ) -> Result<(), NoMemory>
-        requires left { Fits B.algebra ctx.now B.CAP self.now }
-        requires right { Fits B.algebra ctx.now B.CAP other.now }
-        requires width { self.now.width ≡ other.now.width }
-        ensures value { OnOk result (out.new.items ≡ out.old.items ++ cells_at keys.now (λ k. join_cells B.algebra ctx.now self.now.width (cell self.now k) (cell other.now k))) }
-    {
-        for key in keys {
-            let (left, right) = (self.cell(*key), other.cell(*key));
-            out.push((*key, join_cell::<B>(alloc, ctx, self.width, left, right)?))?;
-        }
-        Ok(())
     }
 }

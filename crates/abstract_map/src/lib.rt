@@ -1,4 +1,4 @@
-//! Maps of abstract words, kept as sorted lists of cells.
+//! Maps of abstract words, kept as shared trees of cells.
 //!
 //! A map of an instruction set, as a memory or a register file, is a function from keys to cells: a number, and the
 //! place that wrote it. An `AbstractMap` stands for such functions, with a cell for each listed key and a rest for every other
@@ -18,9 +18,10 @@
 //! the rest and unlisted. With room for two, a write of {9} at the key 5 of `{ 1: {1}, 8: {2}, rest {0} }` gives
 //! `{ 1: {1}, 5: {9}, rest {0, 2} }`. On a base that does not join, the keys themselves are the bound.
 //!
-//! *How it is kept.* The cells stand in a `Vec`, ascending, behind an `Rc`: a copy shares them, and copies the rest alone. A
-//! key is looked up by binary search. A write makes a new `Vec`, with copies of the cells before its key's place and of
-//! those behind it.
+//! *How it is kept.* The cells stand in a `Tree` of `abstract_cell_tree`, by the bits of their keys: a copy shares it, and copies the
+//! rest alone. A write, at one key or at several, makes the cells that change and the nodes on the paths to their keys; all
+//! others are shared with the old map. A join and a widening walk over the first map, with the other beside it, and share
+//! each part in which no cell changes.
 #![tactic(auto)]
 
 mod absorbs;
@@ -31,7 +32,7 @@ mod fold;
 mod join;
 mod keys;
 pub mod laws;
-mod listed;
+mod merge;
 mod same;
 mod update;
 mod widen;

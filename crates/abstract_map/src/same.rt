@@ -6,6 +6,7 @@ ghost use Rattle.abstract_map.specs.Same.{same_entry};
 
 use super::abstract_maps::AbstractMap;
 use super::cells::CellOf;
+use abstract_cell_tree::Tree;
 use base_trait::Base;
 use std::hash::{Hash, Hasher};
 
@@ -29,6 +30,7 @@ impl<B: Base> Eq for AbstractMap<B> {
     ghost laws = { same_map_equiv B.Word.eq B.Note.eq B.Word.Eq.laws B.Note.Eq.laws B.same_words B.same_notes };
 }
 
+/// By its width, its rest and the number of its cells, so that no cell is looked at.
 impl<B: Base> Hash for AbstractMap<B> {
     ghost use Rattle.std.proofs.Common.{ap};
     ghost use Rattle.abstract_map.specs.Same.{hashed, same_map_is};
@@ -40,19 +42,19 @@ impl<B: Base> Hash for AbstractMap<B> {
     fn hash<H: Hasher>(&self, state: &mut H) {
         self.width.hash(state);
         self.rest.hash(state);
-        self.cells.hash(state);
+        self.listed().hash(state);
     }
 }
 
 /// Whether the cells are equal, one by one.
-fn are_same<B: Base>(cells: &[(u64, CellOf<B>)], others: &[(u64, CellOf<B>)]) -> bool
+fn are_same<B: Base>(cells: &Tree<CellOf<B>>, others: &Tree<CellOf<B>>) -> bool
     ensures { result ≡ same_list (same_entry B.Word.eq B.Note.eq) cells.now others.now }
 {
     if cells.len() != others.len() {
         return false;
     }
     for place in 0..cells.len() {
-        if cells[place] != others[place] {
+        if cells.at(place) != others.at(place) {
             return false;
         }
     }

@@ -1,20 +1,21 @@
 //! Writing at a key.
 
-ghost use Rattle.std.specs.Prelude.{◌≡◌, ◌++◌, IfOk, OnOk, if◌then◌else◌, map};
+ghost use Rattle.std.specs.Prelude.{◌≡◌, IfOk, if◌then◌else◌, map, option_map};
 ghost use Rattle.word_operations.specs.Width.{IsWidth};
-ghost use Rattle.base_trait.specs.Lists.{Each};
+ghost use Rattle.base_trait.specs.Lists.{Each, IsAscending};
+ghost use Rattle.abstract_cell_tree.specs.Entries.{listed_at, put};
 ghost use Rattle.abstract_map_laws.specs.Calls.{update_of, written};
 ghost use Rattle.abstract_map_laws.specs.Cells.{CellFits, join_cells};
 ghost use Rattle.abstract_map_laws.specs.Keys.{IsKeyed, has_key, one, some};
 ghost use Rattle.abstract_map_laws.specs.Maps.{Fits};
+ghost use Rattle.abstract_map.specs.Placed.{placed};
 ghost use Rattle.abstract_map.specs.Unfolded.{FitsUnfolded};
 ghost use Rattle.abstract_map.specs.View.{keys_of};
 
 use super::abstract_maps::AbstractMap;
-use super::cells::{CellOf, cell_of, copy_cell, joined_if};
-use super::fold::Unfolded;
+use super::cells::{CellOf, cell_of, copy_cell, join_cell, joined_if};
 use super::keys::KeySet;
-use super::listed::put_cell;
+use abstract_cell_tree::Tree;
 use base_trait::Base;
 use std::alloc::{AllocError as NoMemory, Global};
 
@@ -55,7 +56,7 @@ impl<B: Base> AbstractMap<B> {
         key: u64,
         v: &B::Word,
         note: &B::Note,
-    ) -> Result<Unfolded<B>, NoMemory>
+    ) -> Result<AbstractMap<B>, NoMemory>
         requires map { Fits B.algebra ctx.now B.CAP self.now }
         requires key { IsKeyed (one key) }
         requires word { B.algebra.words.fits ctx.now self.now.width v.now }
@@ -64,13 +65,28 @@ impl<B: Base> AbstractMap<B> {
     {
         let width = self.width;
         let rest = copy_cell::<B>(alloc, ctx, &self.rest)?;
-        match put_cell::<B>(alloc, ctx, self.cells(), key, v, note) {
-            Ok(cells) => Ok(Unfolded { width, rest, cells }),
+        match self.put(alloc, ctx, key, v, note) {
+            Ok(cells) => Ok(AbstractMap { width, rest, cells }),
             Err(error) => {
                 drop(rest);
                 Err(error)
             }
         }
+    }
+
+    /// The cells with a word and a note put at their key's place.
+    fn put(
+        &self,
+        alloc: Global,
+        ctx: &B::Ctx,
+        key: u64,
+        v: &B::Word,
+        note: &B::Note,
+    ) -> Result<Tree<CellOf<B>>, NoMemory>
+        ensures value { IfOk result (λ r. r ≡ put key (record { word = v.now; note = note.now }) self.now.cells) }
+    {
+        let cell = cell_of::<B>(alloc, ctx, v, note)?;
+        self.cells().put(alloc, key, cell)
     }
 
     /// The map with a cell joined into each of these listed ones, and into the rest unless they are all.
@@ -90,7 +106,11 @@ impl<B: Base> AbstractMap<B> {
         let rest = copy_cell::<B>(alloc, ctx, &self.rest)?;
         let rest = joined_if::<B>(alloc, ctx, self.width, !all_listed, rest, cell)?;
         match joined_named::<B>(alloc, ctx, self.width, self.cells(), listed, cell) {
-            Ok(cells) => AbstractMap::of_parts(alloc, self.width, rest, cells),
+            Ok(cells) => Ok(AbstractMap {
+                width: self.width,
+                rest,
+                cells,
+            }),
             Err(error) => {
                 drop(rest);
                 Err(error)
@@ -99,49 +119,46 @@ impl<B: Base> AbstractMap<B> {
     }
 }
 
-/// The cells, with one joined into each whose key is named.
+/// The cells, with one joined into each whose key is named. The others are shared.
 fn joined_named<B: Base>(
     alloc: Global,
     ctx: &B::Ctx,
     w: u32,
-    cells: &[(u64, CellOf<B>)],
+    cells: &Tree<CellOf<B>>,
     named: &[u64],
     cell: &CellOf<B>,
-) -> Result<Vec<(u64, CellOf<B>)>, NoMemory>
+) -> Result<Tree<CellOf<B>>, NoMemory>
     requires width { IsWidth w }
     requires old { Each (λ e. CellFits B.algebra ctx.now w e.1) cells.now }
     requires new { CellFits B.algebra ctx.now w cell.now }
-    ensures value { IfOk result (λ r. r.items ≡ map (λ e. (e.0, if has_key named.now e.0 then join_cells B.algebra ctx.now w e.1 cell.now else e.1)) cells.now) }
+    requires order { IsAscending (map (λ e. e.0) cells.now) }
+    ensures value { IfOk result (λ r. r ≡ map (λ e. (e.0, if has_key named.now e.0 then join_cells B.algebra ctx.now w e.1 cell.now else e.1)) cells.now) }
 {
-    let mut out = Vec::with_capacity(alloc, cells.len())?;
-    match push_joined::<B>(alloc, ctx, w, &mut out, cells, named, cell) {
-        Ok(()) => Ok(out),
-        Err(error) => {
-            drop(out);
-            Err(error)
-        }
+    let mut out = cells.copy()?;
+    for key in named {
+        out = joined_there::<B>(alloc, ctx, w, out, cells, *key, cell)?;
     }
+    Ok(out)
 }
 
-/// The same cells, behind others.
-fn push_joined<B: Base>(
+/// A cell joined into that of a key, where it is listed, put into others.
+fn joined_there<B: Base>(
     alloc: Global,
     ctx: &B::Ctx,
     w: u32,
-    out: &mut Vec<(u64, CellOf<B>)>,
-    cells: &[(u64, CellOf<B>)],
-    named: &[u64],
+    out: Tree<CellOf<B>>,
+    cells: &Tree<CellOf<B>>,
+    key: u64,
     cell: &CellOf<B>,
-) -> Result<(), NoMemory>
+) -> Result<Tree<CellOf<B>>, NoMemory>
     requires width { IsWidth w }
     requires old { Each (λ e. CellFits B.algebra ctx.now w e.1) cells.now }
     requires new { CellFits B.algebra ctx.now w cell.now }
-    ensures value { OnOk result (out.new.items ≡ out.old.items ++ map (λ e. (e.0, if has_key named.now e.0 then join_cells B.algebra ctx.now w e.1 cell.now else e.1)) cells.now) }
+    ensures value { IfOk result (λ r. r ≡ placed key (option_map (λ y. join_cells B.algebra ctx.now w y cell.now) (listed_at key cells.now)) out) }
 {
-    for (key, old) in cells {
-        let old = copy_cell::<B>(alloc, ctx, old)?;
-        let new = joined_if::<B>(alloc, ctx, w, named.contains(key), old, cell)?;
-        out.push((*key, new))?;
-    }
-    Ok(())
+    let Some(old) = cells.get(key) else {
+        return Ok(out);
+    };
+    let new = join_cell::<B>(alloc, ctx, w, old, cell)?;
+    out.put(alloc, key, new)
 }

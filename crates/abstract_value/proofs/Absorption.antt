@@ -1,11 +1,12 @@
 -- Absorption of lists of parts or cases, item by item.
-use Rattle.std.proofs.Common.{◌≡◌, false, Option, Some, None, Vec, Global, map, refl}
+use Rattle.std.proofs.Common.{◌≡◌, false, Option, Some, None, List, map, refl}
 use Rattle.std.specs.Prelude.{◌&&◌}
 use Rattle.base_trait.specs.Algebra.{Algebra}
 use Rattle.abstract_value_laws.specs.Abs.{Cases, Parts, case_onto, cases, no_case, parts}
 use Rattle.abstract_value_laws.specs.Calls.{absorbs_case, absorbs_cases, absorbs_of, absorbs_parts}
 use Rattle.abstract_value.specs.View.{abs, case_of}
 use Rattle.abstract_value.specs.declared.value.AbstractValue.{AbstractValue}
+use Rattle.abstract_value.proofs.Alone.{TestsEach}
 use Rattle.abstract_value.proofs.Both.{IsBoth}
 
 module _ {W N C : Type 0} (B : Algebra W N C) (c : C) where
@@ -24,7 +25,7 @@ module _ {W N C : Type 0} (B : Algebra W N C) (c : C) where
   none_right (Some xs) cs = refl
 
   module _ {X : Type 0} where
-    pub cases_both : IsBoth {A = Option (Vec (AbstractValue X W N C) Global)} {D = Option (Vec (AbstractValue X W N C) Global)} (λ x y. absorbs_case B c (case_of x) (case_of y)) (λ xs ys. absorbs_cases B c (cases (map case_of xs)) (cases (map case_of ys)))
+    pub cases_both : IsBoth {A = Option (List (AbstractValue X W N C))} {D = Option (List (AbstractValue X W N C))} (λ x y. absorbs_case B c (case_of x) (case_of y)) (λ xs ys. absorbs_cases B c (cases (map case_of xs)) (cases (map case_of ys)))
     cases_both = record {
       end = refl;
       step = λ x y xs ys. case_step (case_of x) (case_of y) (cases (map case_of xs)) (cases (map case_of ys));
@@ -34,3 +35,6 @@ module _ {W N C : Type 0} (B : Algebra W N C) (c : C) where
 
     pub parts_both : IsBoth {A = AbstractValue X W N C} {D = AbstractValue X W N C} (λ x y. absorbs_of B c (abs x) (abs y)) (λ xs ys. absorbs_parts B c (parts (map abs xs)) (parts (map abs ys)))
     parts_both = record { end = refl; step = λ x y xs ys. refl; left = λ y ys. refl; right = λ x xs. refl }
+
+  pub each : TestsEach (absorbs_parts B c) (absorbs_cases B c)
+  each = record { end = refl; both_absent = λ cs ds. refl; both_present = λ xs ys cs ds. refl }

@@ -1,9 +1,12 @@
 pub mod Absorption
+pub mod Alone
 pub mod Both
 pub mod Falling
 pub mod Fields
 pub mod Hashing
 pub mod Merging
 pub mod OfValues
+pub mod Places
 pub mod Sameness
 pub mod Views
+pub mod Weights

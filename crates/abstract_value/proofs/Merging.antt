@@ -1,5 +1,5 @@
 -- One more element of a list of parts or cases.
-use Rattle.std.proofs.Common.{◌≡◌, ℕ, ◌+◌, ◌<◌, List, [], ◌∷◌, ◌++◌, length, map, take, drop, get_or, ◌∙◌, Option, Some, None, Vec, Global, Result, Ok, Err, refl, sym, ap, subst, arith, min, ◌≤◌, length-drop}
+use Rattle.std.proofs.Common.{◌≡◌, ℕ, zero, suc, ◌+◌, ◌<◌, List, [], ◌∷◌, ◌++◌, length, map, take, drop, get_or, ◌∙◌, Option, Some, None, Result, Ok, Err, refl, sym, ap, subst, arith, min, ◌≤◌, length-drop}
 use Rattle.std.specs.Prelude.{IfOk, IsOkAnd, ◌&&◌, ◌==◌, if◌then◌else◌}
 use Rattle.base_trait.proofs.Lists.{number_itself}
 use Rattle.base_trait.specs.Algebra.{Algebra}
@@ -7,13 +7,17 @@ use Rattle.abstract_map_laws.specs.Maps.{Fits as MapFits, Map}
 use Rattle.word_operations.specs.Width.{IsWidth}
 use Rattle.abstract_map.proofs.ByKey.{push_more}
 use Rattle.abstract_value_laws.specs.Abs as v
-use Rattle.abstract_value_laws.specs.Abs.{Abs, Parts, Cases, part, no_part, no_case, parts, cases, parts_onto, cases_onto, case_onto}
+use Rattle.abstract_value_laws.specs.Abs.{Abs, Parts, Cases, absent, present, part, no_part, no_case, parts, cases, parts_onto, cases_onto, case_onto}
 use Rattle.abstract_value_laws.specs.Calls.{either, merge_case, merge_cases, merge_parts}
 use Rattle.abstract_value_laws.specs.Calls.{merge_of}
 use Rattle.abstract_value_laws.specs.Fits.{CaseFits, CasesFit, Fits, PartsFit}
-use Rattle.abstract_value.specs.View.{abs, case_of}
+use Rattle.abstract_value_laws.specs.OfValues.{absent_onto, one_case}
+use Rattle.abstract_value.specs.Constructors.{AreOnly, IsOnly, only}
+use Rattle.abstract_value.specs.View.{abs, case_of, cases_of}
+use Rattle.abstract_value.specs.declared.constructors.Constructors.{Constructors}
 use Rattle.abstract_value.specs.declared.value.AbstractValue.{AbstractValue, Data, Flag, Map as AMap, Word}
 use Rattle.base_trait.specs.declared.tri.Tri.{Tri}
+use Rattle.abstract_value.proofs.Alone.{alone_seen, one_seen}
 use Rattle.abstract_value.proofs.Views.{abs_Data, abs_Flag, abs_Map, abs_Word}
 use Rattle.spec_match_compiler.proofs.Loops.{drop_here}
 
@@ -53,6 +57,16 @@ module _ {W N : Type 0} (words : ℕ → W → W → W) (maps : Map W N → Map 
   merge_case_step (Some xs) None cs ds = refl
   merge_case_step (Some xs) (Some ys) cs ds = refl
 
+  -- where one constructor is present in both
+  none_merged : (n : ℕ) → merge_cases words maps (absent_onto n no_case) (absent_onto n no_case) ≡ absent_onto n no_case
+  none_merged zero = refl
+  none_merged (suc n) = ap (λ z. absent z) (none_merged n)
+
+  pub one_merged : (n k : ℕ) (xs ys : Parts W N) → k < n → merge_cases words maps (one_case n k xs) (one_case n k ys) ≡ one_case n k (merge_parts words maps xs ys)
+  one_merged zero k xs ys h = absurd (omega (arith, h))
+  one_merged (suc n) zero xs ys h = ap (λ z. present (merge_parts words maps xs ys) z) (none_merged n)
+  one_merged (suc n) (suc k) xs ys h = ap (λ z. absent z) (one_merged n k xs ys (omega (arith, h)))
+
   -- words of one width, and maps of one type and one width
   pub merged_word : (w u : ℕ) (x y z : W) → w ≡ u → z ≡ words w x y → v.word w z ≡ merge_of words maps (v.word w x) (v.word u y)
   merged_word w u x y z e h = ap (λ k. v.word w k) h ∙ sym (ap (λ t. if t then v.word w (words w x y) else v.word w x) (ap (λ k. w == k) (sym e) ∙ number_itself w))
@@ -77,21 +91,29 @@ module _ {X W N C : Type 0} (words : ℕ → W → W → W) (maps : Map W N → 
       ∙ ap (λ o. parts_onto (map abs out) (merge_parts words maps (parts (map abs o)) (part (abs y) (parts (map abs (drop (i + 1) ys)))))) (sym (drop_here xs i x p left))
       ∙ ap (λ o. parts_onto (map abs out) (merge_parts words maps (parts (map abs (drop i xs))) (parts (map abs o)))) (sym (drop_here ys i y q right)) ∙ w
 
-  pub cases_pushed : {E : Type 0} (item : Result (Option (Vec (AbstractValue X W N C) Global)) E) (xs ys : List (Option (Vec (AbstractValue X W N C) Global))) (i n : ℕ) (x y : Option (Vec (AbstractValue X W N C) Global)) (out out' : List (Option (Vec (AbstractValue X W N C) Global))) (whole : Cases W N) → i < n → n ≡ min (length xs) (length ys) → x ≡ get_or xs i x → y ≡ get_or ys i y
-      → IsOkAnd item (λ z. out' ≡ out ++ z ∷ []) → IfOk item (λ z. case_of z ≡ merge_case words maps (case_of x) (case_of y))
+  pub cases_pushed : {E Z : Type 0} (view : Z → Option (List (AbstractValue X W N C))) (item : Result Z E) (xs ys : List (Option (List (AbstractValue X W N C)))) (i n : ℕ) (x y : Option (List (AbstractValue X W N C))) (out out' : List (Option (List (AbstractValue X W N C)))) (whole : Cases W N) → i < n → n ≡ min (length xs) (length ys) → x ≡ get_or xs i x → y ≡ get_or ys i y
+      → IsOkAnd item (λ z. out' ≡ out ++ view z ∷ []) → IfOk item (λ z. case_of (view z) ≡ merge_case words maps (case_of x) (case_of y))
       → cases_onto (map case_of out) (merge_cases words maps (cases (map case_of (drop i xs))) (cases (map case_of (drop i ys)))) ≡ whole
       → cases_onto (map case_of out') (merge_cases words maps (cases (map case_of (drop (i + 1) xs))) (cases (map case_of (drop (i + 1) ys)))) ≡ whole
-  cases_pushed (Err e) xs ys i n x y out out' whole l m p q k h w = absurd k
-  cases_pushed (Ok z) xs ys i n x y out out' whole l m p q k h w =
+  cases_pushed view (Err e) xs ys i n x y out out' whole l m p q k h w = absurd k
+  cases_pushed view (Ok z) xs ys i n x y out out' whole l m p q k h w =
       let cs = cases (map case_of (drop (i + 1) xs)) in
       let ds = cases (map case_of (drop (i + 1) ys)) in
       let rest = merge_cases words maps cs ds in
       let left : i < length xs = omega (arith, l, m) in
       let right : i < length ys = omega (arith, l, m) in
-      ap (λ o. cases_onto (map case_of o) rest) k ∙ ap (λ o. cases_onto o rest) (map_push (λ v. case_of v) out z) ∙ cases_onto_more (map case_of out) (case_of z) rest ∙ ap (λ v. cases_onto (map case_of out) (case_onto v rest)) h
+      ap (λ o. cases_onto (map case_of o) rest) k ∙ ap (λ o. cases_onto o rest) (map_push (λ v. case_of v) out (view z)) ∙ cases_onto_more (map case_of out) (case_of (view z)) rest ∙ ap (λ v. cases_onto (map case_of out) (case_onto v rest)) h
       ∙ ap (λ o. cases_onto (map case_of out) o) (sym (merge_case_step words maps (case_of x) (case_of y) cs ds))
       ∙ ap (λ o. cases_onto (map case_of out) (merge_cases words maps (cases (map case_of o)) (case_onto (case_of y) ds))) (sym (drop_here xs i x p left))
       ∙ ap (λ o. cases_onto (map case_of out) (merge_cases words maps (cases (map case_of (drop i xs))) (cases (map case_of o)))) (sym (drop_here ys i y q right)) ∙ w
+
+  -- one constructor that is present alone in both
+  pub alone_merged : (l m r : List (Option (List (AbstractValue X W N C)))) (k : ℕ) (f g h : List (AbstractValue X W N C)) → AreOnly l m k f g → r ≡ only (length l) k h → parts (map abs h) ≡ merge_parts words maps (parts (map abs f)) (parts (map abs g))
+      → cases (map case_of r) ≡ merge_cases words maps (cases (map case_of l)) (cases (map case_of m))
+  alone_merged l m r k f g h o e d =
+      let n = length l in
+      ap (λ z. cases (map case_of z)) e ∙ one_seen n k h o.first.within ∙ ap (λ z. one_case n k z) d ∙ sym (one_merged words maps n k (parts (map abs f)) (parts (map abs g)) o.first.within)
+      ∙ sym (ap (λ z. merge_cases words maps z (cases (map case_of m))) (alone_seen l k f o.first) ∙ ap (λ z. merge_cases words maps (one_case n k (parts (map abs f))) z) (alone_seen m k g o.second ∙ ap (λ i. one_case i k (parts (map abs g))) (sym o.lengths)))
 
   -- the merging of two values, by their forms
   merged_seen : (x y : AbstractValue X W N C) (p q z : Abs W N) → abs x ≡ p → abs y ≡ q → z ≡ merge_of words maps p q → z ≡ merge_of words maps (abs x) (abs y)
@@ -106,12 +128,9 @@ module _ {X W N C : Type 0} (words : ℕ → W → W → W) (maps : Map W N → 
   pub maps_merged : (x y : AbstractValue X W N C) (m n : ℕ) (k l r : Map W N) (a b : ℕ) → x ≡ AMap m k → y ≡ AMap n l → m ≡ n → a ≡ k.width → b ≡ l.width → a ≡ b → r ≡ maps k l → abs {X = X} {W = W} {N = N} {C = C} (AMap m r) ≡ merge_of words maps (abs x) (abs y)
   maps_merged x y m n k l r a b e d h i j f g = abs_Map X C m r ∙ merged_seen x y (v.map m k) (v.map n l) (v.map m r) (ap abs e ∙ abs_Map X C m k) (ap abs d ∙ abs_Map X C n l) (merged_map words maps m n k l r h (sym i ∙ f ∙ j) g)
 
-  pub made_merged : (x y : AbstractValue X W N C) (t u : ℕ) (cs ds r : Vec (Option (Vec (AbstractValue X W N C) Global)) Global) (k l : List (Option (Vec (AbstractValue X W N C) Global))) → x ≡ Data t cs → y ≡ Data u ds → k ≡ cs.items → l ≡ ds.items
-      → cases (map case_of r.items) ≡ merge_cases words maps (cases (map case_of k)) (cases (map case_of l)) → abs (Data t r) ≡ merge_of words maps (abs x) (abs y)
-  made_merged x y t u cs ds r k l e d h i f =
-      abs_Data t r
-      ∙ merged_seen x y (v.made t (cases (map case_of cs.items))) (v.made u (cases (map case_of ds.items))) (v.made t (cases (map case_of r.items))) (ap abs e ∙ abs_Data t cs) (ap abs d ∙ abs_Data u ds)
-      (ap (λ z. v.made t z) (f ∙ ap (λ z. merge_cases words maps (cases (map case_of z)) (cases (map case_of l))) h ∙ ap (λ z. merge_cases words maps (cases (map case_of cs.items)) (cases (map case_of z))) i))
+  pub made_merged : (x y : AbstractValue X W N C) (t u : ℕ) (cs ds r : Constructors (AbstractValue X W N C)) → x ≡ Data t cs → y ≡ Data u ds → cases_of r ≡ merge_cases words maps (cases_of cs) (cases_of ds) → abs (Data t r) ≡ merge_of words maps (abs x) (abs y)
+  made_merged x y t u cs ds r e d f =
+      abs_Data t r ∙ merged_seen x y (v.made t (cases_of cs)) (v.made u (cases_of ds)) (v.made t (cases_of r)) (ap abs e ∙ abs_Data t cs) (ap abs d ∙ abs_Data u ds) (ap (λ z. v.made t z) f)
 
   -- merging ends with the shorter list
   pub parts_done : (xs ys : List (AbstractValue X W N C)) (i n : ℕ) (out : List (AbstractValue X W N C)) (whole : Parts W N) → n ≤ i → n ≡ min (length xs) (length ys)
@@ -123,11 +142,11 @@ module _ {X W N C : Type 0} (words : ℕ → W → W → W) (maps : Map W N → 
       ends (a ∷ ps) [] e = refl
       ends (a ∷ ps) (d ∷ qs) e = absurd (omega arith)
 
-  pub cases_done : (xs ys : List (Option (Vec (AbstractValue X W N C) Global))) (i n : ℕ) (out : List (Option (Vec (AbstractValue X W N C) Global))) (whole : Cases W N) → n ≤ i → n ≡ min (length xs) (length ys)
+  pub cases_done : (xs ys : List (Option (List (AbstractValue X W N C)))) (i n : ℕ) (out : List (Option (List (AbstractValue X W N C)))) (whole : Cases W N) → n ≤ i → n ≡ min (length xs) (length ys)
       → cases_onto (map case_of out) (merge_cases words maps (cases (map case_of (drop i xs))) (cases (map case_of (drop i ys)))) ≡ whole → cases (map case_of out) ≡ whole
   cases_done xs ys i n out whole l m h = ap (λ k. cases_onto (map case_of out) k) (sym (ends (drop i xs) (drop i ys) (omega (arith, l, m, length-drop i xs, length-drop i ys)))) ∙ h
     where
-      ends : (ps qs : List (Option (Vec (AbstractValue X W N C) Global))) → min (length ps) (length qs) ≡ 0 → merge_cases words maps (cases (map case_of ps)) (cases (map case_of qs)) ≡ no_case
+      ends : (ps qs : List (Option (List (AbstractValue X W N C)))) → min (length ps) (length qs) ≡ 0 → merge_cases words maps (cases (map case_of ps)) (cases (map case_of qs)) ≡ no_case
       ends [] qs e = refl
       ends (None ∷ ps) [] e = refl
       ends (Some a ∷ ps) [] e = refl
@@ -158,12 +177,20 @@ module _ {X W N C : Type 0} (B : Algebra W N C) (c : C) (cap : ℕ) where
   pub map_fits_of : (x : AbstractValue X W N C) (m : ℕ) (k : Map W N) → x ≡ AMap m k → Fits B c cap (abs x) → MapFits B c cap k
   map_fits_of x m k e h = subst (λ z. Fits B c cap z) (ap abs e ∙ abs_Map X C m k) h
 
-  pub cases_fit_of : (x : AbstractValue X W N C) (t : ℕ) (cs : Vec (Option (Vec (AbstractValue X W N C) Global)) Global) (l : List (Option (Vec (AbstractValue X W N C) Global))) → x ≡ Data t cs → l ≡ cs.items → Fits B c cap (abs x) → CasesFit B c cap (cases (map case_of l))
-  cases_fit_of x t cs l e d h = subst (λ k. CasesFit B c cap (cases (map case_of k))) (sym d) (subst (λ k. Fits B c cap k) (ap abs e ∙ abs_Data t cs) h)
+  pub cases_fit_of : (x : AbstractValue X W N C) (t : ℕ) (cs : Constructors (AbstractValue X W N C)) → x ≡ Data t cs → Fits B c cap (abs x) → CasesFit B c cap (cases_of cs)
+  cases_fit_of x t cs e h = subst (λ k. Fits B c cap k) (ap abs e ∙ abs_Data t cs) h
 
-  pub cases_fit_here : (xs : List (Option (Vec (AbstractValue X W N C) Global))) (i : ℕ) (x : Option (Vec (AbstractValue X W N C) Global)) → x ≡ get_or xs i x → i < length xs → CasesFit B c cap (cases (map case_of (drop i xs))) → CaseFits B c cap (case_of x) × CasesFit B c cap (cases (map case_of (drop (i + 1) xs)))
+  pub cases_fit_here : (xs : List (Option (List (AbstractValue X W N C)))) (i : ℕ) (x : Option (List (AbstractValue X W N C))) → x ≡ get_or xs i x → i < length xs → CasesFit B c cap (cases (map case_of (drop i xs))) → CaseFits B c cap (case_of x) × CasesFit B c cap (cases (map case_of (drop (i + 1) xs)))
   cases_fit_here xs i x p l h = case_fits B c cap (case_of x) (cases (map case_of (drop (i + 1) xs))) (subst (λ k. CasesFit B c cap (cases (map case_of k))) (drop_here xs i x p l) h)
 
   -- what fits of the fields of one constructor
-  pub parts_fit_of : (o : Option (Vec (AbstractValue X W N C) Global)) (v : Vec (AbstractValue X W N C) Global) (l : List (AbstractValue X W N C)) → o ≡ Some v → l ≡ v.items → CaseFits B c cap (case_of o) → PartsFit B c cap (parts (map abs l))
-  parts_fit_of o v l e d h = subst (λ k. PartsFit B c cap (parts (map abs k))) (sym d) (subst (λ k. CaseFits B c cap (case_of k)) e h)
+  pub parts_fit_of : (o : Option (List (AbstractValue X W N C))) (f : List (AbstractValue X W N C)) → o ≡ Some f → CaseFits B c cap (case_of o) → PartsFit B c cap (parts (map abs f))
+  parts_fit_of o f e h = subst (λ k. CaseFits B c cap (case_of k)) e h
+
+  pub alone_fits : (l : List (Option (List (AbstractValue X W N C)))) (k : ℕ) (f : List (AbstractValue X W N C)) → IsOnly l k f → CasesFit B c cap (cases (map case_of l)) → PartsFit B c cap (parts (map abs f))
+  alone_fits l k f o h = present_fits (length l) k o.within (subst (λ z. CasesFit B c cap z) (alone_seen l k f o) h)
+    where
+      present_fits : (n k : ℕ) → k < n → CasesFit B c cap (one_case n k (parts (map abs f))) → PartsFit B c cap (parts (map abs f))
+      present_fits zero k l h = absurd (omega (arith, l))
+      present_fits (suc n) zero l h = h.0
+      present_fits (suc n) (suc k) l h = present_fits n k (omega (arith, l)) h

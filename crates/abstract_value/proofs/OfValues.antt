@@ -76,33 +76,6 @@ module _ {W N C : Type 0} (B : Algebra W N C) (c : C) (cap : ℕ) (env : Environ
 pub values_fit_here : (env : Environment) (xs : List Value) (i : ℕ) (x : Value) → x ≡ get_or xs i x → i < length xs → ValuesFit env (v.vals (map val (drop i xs))) → ValueFits env (val x) × ValuesFit env (v.vals (map val (drop (i + 1) xs)))
 values_fit_here env xs i x p l h = subst (λ k. ValuesFit env (v.vals (map val k))) (drop_here xs i x p l) h
 
--- ---- lists behind others
-nothing_behind : {A : Type 0} (xs : List A) → xs ++ [] ≡ xs
-nothing_behind [] = refl
-nothing_behind (x ∷ xs) = ap (λ l. x ∷ l) (nothing_behind xs)
-
-behind : {A : Type 0} (xs ys zs : List A) → (xs ++ ys) ++ zs ≡ xs ++ (ys ++ zs)
-behind [] ys zs = refl
-behind (x ∷ xs) ys zs = ap (λ l. x ∷ l) (behind xs ys zs)
-
--- ---- one constructor of several
-module _ {W N : Type 0} where
-  one_apart : (n k : ℕ) (xs : Parts W N) → k < n → one_case n k xs ≡ absent_onto k (present xs (absent_onto (n - k - 1) no_case))
-  one_apart zero k xs h = absurd (omega (arith, h))
-  one_apart (suc n) zero xs h = let same : n ≡ suc n - 0 - 1 = omega arith in ap (λ m. present xs (absent_onto m no_case)) same
-  one_apart (suc n) (suc k) xs h = let same : n - k - 1 ≡ suc n - suc k - 1 = omega arith in ap (λ z. absent z) (one_apart n k xs (omega (arith, h)) ∙ ap (λ m. absent_onto k (present xs (absent_onto m no_case))) same)
-
-module _ {X W N C : Type 0} where
-  absent_seen : (n : ℕ) (rest : List (Option (Vec (AbstractValue X W N C) Global))) → cases (map case_of (replicate n None ++ rest)) ≡ absent_onto n (cases (map case_of rest))
-  absent_seen zero rest = refl
-  absent_seen (suc n) rest = ap (λ z. absent z) (absent_seen n rest)
-
-  pub one_seen : (n k : ℕ) (v : Vec (AbstractValue X W N C) Global) → k < n → cases (map case_of ((replicate k None ++ (Some v ∷ [])) ++ replicate (n - k - 1) None)) ≡ one_case n k (parts (map abs v.items))
-  one_seen n k v h =
-      ap (λ l. cases (map case_of l)) (behind (replicate k None) (Some v ∷ []) (replicate (n - k - 1) None)) ∙ absent_seen k (Some v ∷ replicate (n - k - 1) None)
-      ∙ ap (λ l. absent_onto k (present (parts (map abs v.items)) (cases (map case_of l)))) (sym (nothing_behind (replicate (n - k - 1) None)))
-      ∙ ap (λ z. absent_onto k (present (parts (map abs v.items)) z)) (absent_seen (n - k - 1) []) ∙ sym (one_apart n k (parts (map abs v.items)) h)
-
 -- ---- maps
 module _ {W N C : Type 0} (B : Algebra W N C) (L : Laws W N C B) (c : C) where
   pub fits_unfolded : (w : ℕ) (rest : ConcreteCell) (cells : List (ℕ × ConcreteCell)) → MapFits w rest cells → FitsUnfolded B c (record { width = w; rest = cell_of B c w rest; cells = cells_of B c w cells })

@@ -1,10 +1,11 @@
 -- Equality of lists of parts or cases, item by item.
-use Rattle.std.proofs.Common.{◌≡◌, Bool, false, Option, Some, None, Vec, Global, map, refl}
+use Rattle.std.proofs.Common.{◌≡◌, Bool, false, Option, Some, None, List, map, refl}
 use Rattle.std.specs.Prelude.{◌&&◌}
 use Rattle.abstract_value_laws.specs.Abs.{Cases, Parts, case_onto, cases, no_case, parts}
 use Rattle.abstract_value.specs.Same.{same_case, same_cases, same_parts, same_value}
 use Rattle.abstract_value.specs.View.{abs, case_of}
 use Rattle.abstract_value.specs.declared.value.AbstractValue.{AbstractValue}
+use Rattle.abstract_value.proofs.Alone.{TestsEach}
 use Rattle.abstract_value.proofs.Both.{IsBoth}
 
 module _ {W N : Type 0} (words : W → W → Bool) (notes : N → N → Bool) where
@@ -23,7 +24,7 @@ module _ {W N : Type 0} (words : W → W → Bool) (notes : N → N → Bool) wh
   none_right (Some xs) cs = refl
 
   module _ {X C : Type 0} where
-    pub cases_both : IsBoth {A = Option (Vec (AbstractValue X W N C) Global)} {D = Option (Vec (AbstractValue X W N C) Global)} (λ x y. same_case words notes (case_of x) (case_of y)) (λ xs ys. same_cases words notes (cases (map case_of xs)) (cases (map case_of ys)))
+    pub cases_both : IsBoth {A = Option (List (AbstractValue X W N C))} {D = Option (List (AbstractValue X W N C))} (λ x y. same_case words notes (case_of x) (case_of y)) (λ xs ys. same_cases words notes (cases (map case_of xs)) (cases (map case_of ys)))
     cases_both = record {
       end = refl;
       step = λ x y xs ys. case_step (case_of x) (case_of y) (cases (map case_of xs)) (cases (map case_of ys));
@@ -33,3 +34,6 @@ module _ {W N : Type 0} (words : W → W → Bool) (notes : N → N → Bool) wh
 
     pub parts_both : IsBoth {A = AbstractValue X W N C} {D = AbstractValue X W N C} (λ x y. same_value words notes (abs x) (abs y)) (λ xs ys. same_parts words notes (parts (map abs xs)) (parts (map abs ys)))
     parts_both = record { end = refl; step = λ x y xs ys. refl; left = λ y ys. refl; right = λ x xs. refl }
+
+  pub each : TestsEach (same_parts words notes) (same_cases words notes)
+  each = record { end = refl; both_absent = λ cs ds. refl; both_present = λ xs ys cs ds. refl }

@@ -1,3 +1,4 @@
+pub mod Constructors
 pub mod Same
 pub mod View
 pub mod Ways

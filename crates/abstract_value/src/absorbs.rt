@@ -1,11 +1,13 @@
 //! Whether a value absorbs another, part by part.
 
-ghost use Rattle.std.specs.Prelude.{◌≡◌, map};
-ghost use Rattle.abstract_value_laws.specs.Abs.{cases, parts};
+ghost use Rattle.std.specs.Prelude.{◌≡◌, get_or, map, None};
+ghost use Rattle.abstract_value_laws.specs.Abs.{parts};
 ghost use Rattle.abstract_value_laws.specs.Calls.{absorbs_case, absorbs_cases, absorbs_flag, absorbs_of, absorbs_parts};
 ghost use Rattle.abstract_value_laws.specs.Fits.{CaseFits, CasesFit, Fits, PartsFit};
-ghost use Rattle.abstract_value.specs.View.{abs, case_of};
+ghost use Rattle.abstract_value.specs.Constructors.{spread};
+ghost use Rattle.abstract_value.specs.View.{abs, case_of, cases_of};
 
+use super::constructors::{Constructors, both_alone};
 use super::value::AbstractValue;
 use base_trait::{Base, Tri};
 
@@ -44,35 +46,53 @@ pub(crate) fn absorbs<B: Base>(ctx: &B::Ctx, x: &AbstractValue<B>, y: &AbstractV
 #[cycle(absorbs)]
 fn absorbs_cases<B: Base>(
     ctx: &B::Ctx,
-    xs: &[Option<Vec<AbstractValue<B>>>],
-    ys: &[Option<Vec<AbstractValue<B>>>],
+    xs: &Constructors<AbstractValue<B>>,
+    ys: &Constructors<AbstractValue<B>>,
 ) -> bool
-    requires old { CasesFit B.algebra ctx.now B.CAP (cases (map case_of xs.now)) }
-    requires new { CasesFit B.algebra ctx.now B.CAP (cases (map case_of ys.now)) }
-    ensures { result ≡ absorbs_cases B.algebra ctx.now (cases (map case_of xs.now)) (cases (map case_of ys.now)) }
+    requires old { CasesFit B.algebra ctx.now B.CAP (cases_of xs.now) }
+    requires new { CasesFit B.algebra ctx.now B.CAP (cases_of ys.now) }
+    ensures { result ≡ absorbs_cases B.algebra ctx.now (cases_of xs.now) (cases_of ys.now) }
+{
+    match both_alone(xs, ys) {
+        Some((_number, x, y)) => absorbs_parts::<B>(ctx, x, y),
+        None => absorbs_each::<B>(ctx, xs, ys),
+    }
+}
+
+#[cycle(absorbs)]
+fn absorbs_each<B: Base>(
+    ctx: &B::Ctx,
+    xs: &Constructors<AbstractValue<B>>,
+    ys: &Constructors<AbstractValue<B>>,
+) -> bool
+    requires old { CasesFit B.algebra ctx.now B.CAP (cases_of xs.now) }
+    requires new { CasesFit B.algebra ctx.now B.CAP (cases_of ys.now) }
+    ensures { result ≡ absorbs_cases B.algebra ctx.now (cases_of xs.now) (cases_of ys.now) }
 {
     if xs.len() != ys.len() {
         return false;
     }
     for i in 0..xs.len() {
-        if !absorbs_case::<B>(ctx, &xs[i], &ys[i]) {
+        if !absorbs_case::<B>(ctx, xs, ys, i) {
             return false;
         }
     }
     true
 }
 
+/// Whether the fields of one constructor are absorbed.
 #[cycle(absorbs)]
 fn absorbs_case<B: Base>(
     ctx: &B::Ctx,
-    x: &Option<Vec<AbstractValue<B>>>,
-    y: &Option<Vec<AbstractValue<B>>>,
+    xs: &Constructors<AbstractValue<B>>,
+    ys: &Constructors<AbstractValue<B>>,
+    i: usize,
 ) -> bool
-    requires old { CaseFits B.algebra ctx.now B.CAP (case_of x.now) }
-    requires new { CaseFits B.algebra ctx.now B.CAP (case_of y.now) }
-    ensures { result ≡ absorbs_case B.algebra ctx.now (case_of x.now) (case_of y.now) }
+    requires old { CaseFits B.algebra ctx.now B.CAP (case_of (get_or (spread xs.now) i None)) }
+    requires new { CaseFits B.algebra ctx.now B.CAP (case_of (get_or (spread ys.now) i None)) }
+    ensures { result ≡ absorbs_case B.algebra ctx.now (case_of (get_or (spread xs.now) i None)) (case_of (get_or (spread ys.now) i None)) }
 {
-    match (x, y) {
+    match (xs.fields(i), ys.fields(i)) {
         (_, None) => true,
         (None, Some(_)) => false,
         (Some(x), Some(y)) => absorbs_parts::<B>(ctx, x, y),

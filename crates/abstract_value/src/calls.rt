@@ -86,7 +86,8 @@ impl<B: Base> AbstractValue<B> {
         absorbs(ctx, self, new)
     }
 
-    /// The same value once more.
+    /// The same value once more. Of a constructor value the fields are shared, so a copy takes no longer than its word or map, or
+    /// the list of the constructors that are present.
     pub fn copy(&self, alloc: Global, ctx: &B::Ctx) -> Result<AbstractValue<B>, NoMemory>
         ensures { IfOk result (λ r. abs r ≡ abs self.now) }
     {

@@ -1,10 +1,12 @@
 //! What is hashed of a value.
 
-ghost use Rattle.std.specs.Prelude.{◌≡◌, map, fold};
-ghost use Rattle.abstract_value_laws.specs.Abs.{cases, parts};
+ghost use Rattle.std.specs.Prelude.{◌≡◌, get_or, map, fold, None};
+ghost use Rattle.abstract_value_laws.specs.Abs.{parts};
+ghost use Rattle.abstract_value.specs.Constructors.{spread};
 ghost use Rattle.abstract_value.specs.Same.{hashed_case, hashed_cases, hashed_parts, hashed_value};
-ghost use Rattle.abstract_value.specs.View.{abs, case_of};
+ghost use Rattle.abstract_value.specs.View.{abs, case_of, cases_of};
 
+use super::constructors::Constructors;
 use super::value::AbstractValue;
 use base_trait::Base;
 use std::hash::{Hash, Hasher};
@@ -53,23 +55,23 @@ fn hash_value<B: Base, H: Hasher>(v: &AbstractValue<B>, state: &mut H)
 }
 
 #[cycle(hash)]
-fn hash_cases<B: Base, H: Hasher>(values: &[Option<Vec<AbstractValue<B>>>], state: &mut H)
-    ensures { state.new ≡ fold H.write state.old (hashed_cases B.Word.hash_input B.Note.hash_input (cases (map case_of values.now))) }
+fn hash_cases<B: Base, H: Hasher>(values: &Constructors<AbstractValue<B>>, state: &mut H)
+    ensures { state.new ≡ fold H.write state.old (hashed_cases B.Word.hash_input B.Note.hash_input (cases_of values.now)) }
 {
-    for case in values {
-        hash_case::<B, H>(case, state);
+    for i in 0..values.len() {
+        hash_case::<B, H>(values, i, state);
     }
 }
 
 #[cycle(hash)]
-fn hash_case<B: Base, H: Hasher>(case: &Option<Vec<AbstractValue<B>>>, state: &mut H)
-    ensures { state.new ≡ fold H.write state.old (hashed_case B.Word.hash_input B.Note.hash_input (case_of case.now)) }
+fn hash_case<B: Base, H: Hasher>(values: &Constructors<AbstractValue<B>>, i: usize, state: &mut H)
+    ensures { state.new ≡ fold H.write state.old (hashed_case B.Word.hash_input B.Note.hash_input (case_of (get_or (spread values.now) i None))) }
 {
-    match case {
+    match values.fields(i) {
         None => state.write_u8(0),
-        Some(values) => {
+        Some(fields) => {
             state.write_u8(1);
-            hash_parts::<B, H>(values, state);
+            hash_parts::<B, H>(fields, state);
         }
     }
 }

@@ -16,16 +16,20 @@
 //! *Concrete values.* `AbstractValue::of_value` of `Some(3)` is `{ None: missing, Some: [{3}] }`. Its map has the concrete cells, with
 //! notes of their stamps; past what the base may list, the cell of the greatest key goes into the rest.
 //!
+//! *Room.* A constructor value holds the constructors that are present (`Constructors`), so one of a hundred takes the room
+//! of one, and contracts see all places (specs/Constructors). Copies, and joins in which a constructor comes from one side,
+//! share its fields.
+//!
 //! *Equality* is that of views (specs/Same), as a table that is looked up by values needs it: capacities and allocators
 //! don't count. Equal values hash alike.
 #![tactic(auto)]
 
 mod absorbs;
 mod calls;
+mod constructors;
 mod copies;
 mod hashed;
 pub mod laws;
-mod lists;
 mod merge;
 mod of_value;
 mod rank;
@@ -34,6 +38,7 @@ mod typed;
 mod value;
 mod way;
 
+pub use constructors::{Constructors, both_alone, share, shared_list};
 pub use of_value::{case_count, one_case};
 pub use value::AbstractValue;
 pub use way::Way;

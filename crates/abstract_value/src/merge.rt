@@ -1,16 +1,19 @@
 //! Values merged part by part.
 
-ghost use Rattle.std.specs.Prelude.{◌≡◌, map, IfOk};
-ghost use Rattle.abstract_value_laws.specs.Abs.{cases, parts};
+ghost use Rattle.std.specs.Prelude.{◌≡◌, get_or, map, None, option_map, IfOk};
+ghost use Rattle.abstract_value_laws.specs.Abs.{parts};
 ghost use Rattle.abstract_value_laws.specs.Fits.{CaseFits, CasesFit, Fits, PartsFit};
-ghost use Rattle.abstract_value.specs.View.{abs, case_of};
+ghost use Rattle.abstract_value.specs.Constructors.{spread};
+ghost use Rattle.abstract_value.specs.View.{abs, case_of, cases_of};
 ghost use Rattle.abstract_value.specs.Ways.{merged, merged_case, merged_cases, merged_parts};
 
-use super::copies::{copy, copy_parts};
+use super::constructors::{Constructors, both_alone, share, shared_list};
+use super::copies::copy;
 use super::value::AbstractValue;
 use super::way::{Way, join_ways, merge_maps, merge_words};
 use base_trait::Base;
 use std::alloc::{AllocError as NoMemory, Global};
+use std::rc::Rc;
 use support_lists::pushed;
 
 /// Two values of one type merged.
@@ -56,41 +59,68 @@ pub(crate) fn merge<B: Base>(
     }
 }
 
+/// The constructors of either. Where one alone is present in both, it is in the result.
 #[cycle(merge)]
 fn merge_cases<B: Base>(
     alloc: Global,
     ctx: &B::Ctx,
     way: Way,
-    xs: &[Option<Vec<AbstractValue<B>>>],
-    ys: &[Option<Vec<AbstractValue<B>>>],
-) -> Result<Vec<Option<Vec<AbstractValue<B>>>>, NoMemory>
-    requires left { CasesFit B.algebra ctx.now B.CAP (cases (map case_of xs.now)) }
-    requires right { CasesFit B.algebra ctx.now B.CAP (cases (map case_of ys.now)) }
-    ensures { IfOk result (λ r. cases (map case_of r.items) ≡ merged_cases B.algebra ctx.now B.CAP way (cases (map case_of xs.now)) (cases (map case_of ys.now))) }
+    xs: &Constructors<AbstractValue<B>>,
+    ys: &Constructors<AbstractValue<B>>,
+) -> Result<Constructors<AbstractValue<B>>, NoMemory>
+    requires left { CasesFit B.algebra ctx.now B.CAP (cases_of xs.now) }
+    requires right { CasesFit B.algebra ctx.now B.CAP (cases_of ys.now) }
+    ensures { IfOk result (λ r. cases_of r ≡ merged_cases B.algebra ctx.now B.CAP way (cases_of xs.now) (cases_of ys.now)) }
 {
-    let mut out = Vec::new(alloc);
+    match both_alone(xs, ys) {
+        Some((number, x, y)) => {
+            let fields = merge_parts(alloc, ctx, way, x, y)?;
+            Constructors::one(alloc, xs.len(), number, fields)
+        }
+        None => merge_each(alloc, ctx, way, xs, ys),
+    }
+}
+
+#[cycle(merge)]
+fn merge_each<B: Base>(
+    alloc: Global,
+    ctx: &B::Ctx,
+    way: Way,
+    xs: &Constructors<AbstractValue<B>>,
+    ys: &Constructors<AbstractValue<B>>,
+) -> Result<Constructors<AbstractValue<B>>, NoMemory>
+    requires left { CasesFit B.algebra ctx.now B.CAP (cases_of xs.now) }
+    requires right { CasesFit B.algebra ctx.now B.CAP (cases_of ys.now) }
+    ensures { IfOk result (λ r. cases_of r ≡ merged_cases B.algebra ctx.now B.CAP way (cases_of xs.now) (cases_of ys.now)) }
+{
+    let mut out = Constructors::none(alloc);
     for i in 0..xs.len().min(ys.len()) {
-        out = pushed(out, merge_case(alloc, ctx, way, &xs[i], &ys[i]))?;
+        out = out.grown(alloc, merge_case(alloc, ctx, way, xs, ys, i))?;
     }
     Ok(out)
 }
 
+/// The fields of one constructor merged; where it is present on one side alone, that side's fields are shared.
 #[cycle(merge)]
 fn merge_case<B: Base>(
     alloc: Global,
     ctx: &B::Ctx,
     way: Way,
-    x: &Option<Vec<AbstractValue<B>>>,
-    y: &Option<Vec<AbstractValue<B>>>,
-) -> Result<Option<Vec<AbstractValue<B>>>, NoMemory>
-    requires left { CaseFits B.algebra ctx.now B.CAP (case_of x.now) }
-    requires right { CaseFits B.algebra ctx.now B.CAP (case_of y.now) }
-    ensures { IfOk result (λ r. case_of r ≡ merged_case B.algebra ctx.now B.CAP way (case_of x.now) (case_of y.now)) }
+    xs: &Constructors<AbstractValue<B>>,
+    ys: &Constructors<AbstractValue<B>>,
+    i: usize,
+) -> Result<Option<Rc<Vec<AbstractValue<B>>>>, NoMemory>
+    requires left { CaseFits B.algebra ctx.now B.CAP (case_of (get_or (spread xs.now) i None)) }
+    requires right { CaseFits B.algebra ctx.now B.CAP (case_of (get_or (spread ys.now) i None)) }
+    ensures { IfOk result (λ r. case_of (option_map (λ f. f.value.items) r) ≡ merged_case B.algebra ctx.now B.CAP way (case_of (get_or (spread xs.now) i None)) (case_of (get_or (spread ys.now) i None))) }
 {
-    match (x, y) {
-        (Some(x), Some(y)) => Ok(Some(merge_parts(alloc, ctx, way, x, y)?)),
-        (Some(x), None) => Ok(Some(copy_parts(alloc, ctx, x)?)),
-        (None, Some(y)) => Ok(Some(copy_parts(alloc, ctx, y)?)),
+    match (xs.shared(i), ys.shared(i)) {
+        (Some(x), Some(y)) => {
+            let fields = merge_parts(alloc, ctx, way, x, y)?;
+            Ok(Some(shared_list(alloc, fields)?))
+        }
+        (Some(x), None) => Ok(Some(share(x)?)),
+        (None, Some(y)) => Ok(Some(share(y)?)),
         (None, None) => Ok(None),
     }
 }

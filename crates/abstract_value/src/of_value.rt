@@ -8,13 +8,13 @@ ghost use Rattle.spec_ir.specs.Views.{specification};
 ghost use Rattle.semantics_values.specs.Types.{environment_of};
 ghost use Rattle.semantics_values.specs.Values.{vals};
 ghost use Rattle.semantics_values.specs.Views.{val};
-ghost use Rattle.abstract_value_laws.specs.Abs.{cases, parts};
+ghost use Rattle.abstract_value_laws.specs.Abs.{parts};
 ghost use Rattle.abstract_value_laws.specs.OfValues as of;
 ghost use Rattle.abstract_value_laws.specs.OfValues.{MapFits, ValueFits, ValuesFit, case_count, cells_of, map_at, note_of, one_case};
 ghost use Rattle.abstract_value_laws.specs.TypeShapes.{width_of};
-ghost use Rattle.abstract_value.specs.View.{abs, case_of};
+ghost use Rattle.abstract_value.specs.View.{abs, cases_of};
 
-use super::lists::one_of;
+use super::constructors::Constructors;
 use super::value::AbstractValue;
 use abstract_map::AbstractMap;
 use abstract_map_laws::AbstractCell;
@@ -102,11 +102,11 @@ pub fn one_case<B: Base>(
     count: usize,
     case: usize,
     values: Vec<AbstractValue<B>>,
-) -> Result<Vec<Option<Vec<AbstractValue<B>>>>, NoMemory>
+) -> Result<Constructors<AbstractValue<B>>, NoMemory>
     requires { case < count }
-    ensures { IfOk result (λ r. cases (map case_of r.items) ≡ one_case count case (parts (map abs values.items))) }
+    ensures { IfOk result (λ r. cases_of r ≡ one_case count case (parts (map abs values.items))) }
 {
-    one_of(alloc, count, case, values)
+    Constructors::one(alloc, count, case, values)
 }
 
 /// The map of the cells of a concrete one.

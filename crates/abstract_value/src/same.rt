@@ -1,10 +1,12 @@
 //! Equality of values.
 
-ghost use Rattle.std.specs.Prelude.{◌≡◌, map};
-ghost use Rattle.abstract_value_laws.specs.Abs.{cases, parts};
+ghost use Rattle.std.specs.Prelude.{◌≡◌, get_or, map, None};
+ghost use Rattle.abstract_value_laws.specs.Abs.{parts};
+ghost use Rattle.abstract_value.specs.Constructors.{spread};
 ghost use Rattle.abstract_value.specs.Same.{same_case, same_cases, same_flag, same_parts, same_value};
-ghost use Rattle.abstract_value.specs.View.{abs, case_of};
+ghost use Rattle.abstract_value.specs.View.{abs, case_of, cases_of};
 
+use super::constructors::{Constructors, both_alone};
 use super::value::AbstractValue;
 use base_trait::{Base, Tri};
 
@@ -57,27 +59,45 @@ fn same_value<B: Base>(x: &AbstractValue<B>, y: &AbstractValue<B>) -> bool
 
 #[cycle(same)]
 fn same_cases<B: Base>(
-    xs: &[Option<Vec<AbstractValue<B>>>],
-    ys: &[Option<Vec<AbstractValue<B>>>],
+    xs: &Constructors<AbstractValue<B>>,
+    ys: &Constructors<AbstractValue<B>>,
 ) -> bool
-    ensures { result ≡ same_cases B.Word.eq B.Note.eq (cases (map case_of xs.now)) (cases (map case_of ys.now)) }
+    ensures { result ≡ same_cases B.Word.eq B.Note.eq (cases_of xs.now) (cases_of ys.now) }
+{
+    match both_alone(xs, ys) {
+        Some((_number, x, y)) => same_parts::<B>(x, y),
+        None => same_each::<B>(xs, ys),
+    }
+}
+
+#[cycle(same)]
+fn same_each<B: Base>(
+    xs: &Constructors<AbstractValue<B>>,
+    ys: &Constructors<AbstractValue<B>>,
+) -> bool
+    ensures { result ≡ same_cases B.Word.eq B.Note.eq (cases_of xs.now) (cases_of ys.now) }
 {
     if xs.len() != ys.len() {
         return false;
     }
     for i in 0..xs.len() {
-        if !same_case::<B>(&xs[i], &ys[i]) {
+        if !same_case::<B>(xs, ys, i) {
             return false;
         }
     }
     true
 }
 
+/// Whether one constructor is the same.
 #[cycle(same)]
-fn same_case<B: Base>(x: &Option<Vec<AbstractValue<B>>>, y: &Option<Vec<AbstractValue<B>>>) -> bool
-    ensures { result ≡ same_case B.Word.eq B.Note.eq (case_of x.now) (case_of y.now) }
+fn same_case<B: Base>(
+    xs: &Constructors<AbstractValue<B>>,
+    ys: &Constructors<AbstractValue<B>>,
+    i: usize,
+) -> bool
+    ensures { result ≡ same_case B.Word.eq B.Note.eq (case_of (get_or (spread xs.now) i None)) (case_of (get_or (spread ys.now) i None)) }
 {
-    match (x, y) {
+    match (xs.fields(i), ys.fields(i)) {
         (None, None) => true,
         (Some(x), Some(y)) => same_parts::<B>(x, y),
         _ => false,

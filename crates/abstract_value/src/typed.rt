@@ -1,14 +1,16 @@
 //! Which values have a type.
 
-ghost use Rattle.std.specs.Prelude.{◌≡◌, map, slice_get};
+ghost use Rattle.std.specs.Prelude.{◌≡◌, get_or, length, map, None, slice_get};
 ghost use Rattle.spec_ir.specs.Views as view;
 ghost use Rattle.spec_ir.specs.Views.{specification};
 ghost use Rattle.semantics_values.specs.Types.{environment_of};
-ghost use Rattle.abstract_value_laws.specs.Abs.{cases, parts};
+ghost use Rattle.abstract_value_laws.specs.Abs.{parts};
 ghost use Rattle.abstract_value_laws.specs.Types as types;
 ghost use Rattle.abstract_value_laws.specs.Types.{has_case, has_width, have_cases, have_types, of_data};
-ghost use Rattle.abstract_value.specs.View.{abs, case_of};
+ghost use Rattle.abstract_value.specs.Constructors.{spread};
+ghost use Rattle.abstract_value.specs.View.{abs, case_of, cases_of};
 
+use super::constructors::Constructors;
 use super::value::AbstractValue;
 use base_trait::Base;
 use spec_ir::{Case, Spec, Ty};
@@ -43,8 +45,8 @@ fn has_width(spec: &Spec, number: u32, width: u32) -> bool
 
 /// Whether a datatype is there, with these constructors.
 #[cycle(has_type)]
-fn is_data<B: Base>(spec: &Spec, number: u32, values: &[Option<Vec<AbstractValue<B>>>]) -> bool
-    ensures { result ≡ of_data (slice_get (specification spec.now).datas number) (have_cases (environment_of (specification spec.now)) (cases (map case_of values.now))) }
+fn is_data<B: Base>(spec: &Spec, number: u32, values: &Constructors<AbstractValue<B>>) -> bool
+    ensures { result ≡ of_data (slice_get (specification spec.now).datas number) (have_cases (environment_of (specification spec.now)) (cases_of values.now)) }
 {
     match spec.datas.get(number as usize) {
         Some(data) => have_cases::<B>(spec, values, &data.cases),
@@ -56,28 +58,49 @@ fn is_data<B: Base>(spec: &Spec, number: u32, values: &[Option<Vec<AbstractValue
 #[cycle(has_type)]
 fn have_cases<B: Base>(
     spec: &Spec,
-    values: &[Option<Vec<AbstractValue<B>>>],
+    values: &Constructors<AbstractValue<B>>,
     declared: &[Case],
 ) -> bool
-    ensures { result ≡ have_cases (environment_of (specification spec.now)) (cases (map case_of values.now)) (map view.case_of declared.now) }
+    ensures { result ≡ have_cases (environment_of (specification spec.now)) (cases_of values.now) (map view.case_of declared.now) }
 {
     if values.len() != declared.len() {
         return false;
     }
+    match values.alone() {
+        Some((number, fields)) => have_types::<B>(spec, fields, &declared[number].fields),
+        None => has_each::<B>(spec, values, declared),
+    }
+}
+
+#[cycle(has_type)]
+fn has_each<B: Base>(
+    spec: &Spec,
+    values: &Constructors<AbstractValue<B>>,
+    declared: &[Case],
+) -> bool
+    requires { length (spread values.now) ≡ length declared.now }
+    ensures { result ≡ have_cases (environment_of (specification spec.now)) (cases_of values.now) (map view.case_of declared.now) }
+{
     for i in 0..values.len() {
-        if !has_case::<B>(spec, &values[i], &declared[i]) {
+        if !has_case::<B>(spec, values, i, &declared[i]) {
             return false;
         }
     }
     true
 }
 
+/// Whether the fields of a constructor, if it is present, have their types.
 #[cycle(has_type)]
-fn has_case<B: Base>(spec: &Spec, case: &Option<Vec<AbstractValue<B>>>, declared: &Case) -> bool
-    ensures { result ≡ has_case (environment_of (specification spec.now)) (case_of case.now) (view.case_of declared.now) }
+fn has_case<B: Base>(
+    spec: &Spec,
+    values: &Constructors<AbstractValue<B>>,
+    i: usize,
+    declared: &Case,
+) -> bool
+    ensures { result ≡ has_case (environment_of (specification spec.now)) (case_of (get_or (spread values.now) i None)) (view.case_of declared.now) }
 {
-    match case {
-        Some(parts) => have_types::<B>(spec, parts, &declared.fields),
+    match values.fields(i) {
+        Some(fields) => have_types::<B>(spec, fields, &declared.fields),
         None => true,
     }
 }

@@ -1,5 +1,5 @@
 -- What the domains tell is true.
-use Rattle.std.proofs.Common.{◌≡◌, ℕ, Bool, List, IsTrue, subst}
+use Rattle.std.proofs.Common.{◌≡◌, ℕ, Bool, List, IsTrue, max, subst}
 use Rattle.std.specs.Prelude.{◌&&◌, not}
 use Rattle.base_trait.specs.Algebra.{Algebra}
 use Rattle.base_trait.specs.Laws.{Laws}
@@ -10,6 +10,10 @@ use Rattle.fixpoint_theory.specs.Elements.{Elements}
 use Rattle.domain_laws.specs.declared.field.Field.{Field}
 use Rattle.domain_laws.specs.States.{StateType, has_states, same_states, state_type}
 use Rattle.domain_laws.specs.Calls as cells_of
+use Rattle.domain_laws.proofs.Domain.{states_are}
+use Rattle.base_product.specs.Meaning.{paired}
+use Rattle.domain_product_states.specs.Parts.{pair_elements}
+use Rattle.abstract_value_laws.specs.Abs.{Parts}
 use Rattle.domain_laws.specs.Cells.{cells}
 use Rattle.domain_affine_laws.specs.Calls as relations_of
 use Rattle.domain_affine_laws.specs.Calls.{affine_elements}
@@ -62,3 +66,18 @@ module _ {X Y E F : Type 0} (view : X → E) (second_view : Y → F) (P : Elemen
       let parts = and_parts is (is' && other) made in
       let behind = and_parts is' other parts.1 in
       both_truly (state_type spec).fields (λ x. P.fits (view x)) (λ x. P.holds (view x)) (λ y. Q.fits (second_view y)) (λ y. Q.holds (second_view y)) K L (first parts.0) (second behind.0)
+
+-- cells over two bases
+module _ {V W M N C D : Type 0} (A : Algebra V M C) (B : Algebra W N D) (a : Laws V M C A) (b : Laws W N D B) (low high : ℕ) (c : C × D) (t : StateType) (spec : Spec) (made : IsTrue (cells_of.is_for (paired A B) t spec)) where
+  pub paired_type : t ≡ state_type spec
+  paired_type = states_are (paired A B) t spec made
+
+  pub paired_truly : {X : Type 0} (view : X → Parts V M × Parts W N)
+      → TellTruly (state_type spec).fields (λ x. (pair_elements A B c low high (max low high) t).fits (view x)) (λ x. (pair_elements A B c low high (max low high) t).holds (view x))
+      (seen_by view (pairs_tell (cells_tell A c.0) (cells_tell B c.1)))
+  paired_truly view =
+      let D = pair_elements A B c low high (max low high) t in
+      seen_truly view (state_type spec).fields D (pairs_tell (cells_tell A c.0) (cells_tell B c.1))
+      (subst (λ u. TellTruly u.fields D.fits D.holds (pairs_tell (cells_tell A c.0) (cells_tell B c.1))) paired_type
+      (both_truly t.fields (cells A c.0 low t.fields).fits (cells A c.0 low t.fields).holds (cells B c.1 high t.fields).fits (cells B c.1 high t.fields).holds (cells_tell A c.0) (cells_tell B c.1)
+      (cells_tell_truly A a c.0 low t.fields) (cells_tell_truly B b c.1 high t.fields)))

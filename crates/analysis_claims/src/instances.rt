@@ -8,12 +8,14 @@ ghost use Rattle.analysis_query_laws.specs.Laws.{IsOfCell};
 
 use crate::cells::{cell_differs, cell_within};
 use crate::claim_elem::ClaimElement;
+use crate::pair_cells::{either_differs, either_within};
 use crate::sums::{column_of, meets_all};
 use abstract_value::AbstractValue;
 use base_trait::Base;
 use domain_affine::AffineDomain;
 use domain_cells::StateDomain;
 use domain_product::PairDomain;
+use domain_product_states::{PairedStates, PairedValues};
 use domain_trait::Domain;
 use semantics_values::KeyAt;
 use spec_ir::Spec;
@@ -204,6 +206,65 @@ impl<A: ClaimElement, B: ClaimElement> ClaimElement for PairDomain<A, B> {
         } else {
             self.second.meets(&x.1, form)
         }
+    }
+}
+
+/// Pairs of cells tell of single cells what either part does.
+impl<A: Base, B: Base> ClaimElement for PairedStates<A, B> {
+    ghost use Rattle.domain_cells.specs.Views.{context_of, states_of};
+    ghost use Rattle.analysis_query_laws.specs.Cells.{cells_tell};
+    ghost use Rattle.analysis_query_laws.specs.Pairs.{pairs_tell};
+    ghost use Rattle.domain_product_states.specs.Views.{seen};
+    ghost use Rattle.analysis_claims.specs.Instance.{paired_truly};
+    ghost use Rattle.analysis_claims.specs.Seen.{seen_by};
+
+    ghost telling = { λ it. seen_by seen (pairs_tell (cells_tell A.algebra (context_of it.states).0) (cells_tell B.algebra (context_of it.states).1)) };
+
+    ghost truly = { λ it spec made. paired_truly A.algebra B.algebra A.laws B.laws A.CAP B.CAP (context_of it.states) (states_of it.states) spec made seen };
+
+    fn takes_ranges(&self) -> bool {
+        true
+    }
+
+    fn takes_sums(&self) -> bool {
+        false
+    }
+
+    fn cells(&self) -> u32 {
+        0
+    }
+
+    fn tracked(&self, _field: u32, _key: &KeyAt) -> Option<u32> {
+        None
+    }
+
+    fn in_range(
+        &self,
+        alloc: Global,
+        _spec: &Spec,
+        x: &PairedValues<A, B>,
+        field: u32,
+        key: &KeyAt,
+        lo: u64,
+        hi: u64,
+    ) -> Result<bool, NoMemory> {
+        either_within::<A, B>(alloc, self.states.shared(), x, field, *key, lo, hi)
+    }
+
+    fn excludes(
+        &self,
+        alloc: Global,
+        _spec: &Spec,
+        x: &PairedValues<A, B>,
+        field: u32,
+        key: &KeyAt,
+        value: u64,
+    ) -> Result<bool, NoMemory> {
+        either_differs::<A, B>(alloc, self.states.shared(), x, field, *key, value)
+    }
+
+    fn meets(&self, _x: &PairedValues<A, B>, _form: &Form) -> bool {
+        false
     }
 }
 

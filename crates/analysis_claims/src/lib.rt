@@ -20,6 +20,7 @@ mod claim;
 mod claim_elem;
 mod instances;
 pub mod laws;
+mod pair_cells;
 mod sums;
 
 pub use answering::answer;

@@ -1,12 +1,11 @@
 //! Tables of an image that are left open.
 
 ghost use Rattle.std.specs.Prelude.{◌≡◌, ◌+◌, ◌*◌, ◌≤◌, ◌↔◌, IfOk, length};
-ghost use Rattle.std.specs.BTreeMap.{btree_map_len, get};
-ghost use Rattle.std.specs.Ordering.{nat_cmp};
+ghost use Rattle.std.specs.BTreeMap.{btree_map_len};
 ghost use Rattle.fixpoint_theory.specs.Analysis.{height_of};
 ghost use Rattle.fixpoint_theory.specs.Table.{TableFits};
 ghost use Rattle.fixpoint_theory.specs.Views.{listings};
-ghost use Rattle.fixpoint_open_tables.specs.Endings.{IsClosedButOpen};
+ghost use Rattle.fixpoint_open_tables.specs.Endings.{IsClosedButOpen, ends_in};
 ghost use Rattle.fixpoint_open_tables.specs.LeftOpen.{left_open};
 ghost use Rattle.fixpoint_open_tables.specs.Verdicts.{IsVerdict};
 ghost use Rattle.analysis_transfer.specs.Analysis.{problem};
@@ -16,10 +15,9 @@ ghost use Rattle.analysis_transfer_laws.specs.OpenRuns.{IsTrueUntilOpen};
 use analysis_transfer::ImageAnalysis;
 use base_trait::Base;
 use domain_trait::Domain;
-use fixpoint_open_tables::{Ending, OpenReport};
+use fixpoint_open_tables::{Endings, OpenReport};
 use fixpoint_theory::{Analyser, Table, Verdict};
 use std::alloc::{AllocError as NoMemory, Global};
-use std::collections::BTreeMap;
 use std::sync::ledger::Ledger;
 use support_step_counter::Steps;
 
@@ -37,9 +35,9 @@ pub fn analyse_open<'a, D: Domain, L: Ledger>(
     requires ready { ⟦<ImageAnalysis<'a, D> as Analyser>⟧.IsReady analysis.now }
     ensures value { IfOk result (λ r. IsReportOf (left_open (⟦<ImageAnalysis<'a, D> as Analyser>⟧.analysis analysis.now)) D.view r.report) }
     ensures closed { IfOk result (λ r. IsClosedButOpen (⟦<ImageAnalysis<'a, D> as Analyser>⟧.analysis analysis.now) (listings D.view r.report.table)
-        (get nat_cmp r.endings)) }
+        (ends_in r.endings)) }
     ensures runs { IfOk result (λ r. IsTrueUntilOpen D.B.algebra (D.elements analysis.now.domain.now) (problem analysis.now)
-        (listings D.view r.report.table) (get nat_cmp r.endings)) }
+        (listings D.view r.report.table) (ends_in r.endings)) }
     ensures fits { IfOk result (λ r. TableFits (⟦<ImageAnalysis<'a, D> as Analyser>⟧.analysis analysis.now) (listings D.view r.report.table)) }
     ensures most { steps.new ≤ steps.old + (length (problem analysis.now).addresses *
         (height_of (⟦<ImageAnalysis<'a, D> as Analyser>⟧.analysis analysis.now) + (problem analysis.now).joins + 1) + length (problem analysis.now).addresses) }
@@ -56,16 +54,16 @@ pub fn check_open<'a, D: Domain, L: Ledger>(
     alloc: Global,
     analysis: &ImageAnalysis<'a, D>,
     table: &Table<D::Element>,
-    endings: &BTreeMap<u32, Ending<<D::B as Base>::Word>>,
+    endings: &Endings<<D::B as Base>::Word>,
     steps: &mut Steps<L>,
 ) -> Result<Verdict<<D::B as Base>::Word>, NoMemory>
     requires ready { ⟦<ImageAnalysis<'a, D> as Analyser>⟧.IsReady analysis.now }
     requires table { TableFits (⟦<ImageAnalysis<'a, D> as Analyser>⟧.analysis analysis.now) (listings D.view table.now) }
-    ensures value { IfOk result (IsVerdict (⟦<ImageAnalysis<'a, D> as Analyser>⟧.analysis analysis.now) (listings D.view table.now) (get nat_cmp endings.now)) }
+    ensures value { IfOk result (IsVerdict (⟦<ImageAnalysis<'a, D> as Analyser>⟧.analysis analysis.now) (listings D.view table.now) (ends_in endings.now)) }
     ensures accepted { IfOk result (λ v. (v ≡ Verdict.Accepted) ↔ IsClosedButOpen (⟦<ImageAnalysis<'a, D> as Analyser>⟧.analysis analysis.now)
-        (listings D.view table.now) (get nat_cmp endings.now)) }
+        (listings D.view table.now) (ends_in endings.now)) }
     ensures runs { IfOk result (λ v. v ≡ Verdict.Accepted → IsTrueUntilOpen D.B.algebra (D.elements analysis.now.domain.now) (problem analysis.now)
-        (listings D.view table.now) (get nat_cmp endings.now)) }
+        (listings D.view table.now) (ends_in endings.now)) }
     ensures most { steps.new ≤ steps.old + (btree_map_len table.now.blocks + btree_map_len table.now.blocks) }
 {
     fixpoint_open_tables::check(alloc, analysis, table, endings, steps)

@@ -1,5 +1,5 @@
 -- The counter of a state value.
-use Rattle.std.proofs.Common.{◌≡◌, ℕ, List, [], ◌∷◌, Option, Some, None, Vec, Global, length, map, slice_get, refl, sym, ap, subst, ◌∙◌}
+use Rattle.std.proofs.Common.{◌≡◌, ℕ, List, [], ◌∷◌, Option, Some, None, arith, get_or, length, map, slice_get, refl, sym, ap, subst, ◌∙◌}
 use Rattle.base_trait.specs.Algebra.{Algebra}
 use Rattle.abstract_value_laws.specs.Abs.{Abs, Cases, flag, word, made, map as mapped, no_case, absent, present, no_part, part, cases, parts}
 use Rattle.abstract_value.specs.View.{abs, case_of}
@@ -49,9 +49,20 @@ module _ {X W N C : Type 0} where
   none_there (x ∷ xs) e = absurd cc
 
   -- of several constructors or none there is no word
-  pub not_one : (cs : List (Option (Vec (AbstractValue X W N C) Global))) → (length cs ≡ 1 → ⊥) → word_in (cases (map case_of cs)) ≡ None
+  pub not_one : (cs : List (Option (List (AbstractValue X W N C)))) → (length cs ≡ 1 → ⊥) → word_in (cases (map case_of cs)) ≡ None
   not_one [] h = refl
   not_one (None ∷ cs) h = refl
-  not_one (Some v ∷ []) h = absurd (h refl)
-  not_one (Some v ∷ None ∷ cs) h = refl
-  not_one (Some v ∷ Some u ∷ cs) h = refl
+  not_one (Some f ∷ []) h = absurd (h refl)
+  not_one (Some f ∷ None ∷ cs) h = refl
+  not_one (Some f ∷ Some g ∷ cs) h = refl
+
+  -- the one constructor, present and missing
+  pub one_is : (cs : List (Option (List (AbstractValue X W N C)))) (f : List (AbstractValue X W N C)) → length cs ≡ 1 → get_or cs 0 None ≡ Some f → first_word (parts (map abs f)) ≡ word_in (cases (map case_of cs))
+  one_is [] f n e = absurd (omega (arith, n))
+  one_is (y ∷ z ∷ cs) f n e = absurd (omega (arith, n))
+  one_is (y ∷ []) f n e = ap (λ t. word_in (cases (case_of t ∷ []))) (sym e)
+
+  pub none_is : (cs : List (Option (List (AbstractValue X W N C)))) → length cs ≡ 1 → get_or cs 0 None ≡ None → None ≡ word_in (cases (map case_of cs))
+  none_is [] n e = absurd (omega (arith, n))
+  none_is (y ∷ z ∷ cs) n e = absurd (omega (arith, n))
+  none_is (y ∷ []) n e = ap (λ t. word_in (cases (case_of t ∷ []))) (sym e)

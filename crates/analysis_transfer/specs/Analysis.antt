@@ -5,7 +5,7 @@ use Rattle.base_trait.specs.Algebra.{Algebra}
 use Rattle.base_trait.specs.Precision.{joined_turns, unrolled_turns}
 use Rattle.spec_ir.specs.Specification.{Spec}
 use Rattle.spec_ir.specs.Views.{specification}
-use Rattle.eval_code.specs.Code.{IsCodeOf}
+use Rattle.eval_code.specs.Lowered.{IsCodeOf}
 use Rattle.eval_code.specs.Views.{code}
 use Rattle.code_image.specs.Decoders.{IsDecoderOf}
 use Rattle.state_text.specs.Reading.{entry_of}

@@ -2,12 +2,12 @@
 
 ghost use Rattle.std.specs.Prelude.{◌≡◌, map, option_map, slice_get};
 ghost use Rattle.std.specs.Option.{option_copied};
-ghost use Rattle.abstract_value_laws.specs.Abs.{cases, parts};
-ghost use Rattle.abstract_value.specs.View.{abs, case_of};
+ghost use Rattle.abstract_value_laws.specs.Abs.{parts};
+ghost use Rattle.abstract_value.specs.View.{abs, cases_of};
 ghost use Rattle.analysis_transfer_laws.specs.Transfer as plain;
 ghost use Rattle.analysis_transfer.specs.Counters.{first_word, word_in, word_of};
 
-use abstract_value::AbstractValue;
+use abstract_value::{AbstractValue, Constructors};
 use base_trait::Base;
 
 /// The width and the word of the first field of the one constructor of a value; none of another value.
@@ -21,13 +21,13 @@ pub(crate) fn counter_of<B: Base>(state: &AbstractValue<B>) -> Option<(u32, &B::
 }
 
 /// The word of the first field of the one constructor.
-fn of_one<B: Base>(values: &[Option<Vec<AbstractValue<B>>>]) -> Option<(u32, &B::Word)>
-    ensures { option_map (λ c. (c.0, c.1.now)) result ≡ word_in (cases (map case_of values.now)) }
+fn of_one<B: Base>(values: &Constructors<AbstractValue<B>>) -> Option<(u32, &B::Word)>
+    ensures { option_map (λ c. (c.0, c.1.now)) result ≡ word_in (cases_of values.now) }
 {
     if values.len() != 1 {
         return None;
     }
-    match &values[0] {
+    match values.fields(0) {
         Some(fields) => first_word(fields),
         None => None,
     }

@@ -2,6 +2,7 @@
 
 use super::beside::pair_results;
 use super::members::allowed;
+use super::pair::Pair;
 use base_trait::{Base, Tri};
 use std::alloc::{AllocError as NoMemory, Global};
 use std::marker::PhantomData;
@@ -21,11 +22,11 @@ impl<A: Base, B: Base> Base for Paired<A, B> {
     ghost use Rattle.base_product.specs.Instance.{paired_laws, same_pairs, paired_capacity};
     ghost use Rattle.base_product.specs.Meaning.{paired};
 
-    type Word = (A::Word, B::Word);
+    type Word = Pair<A::Word, B::Word>;
 
-    type Note = (A::Note, B::Note);
+    type Note = Pair<A::Note, B::Note>;
 
-    type Ctx = (A::Ctx, B::Ctx);
+    type Ctx = Pair<A::Ctx, B::Ctx>;
 
     const CAP: u64 = if A::CAP < B::CAP { B::CAP } else { A::CAP };
 

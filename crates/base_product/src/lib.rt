@@ -9,5 +9,8 @@
 mod base;
 mod beside;
 mod members;
+mod notes;
+mod pair;
 
 pub use base::Paired;
+pub use pair::Pair;

@@ -1,5 +1,5 @@
 -- The concrete values of abstract ones, by their views.
-use Rattle.std.proofs.Common.{◌≡◌, ℕ, zero, suc, ◌+◌, List, [], ◌∷◌, ◌++◌, Option, Some, None, map, option_map, take, slice_get, refl, sym, ap, ◌∙◌, arith}
+use Rattle.std.proofs.Common.{◌≡◌, ℕ, zero, suc, ◌+◌, ◌<◌, length, get_or, drop, List, [], ◌∷◌, ◌++◌, Option, Some, None, map, option_map, take, slice_get, refl, sym, ap, ◌∙◌, arith}
 use Rattle.std.specs.Prelude.{slice_index}
 use Rattle.std.proofs.lemmas.Option.{slice_get-map}
 use Rattle.base_trait.specs.declared.uses.Stamp.{Stamp}
@@ -7,11 +7,13 @@ use Rattle.base_concrete.specs.declared.Concrete.{Concrete}
 use Rattle.abstract_map_laws.specs.declared.cell.AbstractCell.{AbstractCell}
 use Rattle.abstract_map_laws.specs.Maps.{Map, keys}
 use Rattle.semantics_values.specs.declared.value.Cell.{Cell as ConcreteCell}
-use Rattle.semantics_values.specs.Values.{vals, val_then}
-use Rattle.abstract_value_laws.specs.Abs.{parts}
-use Rattle.abstract_value.specs.View.{abs}
+use Rattle.semantics_values.specs.Values.{made, vals, val_then}
+use Rattle.abstract_value_laws.specs.Abs.{cases, parts}
+use Rattle.abstract_value.specs.View.{abs, case_of}
 use Rattle.abstract_value.specs.declared.value.AbstractValue.{AbstractValue}
-use Rattle.concrete_calls.specs.Values.{cell_in, cells_in, value_in, values_in}
+use Rattle.abstract_value.proofs.Places.{at_itself}
+use Rattle.spec_match_compiler.proofs.Loops.{drop_here}
+use Rattle.concrete_calls.specs.Values.{case_in, cell_in, cells_in, value_in, values_in}
 
 -- fields one after another
 pub values_there : (xs : List (AbstractValue Concrete ℕ Stamp (Unit {0}))) → vals (map (λ x. value_in (abs x)) xs) ≡ values_in (parts (map abs xs))
@@ -37,3 +39,14 @@ pub cell_more : (m : Map ℕ Stamp) (out new : List (ℕ × ConcreteCell)) (i nu
 cell_more m out new i number key x so_far here named pushed =
     let same : number ≡ key = some_same (sym (ap (option_map (λ e. e.0)) here) ∙ sym (slice_get-map (λ e. e.0) m.cells i) ∙ named) in
     pushed ∙ ap (λ xs. xs ++ (key, cell_in x) ∷ []) so_far ∙ ap (λ k. cells_in (take i m.cells) ++ (k, cell_in x) ∷ []) (sym same) ∙ sym (cells_more (take i m.cells) (number, x)) ∙ sym (ap cells_in (taken_more m.cells i (number, x) here))
+
+-- ---- constructors
+module _ (ty : ℕ) where
+  -- one after another
+  pub some_here : (cs : List (Option (List (AbstractValue Concrete ℕ Stamp (Unit {0}))))) (i : ℕ) (f : List (AbstractValue Concrete ℕ Stamp (Unit {0}))) → i < length cs → get_or cs i None ≡ Some f → case_in ty i (cases (map case_of (drop i cs))) ≡ made ty i (values_in (parts (map abs f)))
+  some_here cs i f l e = ap (λ z. case_in ty i (cases (map case_of z))) (drop_here cs i (Some f) (sym e ∙ at_itself cs i None l ∙ ap (get_or cs i) e) l)
+
+  pub none_here : (cs : List (Option (List (AbstractValue Concrete ℕ Stamp (Unit {0}))))) (i : ℕ) → i < length cs → get_or cs i None ≡ None → case_in ty i (cases (map case_of (drop i cs))) ≡ case_in ty (i + 1) (cases (map case_of (drop (i + 1) cs)))
+  none_here cs i l e =
+      let next : suc i ≡ i + 1 = omega arith in
+      ap (λ z. case_in ty i (cases (map case_of z))) (drop_here cs i None (sym e ∙ at_itself cs i None l ∙ ap (get_or cs i) e) l) ∙ ap (λ n. case_in ty n (cases (map case_of (drop (i + 1) cs)))) next

@@ -6,7 +6,7 @@ ghost use Rattle.spec_ir.specs.Views.{specification};
 ghost use Rattle.semantics_values.specs.Values.{Val};
 ghost use Rattle.semantics.specs.Runs.{meaning};
 ghost use Rattle.semantics_laws.specs.Accepted.{IsAccepted};
-ghost use Rattle.eval_code.specs.Code.{IsCodeOf};
+ghost use Rattle.eval_code.specs.Lowered.{IsCodeOf};
 ghost use Rattle.eval_code.specs.Views.{code};
 ghost use Rattle.abstract_value.specs.View.{abs};
 ghost use Rattle.concrete_calls.specs.Laws.{AreArgumentsFor};

@@ -4,12 +4,12 @@ ghost use Rattle.std.specs.Prelude.{◌≡◌, IfOk, map};
 ghost use Rattle.semantics_values.specs.Values as v;
 ghost use Rattle.semantics_values.specs.Values.{vals};
 ghost use Rattle.semantics_values.specs.Views.{map_val, val};
-ghost use Rattle.abstract_value_laws.specs.Abs.{cases, parts};
-ghost use Rattle.abstract_value.specs.View.{abs, case_of};
+ghost use Rattle.abstract_value_laws.specs.Abs.{parts};
+ghost use Rattle.abstract_value.specs.View.{abs, cases_of};
 ghost use Rattle.concrete_calls.specs.Values.{case_in, cell_in, cells_in, value_in, values_in};
 
 use abstract_map::AbstractMap;
-use abstract_value::AbstractValue;
+use abstract_value::{AbstractValue, Constructors};
 use base_concrete::Concrete;
 use base_trait::Stamp;
 use semantics_values::{Cell, MapValue, Value};
@@ -34,12 +34,12 @@ pub fn value_in(alloc: Global, x: &AbstractValue<Concrete>) -> Result<Value, NoM
 fn case_in(
     alloc: Global,
     ty: u32,
-    constructors: &[Option<Vec<AbstractValue<Concrete>>>],
+    constructors: &Constructors<AbstractValue<Concrete>>,
 ) -> Result<Value, NoMemory>
-    ensures { IfOk result (λ r. val r ≡ case_in ty 0 (cases (map case_of constructors.now))) }
+    ensures { IfOk result (λ r. val r ≡ case_in ty 0 (cases_of constructors.now)) }
 {
     for i in 0..constructors.len() {
-        if let Some(fields) = &constructors[i] {
+        if let Some(fields) = constructors.fields(i) {
             return make_constructor(ty, i, values_in(alloc, fields)?);
         }
     }

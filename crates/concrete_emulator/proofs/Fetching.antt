@@ -10,11 +10,16 @@ use Rattle.semantics.specs.Runs as r
 use Rattle.semantics.specs.Runs.{executed, fetched, meaning, step, stepped_of}
 use Rattle.abstract_value_laws.specs.Abs.{Abs}
 use Rattle.base_trait.specs.declared.uses.Stamp.{Stamp}
+use Rattle.code_image.specs.Decoders.{decoding, instr_of}
 use Rattle.concrete_emulator.specs.States.{Shows, counter_in}
 use Rattle.concrete_emulator.proofs.Standing.{counter_shown}
 
 pub counter_is : (spec : Spec) (ty : ℕ) (s : State) (x : Abs ℕ Stamp) (at : ℕ) → Shows spec ty s x → counter_in x ≡ Some at → at ≡ s.pc
 counter_is spec ty s x at h is = same_some at s.pc (sym is ∙ counter_shown spec ty s x h)
+
+-- The instruction that a word is has the number of the machine's datatype of instructions.
+pub decoding_is : (spec : Spec) (m : Machine) (code_word : ℕ) (p : Option Val) → spec.machine ≡ Some m → decoding spec code_word ≡ p → decoded m.instr spec.rows code_word ≡ p
+decoding_is spec m code_word p e is = sym (ap (λ x. decoded (instr_of x) spec.rows code_word) e) ∙ is
 
 module _ (spec : Spec) (m : Machine) (code : ℕ → Option ℕ) (d : ℕ) (s : State) (at : ℕ) (e : at ≡ s.pc) where
   fetched_is : (o : Option ℕ) → code at ≡ o → step spec m code d s ≡ fetched spec m code d s o

@@ -7,12 +7,12 @@ ghost use Rattle.semantics_values.specs.Types.{environment_of};
 ghost use Rattle.semantics_values.specs.Views.{state};
 ghost use Rattle.semantics_laws.specs.Accepted.{IsAccepted};
 ghost use Rattle.semantics_laws.specs.KeptTypes.{IsTypedState};
-ghost use Rattle.abstract_value_laws.specs.Abs.{cases, parts};
-ghost use Rattle.abstract_value.specs.View.{abs, case_of};
+ghost use Rattle.abstract_value_laws.specs.Abs.{parts};
+ghost use Rattle.abstract_value.specs.View.{abs, cases_of};
 ghost use Rattle.concrete_emulator.specs.States.{IsLast, IsOfState, IsStateValue, Shows, counter_in, counter_in_cases, counter_in_fields};
 
 use crate::values::{state_of, value_of};
-use abstract_value::AbstractValue;
+use abstract_value::{AbstractValue, Constructors};
 use base_concrete::Concrete;
 use concrete_calls::value_in;
 use semantics_values::State;
@@ -46,10 +46,10 @@ pub(crate) fn counter(s: &AbstractValue<Concrete>) -> Option<u32>
 }
 
 /// The counter among the fields of the first constructor.
-fn counter_in_cases(constructors: &[Option<Vec<AbstractValue<Concrete>>>]) -> Option<u32>
-    ensures { result ≡ counter_in_cases (cases (map case_of constructors.now)) }
+fn counter_in_cases(constructors: &Constructors<AbstractValue<Concrete>>) -> Option<u32>
+    ensures { result ≡ counter_in_cases (cases_of constructors.now) }
 {
-    match constructors.first()? {
+    match constructors.fields(0) {
         Some(fields) => counter_in_fields(fields),
         None => None,
     }

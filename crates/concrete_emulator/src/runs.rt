@@ -4,21 +4,22 @@ ghost use Rattle.std.specs.Prelude.{◌≡◌, ℕ, Some, IfOk, IsSome};
 ghost use Rattle.spec_ir.specs.Views.{specification};
 ghost use Rattle.semantics_values.specs.Types.{environment_of};
 ghost use Rattle.semantics_values.specs.Views.{state};
-ghost use Rattle.semantics.specs.Runs.{after};
 ghost use Rattle.semantics_laws.specs.Accepted.{IsAccepted};
 ghost use Rattle.semantics_laws.specs.KeptTypes.{IsTypedState};
-ghost use Rattle.eval_code.specs.Code.{IsCodeOf};
-ghost use Rattle.eval_code.specs.Views.{code};
 ghost use Rattle.code_image.specs.Decoders.{IsDecoderOf};
 ghost use Rattle.code_image.specs.Image.{code_at};
+ghost use Rattle.concrete_emulator.specs.Emulators.{IsReady, end_of, spec_of};
+ghost use Rattle.concrete_emulator.specs.Instructions.{AreInstructions, entries};
 ghost use Rattle.concrete_emulator.specs.Ends.{IsEmulated, IsEnd, IsRun, IsStateOf};
 
 use crate::abstract_states::{last, value_of_state};
+use crate::emulator::Emulator;
+use crate::instructions::Instructions;
 use crate::step::{MachineStep, step};
 use code_image::{Decoder, Image};
-use eval_code::{EvaluatorCode, lower};
+use eval_code_lowering::lower;
 use semantics_values::State;
-use spec_ir::{Machine, Spec};
+use spec_ir::Spec;
 use state_text::Stop;
 use std::alloc::{AllocError, Global};
 
@@ -57,14 +58,19 @@ pub fn emulate(
         unreachable!();
     };
     let cir = lower(alloc, spec)?;
-    match run_steps(
-        alloc, spec, &cir, machine, decoder, image, &start, bound, turns,
-    )? {
+    let emulator = Emulator {
+        spec,
+        cir: &cir,
+        machine,
+        decoder,
+        image,
+        turns,
+    };
+    let mut instructions = Instructions::new(alloc);
+    match run_steps(alloc, &emulator, &mut instructions, &start, bound)? {
         Run::Ended(end) => Ok(end),
         Run::OutOfFuel(done) => {
-            match run_steps(
-                alloc, spec, &cir, machine, decoder, image, &start, done, turns,
-            )? {
+            match run_steps(alloc, &emulator, &mut instructions, &start, done)? {
                 Run::Ended(before) => Ok(stopped_by_turns(before)),
                 Run::OutOfFuel(_) => unreachable!(),
             }
@@ -87,25 +93,20 @@ fn stopped_by_turns(before: EmulatedRun) -> EmulatedRun
 /// Does at most `bound` steps from a state. Where one is deep, the state before it is gone.
 fn run_steps(
     alloc: Global,
-    spec: &Spec,
-    cir: &EvaluatorCode,
-    machine: Machine,
-    decoder: &Decoder,
-    image: &Image,
+    emulator: &Emulator,
+    instructions: &mut Instructions,
     start: &State,
     bound: u64,
-    turns: u32,
 ) -> Result<Run, AllocError>
-    requires accepted { IsAccepted (specification spec.now) }
-    requires machine { (specification spec.now).machine ≡ Some machine }
-    requires code { IsCodeOf (code cir.now) (specification spec.now) }
-    requires decoder { IsDecoderOf (specification spec.now).rows decoder.now }
-    requires typed { IsTypedState (environment_of (specification spec.now)) machine.state (state start.now) }
-    ensures { IfOk result (λ r. IsRun (after (specification spec.now) machine (code_at image.now) turns bound (state start.now)) r) }
+    requires ready { IsReady emulator.now }
+    requires known { AreInstructions emulator.now (entries instructions.old) }
+    requires typed { IsTypedState (environment_of (spec_of emulator.now)) emulator.now.machine.state (state start.now) }
+    ensures known { AreInstructions emulator.now (entries instructions.new) }
+    ensures end { IfOk result (λ r. IsRun (end_of emulator.now bound (state start.now)) r) }
 {
-    let mut s = value_of_state(alloc, spec, machine, start)?;
+    let mut s = value_of_state(alloc, emulator.spec, emulator.machine, start)?;
     for done in 0..bound {
-        match step(alloc, spec, cir, machine, decoder, image, s, turns)? {
+        match step(alloc, emulator, instructions, s)? {
             MachineStep::To(next) => s = next,
             MachineStep::Left(same) => {
                 let state = last(alloc, &same)?;

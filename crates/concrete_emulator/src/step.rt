@@ -1,29 +1,19 @@
 //! One step of a machine.
 
-ghost use Rattle.std.specs.Prelude.{◌≡◌, true, [], ◌∷◌, Some, IfOk};
-ghost use Rattle.spec_ir.specs.declared.ty.Ty.TheVariants as ty;
-ghost use Rattle.spec_ir.specs.Views.{specification};
+ghost use Rattle.std.specs.Prelude.{◌≡◌, Some, IfOk};
 ghost use Rattle.semantics_values.specs.States as states;
-ghost use Rattle.semantics_values.specs.Types.{environment_of, has_type};
-ghost use Rattle.semantics_values.specs.Views.{val};
-ghost use Rattle.semantics.specs.Runs.{meaning, step, stepped_of};
-ghost use Rattle.semantics_laws.specs.Accepted.{IsAccepted};
-ghost use Rattle.eval_code.specs.Code.{IsCodeOf};
-ghost use Rattle.eval_code.specs.Views.{code};
-ghost use Rattle.code_image.specs.Decoders.{IsDecoderOf};
-ghost use Rattle.code_image.specs.Image.{code_at};
 ghost use Rattle.abstract_value.specs.View.{abs};
+ghost use Rattle.concrete_emulator.specs.Emulators.{IsReady, spec_of, step_of};
+ghost use Rattle.concrete_emulator.specs.Instructions.{AreInstructions, IsInstructionAt, entries};
 ghost use Rattle.concrete_emulator.specs.States.{Shows, ShowsState, counter_in};
 ghost use Rattle.concrete_emulator.specs.Values.{IsStepped};
 
 use crate::abstract_states::counter;
+use crate::emulator::Emulator;
+use crate::instructions::{Fetched, Instructions};
 use abstract_value::AbstractValue;
 use base_concrete::Concrete;
-use code_image::{Decoder, Image};
 use concrete_calls::{CallResult, evaluate_call};
-use eval_code::EvaluatorCode;
-use semantics_values::Value;
-use spec_ir::{Machine, Spec};
 use std::alloc::{AllocError, Global};
 
 /// What a step comes to: the next state; the same state, where there is no code word, or one that is no instruction; or that
@@ -39,58 +29,54 @@ pub(crate) enum MachineStep {
 /// One step from a state.
 pub(crate) fn step(
     alloc: Global,
-    spec: &Spec,
-    cir: &EvaluatorCode,
-    machine: Machine,
-    decoder: &Decoder,
-    image: &Image,
+    emulator: &Emulator,
+    instructions: &mut Instructions,
     s: AbstractValue<Concrete>,
-    turns: u32,
 ) -> Result<MachineStep, AllocError>
-    requires accepted { IsAccepted (specification spec.now) }
-    requires machine { (specification spec.now).machine ≡ Some machine }
-    requires code { IsCodeOf (code cir.now) (specification spec.now) }
-    requires decoder { IsDecoderOf (specification spec.now).rows decoder.now }
-    requires state { ShowsState (specification spec.now) machine.state (abs s) }
-    ensures { (t : states.State) → Shows (specification spec.now) machine.state t (abs s)
-        → IfOk result (λ r. IsStepped (specification spec.now) machine.state t r (step (specification spec.now) machine (code_at image.now) turns t)) }
+    requires ready { IsReady emulator.now }
+    requires known { AreInstructions emulator.now (entries instructions.old) }
+    requires state { ShowsState (spec_of emulator.now) emulator.now.machine.state (abs s) }
+    ensures known { AreInstructions emulator.now (entries instructions.new) }
+    ensures stepped { (t : states.State) → Shows (spec_of emulator.now) emulator.now.machine.state t (abs s)
+        → IfOk result (λ r. IsStepped (spec_of emulator.now) emulator.now.machine.state t r (step_of emulator.now t)) }
 {
     let Some(at) = counter(&s) else {
         unreachable!();
     };
-    match image.fetch(at) {
-        None => Ok(MachineStep::Left(s)),
-        Some(word) => match decoder.find(alloc, spec, word)? {
-            None => Ok(MachineStep::Undecodable(s, word)),
-            Some(instruction) => execute(alloc, spec, cir, machine, &instruction, s, at, turns),
-        },
+    match instructions.fetch(alloc, emulator, at)? {
+        Fetched::NoCode => Ok(MachineStep::Left(s)),
+        Fetched::NoInstruction(word) => Ok(MachineStep::Undecodable(s, word)),
+        Fetched::Instruction(instruction) => execute(alloc, emulator, instruction, s, at),
     }
 }
 
-/// The effect of an instruction on a state, whose counter is `at`.
+/// The effect of the instruction at an address on a state, whose counter is `at`.
 fn execute(
     alloc: Global,
-    spec: &Spec,
-    cir: &EvaluatorCode,
-    machine: Machine,
-    instruction: &Value,
+    emulator: &Emulator,
+    instruction: AbstractValue<Concrete>,
     s: AbstractValue<Concrete>,
     at: u32,
-    turns: u32,
 ) -> Result<MachineStep, AllocError>
-    requires accepted { IsAccepted (specification spec.now) }
-    requires machine { (specification spec.now).machine ≡ Some machine }
-    requires code { IsCodeOf (code cir.now) (specification spec.now) }
-    requires instruction { has_type (environment_of (specification spec.now)) (val instruction.now) (ty.Data machine.instr) ≡ true }
-    requires state { ShowsState (specification spec.now) machine.state (abs s) }
+    requires ready { IsReady emulator.now }
+    requires instruction { IsInstructionAt emulator.now at (abs instruction) }
+    requires state { ShowsState (spec_of emulator.now) emulator.now.machine.state (abs s) }
     requires at { counter_in (abs s) ≡ Some at }
-    ensures { (t : states.State) → Shows (specification spec.now) machine.state t (abs s)
-        → IfOk result (λ r. IsStepped (specification spec.now) machine.state t r (stepped_of (meaning (specification spec.now) at turns machine.interp (val instruction.now ∷ states.value_of machine.state t ∷ []) []))) }
+    ensures { (t : states.State) → Shows (spec_of emulator.now) emulator.now.machine.state t (abs s)
+        → IfOk result (λ r. IsStepped (spec_of emulator.now) emulator.now.machine.state t r (step_of emulator.now t)) }
 {
     let mut args = Vec::with_capacity(alloc, 2)?;
-    args.push(AbstractValue::of_value(alloc, &(), spec, instruction)?)?;
+    args.push(instruction)?;
     args.push(s)?;
-    match evaluate_call(alloc, spec, cir, machine.interp, args, at, turns)? {
+    match evaluate_call(
+        alloc,
+        emulator.spec,
+        emulator.cir,
+        emulator.machine.interp,
+        args,
+        at,
+        emulator.turns,
+    )? {
         CallResult::OutOfFuel => Ok(MachineStep::OutOfFuel),
         CallResult::Done(next) => Ok(MachineStep::To(next)),
     }

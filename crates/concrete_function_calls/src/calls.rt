@@ -12,7 +12,7 @@ ghost use Rattle.concrete_function_calls.specs.Written.{IsWrittenCall};
 
 use crate::arguments::arguments;
 use concrete_calls::{CallResult, evaluate_call, standing, value_in};
-use eval_code::lower;
+use eval_code_lowering::lower;
 use semantics_values::Value;
 use spec_ir::{Fun, Spec, Ty};
 use std::alloc::{AllocError, Global};

@@ -16,7 +16,7 @@ ghost use Rattle.abstract_value.specs.View.{abs};
 
 use abstract_map::AbstractMap;
 use abstract_map_laws::AbstractCell;
-use abstract_value::AbstractValue;
+use abstract_value::{AbstractValue, one_case};
 use base_trait::Base;
 use domain_affine_base::{Affine, Tracked, Word};
 use domain_affine_elements::open_cell;
@@ -194,10 +194,8 @@ pub(crate) fn open_state(
         x: Word::Const(u64::from(pc)),
     })?;
     push_values(alloc, ctx, &mut values, words, fields)?;
-    Ok(AbstractValue::Data {
-        ty: number,
-        cases: vec![in alloc; Some(values)]?,
-    })
+    let cases = one_case(alloc, 1, 0, values)?;
+    Ok(AbstractValue::Data { ty: number, cases })
 }
 
 /// The values of the fields behind the counter, behind others.

@@ -29,7 +29,8 @@ use Rattle.domain_laws.proofs.Lines.{of_field}
 use Rattle.domain_laws.specs.Entry.{entry_value, entry_values, with_cell, with_cells}
 use Rattle.abstract_value.proofs.Merging.{map_push, parts_onto_more}
 use Rattle.abstract_value.proofs.Views.{abs_Data}
-use Rattle.abstract_value.specs.View.{abs, case_of}
+use Rattle.abstract_value.specs.View.{abs, case_of, cases_of}
+use Rattle.abstract_value.specs.declared.constructors.Constructors.{Constructors}
 use Rattle.abstract_value.specs.declared.value.AbstractValue.{AbstractValue, Data}
 use Rattle.spec_match_compiler.proofs.Loops.{drop_here}
 
@@ -48,36 +49,35 @@ each_get P (x ∷ xs) (suc i) d l h = each_get P xs i d (omega (arith, l)) h.1
 
 module _ {X W N C : Type 0} where
   -- there are no fields behind the first of several constructors
-  pub not_one : (cs : List (Option (Vec (AbstractValue X W N C) Global))) → (length cs ≡ 1 → ⊥) → behind_first (cases (map case_of cs)) ≡ no_part
+  pub not_one : (cs : List (Option (List (AbstractValue X W N C)))) → (length cs ≡ 1 → ⊥) → behind_first (cases (map case_of cs)) ≡ no_part
   not_one [] h = refl
   not_one (None ∷ cs) h = refl
-  not_one (Some v ∷ []) h = absurd (h refl)
-  not_one (Some v ∷ None ∷ cs) h = of_more (map abs v.items)
+  not_one (Some f ∷ []) h = absurd (h refl)
+  not_one (Some f ∷ None ∷ cs) h = of_more (map abs f)
     where
       of_more : (l : List (Abs W N)) → behind_first (cases (Some (parts l) ∷ None ∷ map case_of cs)) ≡ no_part
       of_more [] = refl
       of_more (x ∷ l) = refl
-  not_one (Some v ∷ Some u ∷ cs) h = of_more (map abs v.items)
+  not_one (Some f ∷ Some g ∷ cs) h = of_more (map abs f)
     where
-      of_more : (l : List (Abs W N)) → behind_first (cases (Some (parts l) ∷ Some (parts (map abs u.items)) ∷ map case_of cs)) ≡ no_part
+      of_more : (l : List (Abs W N)) → behind_first (cases (Some (parts l) ∷ Some (parts (map abs g)) ∷ map case_of cs)) ≡ no_part
       of_more [] = refl
       of_more (x ∷ l) = refl
 
   -- the one constructor, present and missing
-  pub one_is : (cs : List (Option (Vec (AbstractValue X W N C) Global))) (x : Option (Vec (AbstractValue X W N C) Global)) (v : Vec (AbstractValue X W N C) Global) (l r : List (AbstractValue X W N C)) → length cs ≡ 1 → x ≡ get_or cs 0 x → x ≡ Some v → l ≡ v.items → r ≡ drop 1 l
-      → parts (map abs r) ≡ behind_first (cases (map case_of cs))
-  one_is [] x v l r n is e k h = absurd (omega (arith, n))
-  one_is (y ∷ z ∷ cs) x v l r n is e k h = absurd (omega (arith, n))
-  one_is (y ∷ []) x v l r n is e k h = ap (λ t. parts (map abs t)) (h ∙ ap (drop 1) k) ∙ others v.items ∙ ap (λ t. behind_first (cases (case_of t ∷ []))) (sym e ∙ is)
+  pub one_is : (cs : List (Option (List (AbstractValue X W N C)))) (f r : List (AbstractValue X W N C)) → length cs ≡ 1 → get_or cs 0 None ≡ Some f → r ≡ drop 1 f → parts (map abs r) ≡ behind_first (cases (map case_of cs))
+  one_is [] f r n e h = absurd (omega (arith, n))
+  one_is (y ∷ z ∷ cs) f r n e h = absurd (omega (arith, n))
+  one_is (y ∷ []) f r n e h = ap (λ t. parts (map abs t)) h ∙ others f ∙ ap (λ t. behind_first (cases (case_of t ∷ []))) (sym e)
     where
       others : (vs : List (AbstractValue X W N C)) → parts (map abs (drop 1 vs)) ≡ behind_first (cases (Some (parts (map abs vs)) ∷ []))
       others [] = refl
       others (w ∷ vs) = refl
 
-  pub none_is : (cs : List (Option (Vec (AbstractValue X W N C) Global))) (x : Option (Vec (AbstractValue X W N C) Global)) → length cs ≡ 1 → x ≡ get_or cs 0 x → x ≡ None → no_part ≡ behind_first (cases (map case_of cs))
-  none_is [] x n is e = absurd (omega (arith, n))
-  none_is (y ∷ z ∷ cs) x n is e = absurd (omega (arith, n))
-  none_is (y ∷ []) x n is e = ap (λ t. behind_first (cases (case_of t ∷ []))) (sym e ∙ is)
+  pub none_is : (cs : List (Option (List (AbstractValue X W N C)))) → length cs ≡ 1 → get_or cs 0 None ≡ None → no_part ≡ behind_first (cases (map case_of cs))
+  none_is [] n e = absurd (omega (arith, n))
+  none_is (y ∷ z ∷ cs) n e = absurd (omega (arith, n))
+  none_is (y ∷ []) n e = ap (λ t. behind_first (cases (case_of t ∷ []))) (sym e)
 
 -- ---- one more step of a loop
 
@@ -105,7 +105,7 @@ module _ {X W N C : Type 0} where
   counted (Err z) k room first values r e p d h = absurd p
 
   -- the state value of these
-  pub opened_is : (number : ℕ) (k : W) (fields values : List (AbstractValue X W N C)) (cs : Vec (Option (Vec (AbstractValue X W N C) Global)) Global) → cases (map case_of cs.items) ≡ one_case 1 0 (parts (map abs fields)) → parts (map abs fields) ≡ part (word 32 k) (parts (map abs values))
+  pub opened_is : (number : ℕ) (k : W) (fields values : List (AbstractValue X W N C)) (cs : Constructors (AbstractValue X W N C)) → cases_of cs ≡ one_case 1 0 (parts (map abs fields)) → parts (map abs fields) ≡ part (word 32 k) (parts (map abs values))
       → abs (Data number cs) ≡ made_state number k (parts (map abs values))
   opened_is number k fields values cs p q = abs_Data number cs ∙ ap (made number) (p ∙ ap (one_case 1 0) q)
 

@@ -45,6 +45,13 @@ impl<B: Base> StateDomain<B> {
             fields: fields_of(alloc, spec)?,
         })
     }
+
+    /// What its words share.
+    pub fn shared(&self) -> &B::Ctx
+        ensures { result.now ≡ context_of self.now }
+    {
+        &self.ctx
+    }
 }
 
 impl<B: Base> Domain for StateDomain<B> {

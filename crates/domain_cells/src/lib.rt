@@ -19,4 +19,5 @@ mod values;
 pub use domain::StateDomain;
 pub use entry::{given_at, given_rest, given_word, is_key};
 pub use fields::{fields_of, state_number};
-pub use states::behind_counter;
+pub use states::{behind_counter, close_state};
+pub use values::{copies, join_values, rank_of_values, values_absorb, widen_values};

@@ -4,10 +4,10 @@ ghost use Rattle.std.specs.Prelude.{◌≡◌, IfOk, drop, map};
 ghost use Rattle.abstract_value_laws.specs.Abs as plain;
 ghost use Rattle.abstract_value_laws.specs.Abs.{parts};
 ghost use Rattle.domain_laws.specs.Calls.{behind_first, fields_of, made_state};
-ghost use Rattle.abstract_value.specs.View.{abs, case_of};
+ghost use Rattle.abstract_value.specs.View.{abs, cases_of};
 
 use crate::values::{copied_behind, copies};
-use abstract_value::{AbstractValue, one_case};
+use abstract_value::{AbstractValue, Constructors, one_case};
 use base_trait::Base;
 use std::alloc::{AllocError as NoMemory, Global};
 use support_lists::pushed;
@@ -52,7 +52,7 @@ fn counter<B: Base>(alloc: Global, ctx: &B::Ctx, pc: u32) -> Result<AbstractValu
 }
 
 /// The fields of a state value behind the counter; none of another value.
-pub(crate) fn close_state<B: Base>(
+pub fn close_state<B: Base>(
     alloc: Global,
     ctx: &B::Ctx,
     value: &AbstractValue<B>,
@@ -73,13 +73,13 @@ pub fn behind_counter<B: Base>(value: &AbstractValue<B>) -> &[AbstractValue<B>]
 }
 
 /// The fields of the one constructor but the first; none where there are more constructors.
-fn of_one<B: Base>(cases: &[Option<Vec<AbstractValue<B>>>]) -> &[AbstractValue<B>]
-    ensures { parts (map abs result.now) ≡ behind_first (plain.cases (map case_of cases.now)) }
+fn of_one<B: Base>(cases: &Constructors<AbstractValue<B>>) -> &[AbstractValue<B>]
+    ensures { parts (map abs result.now) ≡ behind_first (cases_of cases.now) }
 {
     if cases.len() != 1 {
         return &[];
     }
-    match &cases[0] {
+    match cases.fields(0) {
         Some(fields) => behind_first(fields),
         None => &[],
     }

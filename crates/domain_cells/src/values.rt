@@ -13,7 +13,7 @@ use std::alloc::{AllocError as NoMemory, Global};
 use support_lists::pushed;
 
 /// The same values once more.
-pub(crate) fn copies<B: Base>(
+pub fn copies<B: Base>(
     alloc: Global,
     ctx: &B::Ctx,
     values: &[AbstractValue<B>],
@@ -39,7 +39,7 @@ pub(crate) fn copied_behind<B: Base>(
 }
 
 /// The joins of the values of two lists, as many as both have.
-pub(crate) fn join_values<B: Base>(
+pub fn join_values<B: Base>(
     alloc: Global,
     ctx: &B::Ctx,
     xs: &[AbstractValue<B>],
@@ -57,7 +57,7 @@ pub(crate) fn join_values<B: Base>(
 }
 
 /// The values of one list widened by those of another, as many as both have.
-pub(crate) fn widen_values<B: Base>(
+pub fn widen_values<B: Base>(
     alloc: Global,
     ctx: &B::Ctx,
     olds: &[AbstractValue<B>],
@@ -75,7 +75,7 @@ pub(crate) fn widen_values<B: Base>(
 }
 
 /// Whether each value of one list absorbs that of another, and there are as many.
-pub(crate) fn values_absorb<B: Base>(
+pub fn values_absorb<B: Base>(
     ctx: &B::Ctx,
     olds: &[AbstractValue<B>],
     news: &[AbstractValue<B>],
@@ -96,7 +96,7 @@ pub(crate) fn values_absorb<B: Base>(
 }
 
 /// The sum of the ranks of the words; 2^64 - 1 where it is more than that.
-pub(crate) fn rank_of_values<B: Base>(ctx: &B::Ctx, values: &[AbstractValue<B>]) -> u64
+pub fn rank_of_values<B: Base>(ctx: &B::Ctx, values: &[AbstractValue<B>]) -> u64
     requires fits { PartsFit B.algebra ctx.now B.CAP (parts (map abs values.now)) }
     ensures { result ≡ min (values_rank B.algebra ctx.now (parts (map abs values.now))) (2 ^ 64 - 1) }
 {

@@ -2,7 +2,7 @@
 
 use crate::sides::{closed_first, closed_second, pair_results};
 use abstract_value::AbstractValue;
-use base_product::Paired;
+use base_product::{Pair, Paired};
 use base_trait::Base;
 use domain_trait::Domain;
 use semantics_values::Entry;
@@ -41,8 +41,11 @@ impl<A: Domain, B: Domain> Domain for PairDomain<A, B> {
     ghost laws = { λ it spec made. pairs_are_domains A.B.algebra B.B.algebra A.B.laws B.B.laws A.B.CAP B.B.CAP A.B.capacity B.B.capacity
         (A.meaning it.first) (B.meaning it.second) (A.elements it.first) (B.elements it.second) spec (A.is_for it.first spec) (B.is_for it.second spec) made (A.laws it.first spec) (B.laws it.second spec) };
 
-    fn ctx(&self, alloc: Global) -> Result<(<A::B as Base>::Ctx, <B::B as Base>::Ctx), NoMemory> {
-        Ok((self.first.ctx(alloc)?, self.second.ctx(alloc)?))
+    fn ctx(
+        &self,
+        alloc: Global,
+    ) -> Result<Pair<<A::B as Base>::Ctx, <B::B as Base>::Ctx>, NoMemory> {
+        Ok(Pair(self.first.ctx(alloc)?, self.second.ctx(alloc)?))
     }
 
     fn entry(

@@ -10,7 +10,7 @@ ghost use Rattle.domain_product_laws.proofs.Values.{Meet};
 ghost use Rattle.abstract_value.specs.View.{abs};
 
 use abstract_value::AbstractValue;
-use base_product::Paired;
+use base_product::{Pair, Paired};
 use base_trait::Base;
 use domain_product_values::{first, second, zip};
 use domain_trait::Domain;
@@ -20,7 +20,7 @@ use std::alloc::{AllocError as NoMemory, Global};
 /// Two state values side by side, if what their words share was copied.
 pub(crate) fn side_by_side<A: Base, B: Base>(
     alloc: Global,
-    ctx: Result<(A::Ctx, B::Ctx), NoMemory>,
+    ctx: Result<Pair<A::Ctx, B::Ctx>, NoMemory>,
     x: &AbstractValue<A>,
     y: &AbstractValue<B>,
 ) -> Result<AbstractValue<Paired<A, B>>, NoMemory>
@@ -36,7 +36,7 @@ pub(crate) fn side_by_side<A: Base, B: Base>(
 /// The same of a second one that may fail. Both are let go here.
 pub(crate) fn pair_results<A: Base, B: Base>(
     alloc: Global,
-    ctx: Result<(A::Ctx, B::Ctx), NoMemory>,
+    ctx: Result<Pair<A::Ctx, B::Ctx>, NoMemory>,
     x: AbstractValue<A>,
     y: Result<AbstractValue<B>, NoMemory>,
 ) -> Result<AbstractValue<Paired<A, B>>, NoMemory>

@@ -12,6 +12,7 @@ use crate::keyed::with_key;
 use crate::keys::either_key;
 use abstract_map::{AbstractMap, KeySet};
 use abstract_map_laws::AbstractCell;
+use base_product::Pair;
 use base_trait::Base;
 use std::alloc::{AllocError as NoMemory, Global};
 use support_lists::pushed;
@@ -21,8 +22,8 @@ pub(crate) type CellOf<B> = AbstractCell<<B as Base>::Word, <B as Base>::Note>;
 
 /// A cell of words and notes of two bases.
 pub(crate) type PairOf<A, B> = AbstractCell<
-    (<A as Base>::Word, <B as Base>::Word),
-    (<A as Base>::Note, <B as Base>::Note),
+    Pair<<A as Base>::Word, <B as Base>::Word>,
+    Pair<<A as Base>::Note, <B as Base>::Note>,
 >;
 
 /// The map of a rest and of listed cells, if there are both.
@@ -73,7 +74,7 @@ pub(crate) fn with_note<W: Drop, N>(
 fn pair_cells<V: Drop, M: Drop, W: Drop, N: Drop>(
     left: Result<(V, M), NoMemory>,
     right: Result<(W, N), NoMemory>,
-) -> Result<AbstractCell<(V, W), (M, N)>, NoMemory>
+) -> Result<AbstractCell<Pair<V, W>, Pair<M, N>>, NoMemory>
     ensures { IfOk result (λ r. IsOkAnd left (λ x. IsOkAnd right (λ y. r ≡ record { word = (x.0, y.0); note = (x.1, y.1) }))) }
 {
     let left = match left {
@@ -85,8 +86,8 @@ fn pair_cells<V: Drop, M: Drop, W: Drop, N: Drop>(
     };
     match right {
         Ok(right) => Ok(AbstractCell {
-            word: (left.0, right.0),
-            note: (left.1, right.1),
+            word: Pair(left.0, right.0),
+            note: Pair(left.1, right.1),
         }),
         Err(error) => {
             drop(left);
@@ -136,7 +137,7 @@ pub(crate) fn zipped_rest<A: Base, B: Base>(
 /// The cells of both at a key, side by side.
 fn zipped_cell<A: Base, B: Base>(
     alloc: Global,
-    ctx: &(A::Ctx, B::Ctx),
+    ctx: &Pair<A::Ctx, B::Ctx>,
     x: &AbstractMap<A>,
     y: &AbstractMap<B>,
     key: u64,
@@ -152,7 +153,7 @@ fn zipped_cell<A: Base, B: Base>(
 /// The cells of both at these keys, side by side.
 fn cells_at<A: Base, B: Base>(
     alloc: Global,
-    ctx: &(A::Ctx, B::Ctx),
+    ctx: &Pair<A::Ctx, B::Ctx>,
     x: &AbstractMap<A>,
     y: &AbstractMap<B>,
     keys: &[u64],
@@ -171,7 +172,7 @@ fn cells_at<A: Base, B: Base>(
 /// The cells of both at each key that either lists, side by side.
 pub(crate) fn zipped_cells<A: Base, B: Base>(
     alloc: Global,
-    ctx: &(A::Ctx, B::Ctx),
+    ctx: &Pair<A::Ctx, B::Ctx>,
     x: &AbstractMap<A>,
     y: &AbstractMap<B>,
 ) -> Result<Vec<(u64, PairOf<A, B>)>, NoMemory>

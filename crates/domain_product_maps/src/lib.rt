@@ -8,8 +8,8 @@
 //! What each call gives is defined in specs/Calls of `domain_product_laws`, and its laws are those of `domain_product_laws`: what both maps
 //! describe the zipped one describes, and what a map over pairs describes both parts describe.
 //!
-//! *Parts.* `ProductPart` is what is taken of each word and of each note, and `First` and `Second` are those of a pair; `mapped_map`
-//! takes it of each cell.
+//! *Parts.* `ProductPart` is what is taken of each word and of each note, as a copy or where it stands, and `First` and `Second` are
+//! those of a pair; `mapped_map` takes it of each cell.
 //!
 //! *Copies.* All calls borrow. Each word and each note is copied once into the result, but for the rest of a map, which is
 //! copied once more for each key that its side lacks.

@@ -2,7 +2,7 @@
 
 ghost use Rattle.std.specs.Prelude.{◌≡◌, IfOk};
 
-use base_product::Paired;
+use base_product::{Pair, Paired};
 use base_trait::Base;
 use std::alloc::{AllocError as NoMemory, Global};
 use std::marker::PhantomData;
@@ -33,6 +33,14 @@ pub trait ProductPart {
         x: &<Self::From as Base>::Note,
     ) -> Result<<Self::To as Base>::Note, NoMemory>
         ensures { IfOk result (λ r. r ≡ note_of x.now) };
+
+    /// The part of a word, where it stands.
+    fn word_in(x: &<Self::From as Base>::Word) -> &<Self::To as Base>::Word
+        ensures { result.now ≡ word_of x.now };
+
+    /// The part of a note, where it stands.
+    fn note_in(x: &<Self::From as Base>::Note) -> &<Self::To as Base>::Note
+        ensures { result.now ≡ note_of x.now };
 }
 
 /// The first part.
@@ -54,12 +62,20 @@ impl<A: Base, B: Base> ProductPart for First<A, B> {
 
     ghost note_of = { λ x. x.0 };
 
-    fn word(alloc: Global, ctx: &A::Ctx, x: &(A::Word, B::Word)) -> Result<A::Word, NoMemory> {
+    fn word(alloc: Global, ctx: &A::Ctx, x: &Pair<A::Word, B::Word>) -> Result<A::Word, NoMemory> {
         A::copy(alloc, ctx, &x.0)
     }
 
-    fn note(alloc: Global, x: &(A::Note, B::Note)) -> Result<A::Note, NoMemory> {
+    fn note(alloc: Global, x: &Pair<A::Note, B::Note>) -> Result<A::Note, NoMemory> {
         A::copy_note(alloc, &x.0)
+    }
+
+    fn word_in(x: &Pair<A::Word, B::Word>) -> &A::Word {
+        &x.0
+    }
+
+    fn note_in(x: &Pair<A::Note, B::Note>) -> &A::Note {
+        &x.0
     }
 }
 
@@ -72,11 +88,19 @@ impl<A: Base, B: Base> ProductPart for Second<A, B> {
 
     ghost note_of = { λ x. x.1 };
 
-    fn word(alloc: Global, ctx: &B::Ctx, x: &(A::Word, B::Word)) -> Result<B::Word, NoMemory> {
+    fn word(alloc: Global, ctx: &B::Ctx, x: &Pair<A::Word, B::Word>) -> Result<B::Word, NoMemory> {
         B::copy(alloc, ctx, &x.1)
     }
 
-    fn note(alloc: Global, x: &(A::Note, B::Note)) -> Result<B::Note, NoMemory> {
+    fn note(alloc: Global, x: &Pair<A::Note, B::Note>) -> Result<B::Note, NoMemory> {
         B::copy_note(alloc, &x.1)
+    }
+
+    fn word_in(x: &Pair<A::Word, B::Word>) -> &B::Word {
+        &x.1
+    }
+
+    fn note_in(x: &Pair<A::Note, B::Note>) -> &B::Note {
+        &x.1
     }
 }

@@ -7,7 +7,7 @@ ghost use Rattle.domain_product_laws.specs.Calls.{zip_map};
 
 use crate::cells::{make_map, zipped_cells, zipped_rest};
 use abstract_map::AbstractMap;
-use base_product::Paired;
+use base_product::{Pair, Paired};
 use base_trait::Base;
 use std::alloc::{AllocError as NoMemory, Global};
 
@@ -16,7 +16,7 @@ use std::alloc::{AllocError as NoMemory, Global};
 /// It lists the keys of either; where a side lists no cell, its rest is taken.
 pub fn zip_map<A: Base, B: Base>(
     alloc: Global,
-    ctx: &(A::Ctx, B::Ctx),
+    ctx: &Pair<A::Ctx, B::Ctx>,
     x: &AbstractMap<A>,
     y: &AbstractMap<B>,
 ) -> Result<AbstractMap<Paired<A, B>>, NoMemory>

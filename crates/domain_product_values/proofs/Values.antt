@@ -6,7 +6,8 @@ use Rattle.std.proofs.lemmas.List.{map_push, drop_all}
 use Rattle.base_trait.specs.Algebra.{Algebra}
 use Rattle.abstract_value_laws.specs.Abs.{Abs, Cases, Parts, flag, word, made, map, no_case, absent, present, no_part, part, case_onto, cases, cases_onto, parts, parts_onto}
 use Rattle.abstract_value_laws.specs.Fits.{CaseFits, CasesFit, Fits, PartsFit}
-use Rattle.abstract_value.specs.View.{abs, case_of}
+use Rattle.abstract_value.specs.View.{abs, case_of, cases_of}
+use Rattle.abstract_value.specs.declared.constructors.Constructors.{Constructors}
 use Rattle.abstract_value.specs.declared.value.AbstractValue.{AbstractValue, Data}
 use Rattle.abstract_value.proofs.Merging.{cases_onto_more, parts_onto_more}
 use Rattle.abstract_value.proofs.Views.{abs_Data}
@@ -39,18 +40,24 @@ module _ {S D E : Type 0} (h : S → D) where
   pushed_view out out' (Ok z) v more is = ap (map_of h) more ∙ map_push h out z ∙ ap (λ t. map_of h out ++ t ∷ []) is
   pushed_view out out' (Err e) v more is = absurd more
 
+-- the same of constructors
+module _ {S Z D E : Type 0} (h : S → D) (view : Z → S) where
+  pub grown_view : (out out' : List S) (next : Result Z E) (v : D) → IsOkAnd next (λ z. out' ≡ out ++ view z ∷ []) → IfOk next (λ z. h (view z) ≡ v) → map_of h out' ≡ map_of h out ++ v ∷ []
+  grown_view out out' (Ok z) v more is = ap (map_of h) more ∙ map_push h out (view z) ∙ ap (λ t. map_of h out ++ t ∷ []) is
+  grown_view out out' (Err e) v more is = absurd more
+
 -- ---- what a constructor has that is there
-module _ {X W N C E : Type 0} where
-  pub case_is : (v : Result (Vec (AbstractValue X W N C) Global) E) (r : Result (Option (Vec (AbstractValue X W N C) Global)) E) (p : Parts W N) (o : Option (Parts W N)) → o ≡ Some p → IfOk v (λ xs. parts (map_of abs xs.items) ≡ p)
-      → IfOk r (λ t. IsOkAnd v (λ xs. t ≡ Some xs)) → IfOk r (λ t. case_of t ≡ o)
+module _ {X W N C Z E : Type 0} (view : Z → Option (List (AbstractValue X W N C))) where
+  pub case_is : (v : Result (Vec (AbstractValue X W N C) Global) E) (r : Result Z E) (p : Parts W N) (o : Option (Parts W N)) → o ≡ Some p → IfOk v (λ xs. parts (map_of abs xs.items) ≡ p)
+      → IfOk r (λ t. IsOkAnd v (λ xs. view t ≡ Some xs.items)) → IfOk r (λ t. case_of (view t) ≡ o)
   case_is (Ok xs) (Ok t) p o e d h = ap case_of h ∙ ap (λ q. Some q) d ∙ sym e
   case_is (Err f) (Ok t) p o e d h = absurd h
   case_is v (Err f) p o e d h = tt
 
--- ---- a constructor value that is made, where its fields are
+-- ---- a constructor value that is made, where its constructors are
 module _ {X W N C E : Type 0} where
-  pub data_is : (ty : ℕ) (o : Result (Vec (Option (Vec (AbstractValue X W N C) Global)) Global) E) (v : Vec (Option (Vec (AbstractValue X W N C) Global)) Global) → o ≡ Ok v → IsOkAnd o (λ cs. abs (Data ty v) ≡ made ty (cases (map_of case_of cs.items)))
-  data_is ty o v e = subst (λ o. IsOkAnd o (λ cs. abs (Data ty v) ≡ made ty (cases (map_of case_of cs.items)))) (sym e) (abs_Data ty v)
+  pub data_is : (ty : ℕ) (o : Result (Constructors (AbstractValue X W N C)) E) (v : Constructors (AbstractValue X W N C)) → o ≡ Ok v → IsOkAnd o (λ cs. abs (Data ty v) ≡ made ty (cases_of cs))
+  data_is ty o v e = subst (λ o. IsOkAnd o (λ cs. abs (Data ty v) ≡ made ty (cases_of cs))) (sym e) (abs_Data ty v)
 
 -- ---- the first of what is left, and the others
 module _ {W N C : Type 0} (B : Algebra W N C) (c : C) (cap : ℕ) where

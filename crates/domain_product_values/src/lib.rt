@@ -1,7 +1,8 @@
 //! Values over two bases put side by side, and values over a pair of bases taken apart.
 //!
 //! `zip` makes a value over `Paired<A, B>` of a value over each base, and `first` and `second` give the parts of such a
-//! value. Flags and constructors are those that both have, words go side by side, and maps as `domain_product_maps` has it.
+//! value. Flags and constructors are those that both have, words go side by side, and maps as `domain_product_maps` has it. `zip_values`,
+//! `first_parts` and `second_parts` do so with the values of lists.
 //!
 //! What each call gives is defined in specs/Calls of `domain_product_laws`, and its laws are those of `domain_product_laws`: what both values
 //! describe the zipped one describes, and what a value over pairs describes both parts describe.
@@ -18,5 +19,5 @@ mod mapped_values;
 mod projections;
 mod zipped_values;
 
-pub use projections::{first, second};
-pub use zipped_values::zip;
+pub use projections::{first, first_parts, second, second_parts};
+pub use zipped_values::{zip, zip_values};

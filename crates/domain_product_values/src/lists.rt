@@ -1,10 +1,12 @@
 //! Lists that grow by one, and what a constructor has.
 
-ghost use Rattle.std.specs.Prelude.{◌≡◌, ◌++◌, ◌∷◌, [], IfOk, IsOkAnd, Some};
+ghost use Rattle.std.specs.Prelude.{◌≡◌, ◌++◌, ◌∷◌, [], option_map, IfOk, IsOkAnd, Some};
+ghost use Rattle.abstract_value.specs.Constructors.{AreWithin, spread};
 
-use abstract_value::AbstractValue;
+use abstract_value::{AbstractValue, Constructors, shared_list};
 use base_trait::Base;
-use std::alloc::AllocError as NoMemory;
+use std::alloc::{AllocError as NoMemory, Global};
+use std::rc::Rc;
 use support_lists::pushed;
 
 /// Fields with one more behind them, if there is one.
@@ -17,22 +19,28 @@ pub(crate) fn pushed_field<B: Base>(
     pushed(fields, next)
 }
 
-/// The fields of constructors with those of one more behind them, if there are such.
+/// Constructors with one more behind them, if there is one.
 pub(crate) fn pushed_case<B: Base>(
-    cases: Vec<Option<Vec<AbstractValue<B>>>>,
-    next: Result<Option<Vec<AbstractValue<B>>>, NoMemory>,
-) -> Result<Vec<Option<Vec<AbstractValue<B>>>>, NoMemory>
-    ensures { IfOk result (λ r. IsOkAnd next (λ x. r.items ≡ cases.items ++ x ∷ [])) }
+    alloc: Global,
+    cases: Constructors<AbstractValue<B>>,
+    next: Result<Option<Rc<Vec<AbstractValue<B>>>>, NoMemory>,
+) -> Result<Constructors<AbstractValue<B>>, NoMemory>
+    requires { AreWithin cases }
+    ensures value { IfOk result (λ r. IsOkAnd next (λ x. spread r ≡ spread cases ++ option_map (λ f. f.value.items) x ∷ [])) }
+    ensures within { IfOk result AreWithin }
 {
-    pushed(cases, next)
+    cases.grown(alloc, next)
 }
 
 /// What a constructor has that is there, if it could be made.
-pub(crate) fn present<T>(fields: Result<T, NoMemory>) -> Result<Option<T>, NoMemory>
-    ensures { IfOk result (λ r. IsOkAnd fields (λ x. r ≡ Some x)) }
+pub(crate) fn present<T: Drop>(
+    alloc: Global,
+    fields: Result<Vec<T>, NoMemory>,
+) -> Result<Option<Rc<Vec<T>>>, NoMemory>
+    ensures { IfOk result (λ r. IsOkAnd fields (λ x. option_map (λ f. f.value.items) r ≡ Some x.items)) }
 {
     match fields {
-        Ok(fields) => Ok(Some(fields)),
+        Ok(fields) => Ok(Some(shared_list(alloc, fields)?)),
         Err(error) => Err(error),
     }
 }

@@ -1,20 +1,22 @@
 //! The part of each word and of each note of a value.
 
-ghost use Rattle.std.specs.Prelude.{◌≡◌, IfOk, IsOkAnd, map};
+ghost use Rattle.std.specs.Prelude.{◌≡◌, get_or, map, option_map, IfOk, IsOkAnd, None};
 ghost use Rattle.abstract_map_laws.specs.Maps.{Fits as MapFits};
 ghost use Rattle.abstract_value_laws.specs.Abs as plain;
-ghost use Rattle.abstract_value_laws.specs.Abs.{cases, parts};
+ghost use Rattle.abstract_value_laws.specs.Abs.{parts};
 ghost use Rattle.abstract_value_laws.specs.Fits.{CaseFits, CasesFit, Fits, PartsFit};
-ghost use Rattle.abstract_value.specs.View.{abs, case_of};
+ghost use Rattle.abstract_value.specs.Constructors.{spread};
+ghost use Rattle.abstract_value.specs.View.{abs, case_of, cases_of};
 ghost use Rattle.domain_product_laws.specs.Calls.{mapped_cases, mapped_map, mapped_parts, mapped_value};
 ghost use Rattle.domain_product_values.specs.Cases.{mapped_case};
 
 use crate::lists::{present, pushed_case, pushed_field};
 use abstract_map::AbstractMap;
-use abstract_value::AbstractValue;
+use abstract_value::{AbstractValue, Constructors};
 use base_trait::Base;
 use domain_product_maps::{ProductPart, mapped_map};
 use std::alloc::{AllocError as NoMemory, Global};
+use std::rc::Rc;
 
 /// The part of a word, as a value.
 fn mapped_word<P: ProductPart>(
@@ -47,12 +49,12 @@ fn mapped_cells_of<P: ProductPart>(
     }
 }
 
-/// The value with these fields of constructors, if there are such.
+/// The value with these constructors, if there are such.
 fn mapped_data<B: Base>(
     ty: u32,
-    cases: Result<Vec<Option<Vec<AbstractValue<B>>>>, NoMemory>,
+    cases: Result<Constructors<AbstractValue<B>>, NoMemory>,
 ) -> Result<AbstractValue<B>, NoMemory>
-    ensures { IfOk result (λ r. IsOkAnd cases (λ cs. abs r ≡ plain.made ty (plain.cases (map case_of cs.items)))) }
+    ensures { IfOk result (λ r. IsOkAnd cases (λ cs. abs r ≡ plain.made ty (cases_of cs))) }
 {
     match cases {
         Ok(cases) => Ok(AbstractValue::Data { ty, cases }),
@@ -82,14 +84,14 @@ pub(crate) fn mapped_value<P: ProductPart>(
 fn mapped_cases<P: ProductPart>(
     alloc: Global,
     ctx: &<P::To as Base>::Ctx,
-    xs: &[Option<Vec<AbstractValue<P::From>>>],
-) -> Result<Vec<Option<Vec<AbstractValue<P::To>>>>, NoMemory>
-    requires fits { CasesFit P.To.algebra ctx.now P.To.CAP (mapped_cases P.word_of P.note_of (cases (map case_of xs.now))) }
-    ensures { IfOk result (λ r. cases (map case_of r.items) ≡ mapped_cases P.word_of P.note_of (cases (map case_of xs.now))) }
+    xs: &Constructors<AbstractValue<P::From>>,
+) -> Result<Constructors<AbstractValue<P::To>>, NoMemory>
+    requires fits { CasesFit P.To.algebra ctx.now P.To.CAP (mapped_cases P.word_of P.note_of (cases_of xs.now)) }
+    ensures { IfOk result (λ r. cases_of r ≡ mapped_cases P.word_of P.note_of (cases_of xs.now)) }
 {
-    let mut out = Vec::new(alloc);
-    for x in xs {
-        out = pushed_case(out, mapped_case::<P>(alloc, ctx, x))?;
+    let mut out = Constructors::none(alloc);
+    for i in 0..xs.len() {
+        out = pushed_case(alloc, out, mapped_case::<P>(alloc, ctx, xs, i))?;
     }
     Ok(out)
 }
@@ -98,19 +100,20 @@ fn mapped_cases<P: ProductPart>(
 fn mapped_case<P: ProductPart>(
     alloc: Global,
     ctx: &<P::To as Base>::Ctx,
-    x: &Option<Vec<AbstractValue<P::From>>>,
-) -> Result<Option<Vec<AbstractValue<P::To>>>, NoMemory>
-    requires fits { CaseFits P.To.algebra ctx.now P.To.CAP (mapped_case P.word_of P.note_of (case_of x.now)) }
-    ensures { IfOk result (λ r. case_of r ≡ mapped_case P.word_of P.note_of (case_of x.now)) }
+    xs: &Constructors<AbstractValue<P::From>>,
+    i: usize,
+) -> Result<Option<Rc<Vec<AbstractValue<P::To>>>>, NoMemory>
+    requires fits { CaseFits P.To.algebra ctx.now P.To.CAP (mapped_case P.word_of P.note_of (case_of (get_or (spread xs.now) i None))) }
+    ensures { IfOk result (λ r. case_of (option_map (λ f. f.value.items) r) ≡ mapped_case P.word_of P.note_of (case_of (get_or (spread xs.now) i None))) }
 {
-    match x {
-        Some(xs) => present(mapped_parts::<P>(alloc, ctx, xs)),
+    match xs.fields(i) {
+        Some(fields) => present(alloc, mapped_parts::<P>(alloc, ctx, fields)),
         None => Ok(None),
     }
 }
 
 #[cycle(mapped)]
-fn mapped_parts<P: ProductPart>(
+pub(crate) fn mapped_parts<P: ProductPart>(
     alloc: Global,
     ctx: &<P::To as Base>::Ctx,
     xs: &[AbstractValue<P::From>],

@@ -1,26 +1,31 @@
 //! Values side by side.
 
-ghost use Rattle.std.specs.Prelude.{◌≡◌, ◌++◌, ◌∷◌, [], IfOk, IsOkAnd, map, max};
+ghost use Rattle.std.specs.Prelude.{◌≡◌, ◌++◌, ◌∷◌, [], get_or, map, max, option_map, IfOk, IsOkAnd, None};
 ghost use Rattle.base_product.specs.Meaning.{both_allow, paired};
 ghost use Rattle.abstract_map_laws.specs.Maps.{Fits as MapFits};
 ghost use Rattle.abstract_value_laws.specs.Abs as plain;
-ghost use Rattle.abstract_value_laws.specs.Abs.{cases, parts};
+ghost use Rattle.abstract_value_laws.specs.Abs.{parts};
 ghost use Rattle.abstract_value_laws.specs.Fits.{CaseFits, CasesFit, Fits, PartsFit};
-ghost use Rattle.abstract_value.specs.View.{abs, case_of};
+ghost use Rattle.abstract_value.specs.Constructors.{AreWithin, spread};
+ghost use Rattle.abstract_value.specs.View.{abs, case_of, cases_of};
 ghost use Rattle.domain_product_laws.specs.Calls.{nothing, zip_cases, zip_parts, zip_value};
 ghost use Rattle.domain_product_laws.proofs.Values.{CasesMeet, Meet, PartsMeet};
 ghost use Rattle.domain_product_values.specs.Cases.{CaseMeets, zip_case};
 
 use crate::lists::{present, pushed_case, pushed_field};
 use abstract_map::AbstractMap;
-use abstract_value::AbstractValue;
-use base_product::Paired;
+use abstract_value::{AbstractValue, Constructors};
+use base_product::{Pair, Paired};
 use base_trait::{Base, Tri};
 use domain_product_maps::zip_map;
 use std::alloc::{AllocError as NoMemory, Global};
+use std::rc::Rc;
 
-/// The fields of each constructor of a value over two bases.
-type PairCases<A, B> = Vec<Option<Vec<AbstractValue<Paired<A, B>>>>>;
+/// The constructors of a value over two bases.
+type PairCases<A, B> = Constructors<AbstractValue<Paired<A, B>>>;
+
+/// The fields of one of them, where it is present.
+type PairFields<A, B> = Option<Rc<Vec<AbstractValue<Paired<A, B>>>>>;
 
 /// Two values side by side: the value describes what both describe.
 ///
@@ -28,7 +33,7 @@ type PairCases<A, B> = Vec<Option<Vec<AbstractValue<Paired<A, B>>>>>;
 /// two forms, as a flag and a word, give the value that describes nothing.
 pub fn zip<A: Base, B: Base>(
     alloc: Global,
-    ctx: &(A::Ctx, B::Ctx),
+    ctx: &Pair<A::Ctx, B::Ctx>,
     x: &AbstractValue<A>,
     y: &AbstractValue<B>,
 ) -> Result<AbstractValue<Paired<A, B>>, NoMemory>
@@ -39,6 +44,21 @@ pub fn zip<A: Base, B: Base>(
     ensures fits { IfOk result (λ r. Fits (paired A.algebra B.algebra) ctx.now (max A.CAP B.CAP) (abs r)) }
 {
     zip_value(alloc, ctx, x, y)
+}
+
+/// The values of two lists side by side, as many as both have.
+pub fn zip_values<A: Base, B: Base>(
+    alloc: Global,
+    ctx: &Pair<A::Ctx, B::Ctx>,
+    xs: &[AbstractValue<A>],
+    ys: &[AbstractValue<B>],
+) -> Result<Vec<AbstractValue<Paired<A, B>>>, NoMemory>
+    requires left { PartsFit A.algebra ctx.now.0 A.CAP (parts (map abs xs.now)) }
+    requires right { PartsFit B.algebra ctx.now.1 B.CAP (parts (map abs ys.now)) }
+    requires widths { PartsMeet (parts (map abs xs.now)) (parts (map abs ys.now)) }
+    ensures value { IfOk result (λ r. parts (map abs r.items) ≡ zip_parts A.algebra B.algebra ctx.now (max A.CAP B.CAP) (parts (map abs xs.now)) (parts (map abs ys.now))) }
+{
+    zip_parts(alloc, ctx, xs, ys)
 }
 
 /// What both allow.
@@ -74,7 +94,7 @@ fn zip_flag<A: Base, B: Base>(t: Tri, y: &AbstractValue<B>) -> AbstractValue<Pai
 /// A word and a value side by side.
 fn zip_word<A: Base, B: Base>(
     alloc: Global,
-    ctx: &(A::Ctx, B::Ctx),
+    ctx: &Pair<A::Ctx, B::Ctx>,
     w: u32,
     x: &A::Word,
     y: &AbstractValue<B>,
@@ -84,7 +104,7 @@ fn zip_word<A: Base, B: Base>(
     match y {
         AbstractValue::Word { w: _w, x: other } => Ok(AbstractValue::Word {
             w,
-            x: (A::copy(alloc, &ctx.0, x)?, B::copy(alloc, &ctx.1, other)?),
+            x: Pair(A::copy(alloc, &ctx.0, x)?, B::copy(alloc, &ctx.1, other)?),
         }),
         _ => Ok(nothing_value::<A, B>()),
     }
@@ -93,7 +113,7 @@ fn zip_word<A: Base, B: Base>(
 /// A map and a value side by side.
 fn zip_map_and<A: Base, B: Base>(
     alloc: Global,
-    ctx: &(A::Ctx, B::Ctx),
+    ctx: &Pair<A::Ctx, B::Ctx>,
     map: u32,
     m: &AbstractMap<A>,
     y: &AbstractValue<B>,
@@ -127,20 +147,23 @@ fn with_field<A: Base, B: Base>(
 
 /// Constructors side by side with one more behind them, if there is one.
 fn with_case<A: Base, B: Base>(
+    alloc: Global,
     cases: PairCases<A, B>,
-    next: Result<Option<Vec<AbstractValue<Paired<A, B>>>>, NoMemory>,
+    next: Result<PairFields<A, B>, NoMemory>,
 ) -> Result<PairCases<A, B>, NoMemory>
-    ensures { IfOk result (λ r. IsOkAnd next (λ x. r.items ≡ cases.items ++ x ∷ [])) }
+    requires { AreWithin cases }
+    ensures value { IfOk result (λ r. IsOkAnd next (λ x. spread r ≡ spread cases ++ option_map (λ f. f.value.items) x ∷ [])) }
+    ensures within { IfOk result AreWithin }
 {
-    pushed_case(cases, next)
+    pushed_case(alloc, cases, next)
 }
 
-/// The value with these fields of constructors, if there are such.
+/// The value with these constructors, if there are such.
 fn zip_data<A: Base, B: Base>(
     ty: u32,
     cases: Result<PairCases<A, B>, NoMemory>,
 ) -> Result<AbstractValue<Paired<A, B>>, NoMemory>
-    ensures { IfOk result (λ r. IsOkAnd cases (λ cs. abs r ≡ plain.made ty (plain.cases (map case_of cs.items)))) }
+    ensures { IfOk result (λ r. IsOkAnd cases (λ cs. abs r ≡ plain.made ty (cases_of cs))) }
 {
     match cases {
         Ok(cases) => Ok(AbstractValue::Data { ty, cases }),
@@ -151,7 +174,7 @@ fn zip_data<A: Base, B: Base>(
 #[cycle(zip)]
 fn zip_value<A: Base, B: Base>(
     alloc: Global,
-    ctx: &(A::Ctx, B::Ctx),
+    ctx: &Pair<A::Ctx, B::Ctx>,
     x: &AbstractValue<A>,
     y: &AbstractValue<B>,
 ) -> Result<AbstractValue<Paired<A, B>>, NoMemory>
@@ -177,18 +200,18 @@ fn zip_value<A: Base, B: Base>(
 #[cycle(zip)]
 fn zip_cases<A: Base, B: Base>(
     alloc: Global,
-    ctx: &(A::Ctx, B::Ctx),
-    xs: &[Option<Vec<AbstractValue<A>>>],
-    ys: &[Option<Vec<AbstractValue<B>>>],
+    ctx: &Pair<A::Ctx, B::Ctx>,
+    xs: &Constructors<AbstractValue<A>>,
+    ys: &Constructors<AbstractValue<B>>,
 ) -> Result<PairCases<A, B>, NoMemory>
-    requires left { CasesFit A.algebra ctx.now.0 A.CAP (cases (map case_of xs.now)) }
-    requires right { CasesFit B.algebra ctx.now.1 B.CAP (cases (map case_of ys.now)) }
-    requires widths { CasesMeet (cases (map case_of xs.now)) (cases (map case_of ys.now)) }
-    ensures { IfOk result (λ r. cases (map case_of r.items) ≡ zip_cases A.algebra B.algebra ctx.now (max A.CAP B.CAP) (cases (map case_of xs.now)) (cases (map case_of ys.now))) }
+    requires left { CasesFit A.algebra ctx.now.0 A.CAP (cases_of xs.now) }
+    requires right { CasesFit B.algebra ctx.now.1 B.CAP (cases_of ys.now) }
+    requires widths { CasesMeet (cases_of xs.now) (cases_of ys.now) }
+    ensures { IfOk result (λ r. cases_of r ≡ zip_cases A.algebra B.algebra ctx.now (max A.CAP B.CAP) (cases_of xs.now) (cases_of ys.now)) }
 {
-    let mut out = Vec::new(alloc);
+    let mut out = Constructors::none(alloc);
     for i in 0..xs.len().min(ys.len()) {
-        out = with_case(out, zip_case(alloc, ctx, &xs[i], &ys[i]))?;
+        out = with_case(alloc, out, zip_case(alloc, ctx, xs, ys, i))?;
     }
     Ok(out)
 }
@@ -196,17 +219,18 @@ fn zip_cases<A: Base, B: Base>(
 #[cycle(zip)]
 fn zip_case<A: Base, B: Base>(
     alloc: Global,
-    ctx: &(A::Ctx, B::Ctx),
-    x: &Option<Vec<AbstractValue<A>>>,
-    y: &Option<Vec<AbstractValue<B>>>,
-) -> Result<Option<Vec<AbstractValue<Paired<A, B>>>>, NoMemory>
-    requires left { CaseFits A.algebra ctx.now.0 A.CAP (case_of x.now) }
-    requires right { CaseFits B.algebra ctx.now.1 B.CAP (case_of y.now) }
-    requires widths { CaseMeets (case_of x.now) (case_of y.now) }
-    ensures { IfOk result (λ r. case_of r ≡ zip_case A.algebra B.algebra ctx.now (max A.CAP B.CAP) (case_of x.now) (case_of y.now)) }
+    ctx: &Pair<A::Ctx, B::Ctx>,
+    xs: &Constructors<AbstractValue<A>>,
+    ys: &Constructors<AbstractValue<B>>,
+    i: usize,
+) -> Result<PairFields<A, B>, NoMemory>
+    requires left { CaseFits A.algebra ctx.now.0 A.CAP (case_of (get_or (spread xs.now) i None)) }
+    requires right { CaseFits B.algebra ctx.now.1 B.CAP (case_of (get_or (spread ys.now) i None)) }
+    requires widths { CaseMeets (case_of (get_or (spread xs.now) i None)) (case_of (get_or (spread ys.now) i None)) }
+    ensures { IfOk result (λ r. case_of (option_map (λ f. f.value.items) r) ≡ zip_case A.algebra B.algebra ctx.now (max A.CAP B.CAP) (case_of (get_or (spread xs.now) i None)) (case_of (get_or (spread ys.now) i None))) }
 {
-    match (x, y) {
-        (Some(x), Some(y)) => present(zip_parts(alloc, ctx, x, y)),
+    match (xs.fields(i), ys.fields(i)) {
+        (Some(x), Some(y)) => present(alloc, zip_parts(alloc, ctx, x, y)),
         _ => Ok(None),
     }
 }
@@ -214,7 +238,7 @@ fn zip_case<A: Base, B: Base>(
 #[cycle(zip)]
 fn zip_parts<A: Base, B: Base>(
     alloc: Global,
-    ctx: &(A::Ctx, B::Ctx),
+    ctx: &Pair<A::Ctx, B::Ctx>,
     xs: &[AbstractValue<A>],
     ys: &[AbstractValue<B>],
 ) -> Result<Vec<AbstractValue<Paired<A, B>>>, NoMemory>

@@ -12,10 +12,10 @@ use Rattle.abstract_value_laws.specs.Calls.{widen_of}
 use Rattle.abstract_value_laws.specs.Shapes.{ListsStamps}
 use Rattle.abstract_value_laws.proofs.Widening.{widen_lists}
 use Rattle.support_tail_fixpoint.specs.declared.driver_request.DriverRequest.{DriverRequest}
-use Rattle.support_tail_fixpoint.specs.declared.driver_request.DriverRequest.TheVariants.{Turn}
+use Rattle.support_tail_fixpoint.specs.declared.driver_request.DriverRequest.TheVariants.{Out, Turn}
 use Rattle.support_tail_fixpoint.specs.declared.policy.Policy.{Policy}
 use Rattle.support_tail_fixpoint.specs.declared.policy.Policy.TheVariants.{Stop, Widen}
-use Rattle.support_tail_fixpoint.specs.Activation.{Answers, Fits, start}
+use Rattle.support_tail_fixpoint.specs.Activation.{Activation, Answers, Fits, start}
 use Rattle.support_tail_fixpoint.specs.Answer.{Yield, fails, gives, next_of, out_of}
 use Rattle.support_tail_fixpoint.specs.Driving.{Remaining, RemainingAfter}
 use Rattle.support_tail_fixpoint.specs.Meaning.{ArgsFit, OutFits}
@@ -56,7 +56,7 @@ answered B cap spec old new out next y asked is_out is_next h =
     let m = (meaning B cap spec old).moves in
     subst (λ z. Answers m (standing old) z (next_of y) asked (standing new)) is_out (subst (λ z. Answers m (standing old) out z asked (standing new)) is_next h)
 
-module _ {X W N C : Type 0} (B : Algebra W N C) (laws : Laws W N C B) (cap : ℕ) (s : Setting X W N C) (spec : Spec) (rank : ℕ → ℕ) (calls : ℕ → List (Abs W N) → Answer (Abs W N)) (ready : IsReady B cap s spec rank calls)
+module _ {X W N C : Type 0} (B : Algebra W N C) (laws : Laws W N C B) (cap : ℕ) (s : Setting X W N C) (spec : Spec) (calls : ℕ → List (Abs W N) → Answer (Abs W N)) (ready : IsReady B cap s spec calls)
     (f : ℕ) where
   abbrev own_stamps : List (Abs W N) → List Stamp
   own_stamps args = stamps_from B s.at args
@@ -110,6 +110,23 @@ module _ {X W N C : Type 0} (B : Algebra W N C) (laws : Laws W N C B) (cap : ℕ
             told fun y (subst (λ r. IsKept (Unit {0}) (IsYield B laws s.ctx.now cap (spec_of s) s.at (ListsStamps B (own_stamps args)) (group_of s f) fun.result_type) before r) gave given).0
 
     -- ---- the first turn
+    module _ (args : List (Abs W N)) (are : AreArguments B s.ctx.now cap (spec_of s) f args) where
+      abbrev first_of : Activation (GroupArgs W N) (Abs W N)
+      first_of = start (only f args) s.policy
+
+      first_remains : Remaining (moves B s.ctx.now cap) f (group_turn B cap calls s (group_of s f)) first_of [] (calls f args)
+      first_remains = (answers_are_driven (moves B s.ctx.now cap) s.policy f (group_turn B cap calls s (group_of s f)) (only f args) [] (calls f args) ready.has_turn).0 (ready.right.answered f args there are)
+
+      -- One that fails is what the call gives.
+      pub first_failed : (i : ℕ) → group_turn B cap calls s (group_of s f) (only f args) [] ≡ fails i → calls f args ≡ fails i
+      first_failed i is = turn_failed (moves B s.ctx.now cap) f (group_turn B cap calls s (group_of s f)) first_of [] (calls f args) first_remains i is
+
+      -- One that asks for no other gives the value of the call.
+      pub first_done : (y : Option (Yield (GroupArgs W N) (Abs W N))) (after : List Seen) → group_turn B cap calls s (group_of s f) (only f args) [] ≡ gives y after → next_of y ≡ None → calls f args ≡ gives (out_of y) after
+      first_done y after gave none =
+          turn_taken (moves B s.ctx.now cap) f (group_turn B cap calls s (group_of s f)) first_of [] (calls f args) first_remains y after (Out (out_of y)) first_of gave
+          (subst (λ next. Answers (moves B s.ctx.now cap) first_of (out_of y) next (Out (out_of y)) first_of) (sym none) refl)
+
     module _ {Y : Type 0} where
       pub begins : (args : List (Abs W N)) (a : Activity X Y W N C) → AreArguments B s.ctx.now cap (spec_of s) f args → standing a ≡ start (only f args) s.policy → meaning B cap (spec_of s) a ≡ turns_from B cap s f args
           → Goes B cap s calls f args a []
@@ -118,8 +135,7 @@ module _ {X W N C : Type 0} (B : Algebra W N C) (laws : Laws W N C B) (cap : ℕ
         same = same;
         fits = subst (λ z. Fits (turns_from B cap s f args) z) (sym stands) (record { args = first_fits args are; leaves = tt });
         can_end = subst (λ z. CanEnd (turns_from B cap s f args) z.left) (sym stands) (ends args s.policy ready.joins);
-        remaining = subst (λ z. Remaining (moves B s.ctx.now cap) f (group_turn B cap calls s (group_of s f)) z [] (calls f args)) (sym stands)
-            ((answers_are_driven (moves B s.ctx.now cap) s.policy f (group_turn B cap calls s (group_of s f)) (only f args) [] (calls f args) ready.has_turn).0 (ready.right.answered f args there are));
+        remaining = subst (λ z. Remaining (moves B s.ctx.now cap) f (group_turn B cap calls s (group_of s f)) z [] (calls f args)) (sym stands) (first_remains args are);
       }
 
       -- ---- between turns

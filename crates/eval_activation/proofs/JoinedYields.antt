@@ -47,7 +47,7 @@ module _ {X W N C : Type 0} (B : Algebra W N C) (laws : Laws W N C B) (cap : ℕ
   pub lists_fit : (g : ℕ) (args : GroupArgs W N) → AreGroupArgs B cap s g args → EachFits B s.ctx.now cap args
   lists_fit g args h = each_weaker (ArgsOf B cap s g) (λ f xs. ListFits B s.ctx.now cap xs) args (λ f xs k. k.are.fit) h
 
-  module _ (spec : Spec) (rank : ℕ → ℕ) (calls : ℕ → List (Abs W N) → Answer (Abs W N)) (ready : IsReady B cap s spec rank calls) (g : ℕ) where
+  module _ (spec : Spec) (calls : ℕ → List (Abs W N) → Answer (Abs W N)) (ready : IsReady B cap s spec calls) (g : ℕ) where
     list_joined : (f : ℕ) (xs ys : List (Abs W N)) → ArgsOf B cap s g f xs → ArgsOf B cap s g f ys → ArgsOf B cap s g f (merge_all (join_of B s.ctx.now cap) xs ys)
     list_joined f xs ys h k =
         from_any Nothing g f (merge_all (join_of B s.ctx.now cap) xs ys)

@@ -1,3 +1,3 @@
 pub mod Going
 pub mod JoinedYields
-pub mod Ordered
+pub mod Readiness

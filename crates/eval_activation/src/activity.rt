@@ -3,6 +3,7 @@
 ghost use Rattle.std.specs.Prelude.{◌≡◌, ◌<◌, [], length, map, option_map, IfOk, IfSome, IsTrue};
 ghost use Rattle.abstract_value.specs.View.{abs};
 ghost use Rattle.support_tail_fixpoint.specs.Answer.{next_of, out_of};
+ghost use Rattle.support_tail_fixpoint.specs.Groups as groups;
 ghost use Rattle.abstract_semantics.specs.Calls.{AreArguments};
 ghost use Rattle.eval_activation.specs.Activities.{After, Goes, Taken, due, measure};
 ghost use Rattle.eval_memo.specs.Ready.{IsReady};
@@ -34,26 +35,28 @@ pub enum ActivationStep<B: Base> {
     OutOfFuel,
 }
 
-/// An activation before its first turn.
+/// An activation before its first turn, on arguments, which are copied.
+#[inline(never)]
 pub fn begin<B: Base, K: Known<B>>(
     alloc: Global,
     setting: &Setting<B>,
     fun: u32,
-    args: Vec<AbstractValue<B>>,
+    args: &[AbstractValue<B>],
 ) -> Result<Activity<B, K>, NoMemory>
-    requires setting { IsReady B.algebra B.CAP setting.now K.spec K.rank (K.calls setting.now.ctx.now) }
+    requires setting { IsReady B.algebra B.CAP setting.now K.spec (K.calls setting.now.ctx.now) }
     requires there { fun < length (spec_of setting.now).funs }
-    requires args { AreArguments B.algebra setting.now.ctx.now B.CAP (spec_of setting.now) fun (map abs args.items) }
-    ensures { IfOk result (λ a. Goes B.algebra B.CAP setting.now (K.calls setting.now.ctx.now) fun (map abs args.items) a []) }
+    requires args { AreArguments B.algebra setting.now.ctx.now B.CAP (spec_of setting.now) fun (map abs args.now) }
+    ensures goes { IfOk result (λ a. Goes B.algebra B.CAP setting.now (K.calls setting.now.ctx.now) fun (map abs args.now) a []) }
+    ensures first { IfOk result (λ a. due a ≡ groups.only fun (map abs args.now)) }
 {
     let turns = Turning {
         ctx: B::copy_ctx(alloc, setting.ctx)?,
         group: group_of(setting.spec, fun),
         at: setting.at,
-        origin: copy_all(alloc, setting.ctx, &args)?,
+        origin: copy_all(alloc, setting.ctx, args)?,
         of: PhantomData,
     };
-    let first = only(alloc, fun, args)?;
+    let first = only(alloc, fun, copy_all(alloc, setting.ctx, args)?)?;
     let driver = Driver::new(first, setting.policy);
     Ok(Activity { driver, turns })
 }
@@ -83,6 +86,7 @@ fn sides<B: Base>(
 }
 
 /// What follows a turn that gave this. After an error nothing is known of the activation.
+#[inline(never)]
 pub fn advance<B: Base, K: Known<B>>(
     alloc: Global,
     setting: &Setting<B>,
@@ -90,7 +94,7 @@ pub fn advance<B: Base, K: Known<B>>(
     activity: &mut Activity<B, K>,
     given: Option<TurnYield<B>>,
 ) -> Result<ActivationStep<B>, NoMemory>
-    requires setting { IsReady B.algebra B.CAP setting.now K.spec K.rank (K.calls setting.now.ctx.now) }
+    requires setting { IsReady B.algebra B.CAP setting.now K.spec (K.calls setting.now.ctx.now) }
     requires there { fun < length (spec_of setting.now).funs }
     requires taken { Taken B.algebra B.CAP setting.now (K.calls setting.now.ctx.now) fun activity.old (option_map yield given) }
     ensures after { IfOk result (λ s. After B.algebra B.CAP setting.now (K.calls setting.now.ctx.now) fun activity.old (option_map yield given) s activity.new) }

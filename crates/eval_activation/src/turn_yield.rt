@@ -1,11 +1,11 @@
 //! What turns give.
 
-ghost use Rattle.std.specs.Prelude.{◌≡◌, ◌<◌, Some, length, map, option_map, All, IfOk, IfSome};
+ghost use Rattle.std.specs.Prelude.{◌≡◌, ◌<◌, Some, length, map, option_map, is_some, All, IfOk, IfSome};
 ghost use Rattle.abstract_value_laws.specs.Calls.{join_of};
 ghost use Rattle.abstract_value_laws.specs.Fits.{Fits};
 ghost use Rattle.abstract_value.specs.View.{abs};
 ghost use Rattle.abstract_semantics.specs.Terms as terms;
-ghost use Rattle.support_tail_fixpoint.specs.Answer.{out_of};
+ghost use Rattle.support_tail_fixpoint.specs.Answer.{next_of, out_of};
 ghost use Rattle.support_tail_fixpoint.specs.Groups.{join_some, merge_each};
 ghost use Rattle.eval_group_turns.specs.Fitting.{EachFits};
 ghost use Rattle.eval_memo.specs.Ready.{IsReady, YieldFits};
@@ -56,6 +56,16 @@ pub fn value_in<B: Base>(given: Option<TurnYield<B>>) -> Option<AbstractValue<B>
     }
 }
 
+/// Whether a turn that gave this asks for another.
+pub fn asks_again<B: Base>(given: &Option<TurnYield<B>>) -> bool
+    ensures { result ≡ is_some (next_of (option_map yield given.now)) }
+{
+    match given {
+        Some(given) => given.next.is_some(),
+        None => false,
+    }
+}
+
 /// A call within the group, where the arguments have the types of the parameters.
 pub fn call_in_group<B: Base>(
     alloc: Global,
@@ -73,7 +83,7 @@ pub fn call_in_group<B: Base>(
     if !are_arguments(setting.spec, fun, &args) {
         return Ok(None);
     }
-    let mut next: Vec<Option<Vec<AbstractValue<B>>>> = Vec::new(alloc);
+    let mut next: Vec<Option<Vec<AbstractValue<B>>>> = Vec::with_capacity(alloc, fun as usize + 1)?;
     for _i in 0..fun {
         next.push(None)?;
     }
@@ -85,6 +95,7 @@ pub fn call_in_group<B: Base>(
 }
 
 /// The join of what is given twice, either of which may be missing.
+#[inline(never)]
 pub fn join_given<B: Base, K: Known<B>>(
     alloc: Global,
     setting: &Setting<B>,
@@ -92,7 +103,7 @@ pub fn join_given<B: Base, K: Known<B>>(
     x: Option<TurnYield<B>>,
     y: Option<TurnYield<B>>,
 ) -> Result<Option<TurnYield<B>>, NoMemory>
-    requires setting { IsReady B.algebra B.CAP setting.now K.spec K.rank (K.calls setting.now.ctx.now) }
+    requires setting { IsReady B.algebra B.CAP setting.now K.spec (K.calls setting.now.ctx.now) }
     requires left { IfSome x (λ v. YieldFits B.algebra B.CAP setting.now group (yield v)) }
     requires right { IfSome y (λ v. YieldFits B.algebra B.CAP setting.now group (yield v)) }
     ensures value { IfOk result (λ r. option_map yield r ≡ join_some (of.join_yields B.algebra B.CAP (K.calls setting.now.ctx.now) setting.now) (option_map yield x) (option_map yield y)) }

@@ -1,3 +1,8 @@
-pub mod Asked
 pub mod Code
 pub mod Views
+pub mod Valid
+pub mod Asks
+pub mod Sizes
+pub mod Lowered
+pub mod Scopes
+pub mod Laws

@@ -23,7 +23,7 @@ pub fn only<B: Base>(
 ) -> Result<Vec<Option<Vec<AbstractValue<B>>>>, NoMemory>
     ensures { IfOk result (λ r. group_args r ≡ only fun (all_abs args)) }
 {
-    let mut out = Vec::new(alloc);
+    let mut out = Vec::with_capacity(alloc, fun as usize + 1)?;
     for _function in 0..fun {
         out.push(None)?;
     }

@@ -2,5 +2,5 @@ pub mod Answering
 pub mod Arguments
 pub mod Growth
 pub mod Holding
-pub mod Items
+pub mod Looking
 pub mod Memoing

@@ -1,5 +1,5 @@
+pub mod Calls
 pub mod Given
 pub mod Memos
-pub mod Order
 pub mod Ready
 pub mod Settings

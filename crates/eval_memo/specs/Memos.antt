@@ -1,12 +1,15 @@
 -- Memos as plain data, and when one is right.
-use Rattle.std.specs.Prelude.{◌≡◌, ⊤, ◌⊎◌, ℕ, ◌+◌, ◌++◌, Option, List, [], ◌∷◌, length, map, option_map}
+use Rattle.std.specs.Prelude.{◌≡◌, ⊤, ◌⊎◌, ℕ, ◌+◌, ◌++◌, Option, List, [], ◌∷◌, Vec, length, map, option_map}
+use Rattle.std.specs.declared.alloc.Global.{Global}
 use Rattle.base_trait.specs.Uses.{Seen, uses_of}
 use Rattle.support_tail_fixpoint.specs.Answer.{gives}
 use Rattle.abstract_value_laws.specs.Abs.{Abs}
 use Rattle.abstract_value.specs.View.{abs}
 use Rattle.abstract_semantics.specs.Answers.{Answer}
-use Rattle.eval_memo.specs.declared.memo.Entry.{Entry}
+use Rattle.abstract_value.specs.declared.value.AbstractValue.{AbstractValue}
+use Rattle.eval_memo.specs.declared.call.Call.{Call}
 use Rattle.eval_memo.specs.declared.memo.Memo.{Memo}
+use Rattle.eval_memo.specs.declared.memo.Outcome.{Outcome}
 
 -- a call of a function, with its value, or none, and its own reads
 pub record Remembered (W N : Type 0) : Type 0 where
@@ -18,11 +21,17 @@ pub record Remembered (W N : Type 0) : Type 0 where
 abbrev pub called : {W N : Type 0} → ℕ → List (Abs W N) → Option (Abs W N) → List Seen → Remembered W N
 called f args value reads = record { function = f; args = args; value = value; reads = reads }
 
-abbrev pub remembered : {X W N C : Type 0} → Entry X W N C → Remembered W N
-remembered e = called e.function (map abs e.args.items) (option_map abs e.value) (uses_of e.reads)
+module _ {X W N C : Type 0} where
+  -- a call that gave this
+  abbrev pub gave : ℕ → List (AbstractValue X W N C) → Outcome X W N C → Remembered W N
+  gave f args o = called f (map abs args) (option_map abs o.value) (uses_of o.reads)
 
-abbrev pub entries : {X W N C : Type 0} → Memo X W N C → List (Remembered W N)
-entries memo = map remembered memo.entries.items
+  abbrev pub remembered : Call (Vec (AbstractValue X W N C) Global) × Outcome X W N C → Remembered W N
+  remembered e = gave e.0.function e.0.args.items e.1
+
+  -- the calls of a memo, in the order in which they were kept
+  abbrev pub entries : Memo X W N C → List (Remembered W N)
+  entries memo = map remembered memo.calls.entries
 
 module _ {W N : Type 0} where
   -- No entry is of this call.

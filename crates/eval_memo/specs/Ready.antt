@@ -1,11 +1,11 @@
 -- The conditions under which an evaluation takes place.
-use Rattle.std.specs.Prelude.{◌≡◌, ℕ, zero, suc, ◌<◌, List, Option, Some, IfSome, true, length, slice_get}
+use Rattle.std.specs.Prelude.{◌≡◌, ℕ, zero, suc, ◌<◌, List, Option, IfSome, length}
 use Rattle.base_trait.specs.Algebra.{Algebra}
 use Rattle.abstract_map_laws.specs.Laws.{HasRoom}
-use Rattle.spec_ir.specs.Specification.{Spec, Fun}
+use Rattle.spec_ir.specs.Specification.{Spec}
 use Rattle.semantics_laws.specs.Accepted.{IsAccepted}
 use Rattle.abstract_semantics.specs.CallLaws.{JoinsUnder}
-use Rattle.eval_code.specs.Code.{IsCodeOf}
+use Rattle.eval_code.specs.Lowered.{IsCodeOf}
 use Rattle.eval_code.specs.Views.{code}
 use Rattle.support_tail_fixpoint.specs.Activation.{HasTurn}
 use Rattle.support_tail_fixpoint.specs.Answer.{IfGives, Yield}
@@ -16,7 +16,6 @@ use Rattle.abstract_semantics.specs.Answers.{Answer}
 use Rattle.abstract_semantics.specs.Calls.{AreArguments, AreRight}
 use Rattle.abstract_semantics.specs.Terms.{GroupArgs}
 use Rattle.eval_memo.specs.declared.setting.Setting.{Setting}
-use Rattle.eval_memo.specs.Order.{InOrder}
 use Rattle.eval_memo.specs.Settings.{group_of, spec_of}
 
 -- Each list that is there, from that of function i on, is such as its function has.
@@ -25,8 +24,8 @@ EachFrom P zero xs = EachIs P xs
 EachFrom P (suc i) xs = EachFrom (λ k. P (suc k)) i xs
 
 module _ {X W N C : Type 0} (B : Algebra W N C) (cap : ℕ) (s : Setting X W N C) where
-  -- This is the specification, it is accepted, the code is its own, `calls` is its reinterpretation and gives what fits, and bodies call by ranks.
-  pub record IsReady (spec : Spec) (rank : ℕ → ℕ) (calls : ℕ → List (Abs W N) → Answer (Abs W N)) : Type 0 where
+  -- This is the specification, it is accepted, the code is its own, and `calls` is its reinterpretation and gives what fits.
+  pub record IsReady (spec : Spec) (calls : ℕ → List (Abs W N) → Answer (Abs W N)) : Type 0 where
     pub spec_is : spec ≡ spec_of s
     pub accepted : IsAccepted (spec_of s)
     pub code_is : IsCodeOf (code s.cir.now) (spec_of s)
@@ -35,7 +34,6 @@ module _ {X W N C : Type 0} (B : Algebra W N C) (cap : ℕ) (s : Setting X W N C
     pub joins : JoinsUnder B s.policy
     pub right : AreRight B s.ctx.now cap (spec_of s) s.at s.policy calls
     pub results : (f : ℕ) (xs : List (Abs W N)) → f < length (spec_of s).funs → AreArguments B s.ctx.now cap (spec_of s) f xs → IfGives (calls f xs) (Fits B s.ctx.now cap)
-    pub order : (f : ℕ) (fun : Fun) → slice_get (spec_of s).funs f ≡ Some fun → InOrder (length (spec_of s).funs) (group_of s) rank fun.group true fun.core
 
   -- a list of arguments of function f, which is one of group g
   pub record ArgsOf (g f : ℕ) (xs : List (Abs W N)) : Type 0 where

@@ -22,11 +22,9 @@ pub struct Setting<'a, B: Base> {
     pub policy: Policy,
 }
 
-/// What contracts speak of, and no code holds: beside the specification, ranks of groups, and how many entries the memo had and
-/// steps were ticked when all began.
+/// What contracts speak of, and no code holds: beside the specification, how many entries the memo had and how many steps were
+/// ticked when all began.
 pub trait Counted: Specified {
-    ghost rank: { ℕ → ℕ };
-
     ghost before: { ℕ };
 
     ghost ticked: { ℕ };
@@ -35,8 +33,6 @@ pub trait Counted: Specified {
 /// For a call that picks these in its proof: of itself all are 0.
 impl Counted for Brand {
     ghost use Rattle.std.specs.Prelude.{ℕ};
-
-    ghost rank = { λ g. 0 };
 
     ghost before = { 0 };
 

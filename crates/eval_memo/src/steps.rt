@@ -3,7 +3,7 @@
 ghost use Rattle.std.specs.Prelude.{◌≡◌, ◌++◌, ◌<◌, Some, None, true, length, map, option_map, slice_get, IfOk, IfSome, OnErr, OnOk};
 ghost use Rattle.base_trait.specs.Lists.{IsGrown};
 ghost use Rattle.base_trait.specs.Uses.{uses_of};
-ghost use Rattle.spec_ir.specs.Views.{core, specification};
+ghost use Rattle.spec_ir.specs.Views.{specification};
 ghost use Rattle.semantics_values.specs.Types.{environment_of};
 ghost use Rattle.semantics.specs.Direct as meaning;
 ghost use Rattle.abstract_value_laws.specs.Abs.{parts};
@@ -12,15 +12,18 @@ ghost use Rattle.abstract_value.specs.View.{abs};
 ghost use Rattle.support_tail_fixpoint.specs.Answer.{gives};
 ghost use Rattle.abstract_semantics.specs.Answers.{behind};
 ghost use Rattle.abstract_semantics.specs.Terms.{params_of};
-ghost use Rattle.eval_memo.specs.Memos.{AreTrue, Holds, IsNew, Keeps, Stands, called, entries, remembered};
+ghost use Rattle.eval_code.specs.Views.{code, tail};
+ghost use Rattle.eval_memo.specs.Memos.{AreTrue, Holds, IsNew, Keeps, Stands, called, entries};
 ghost use Rattle.eval_memo.specs.Ready.{IsReady};
 ghost use Rattle.eval_memo.specs.Settings.{spec_of};
 
-use crate::memo::{Entry, Memo, find, store};
+use crate::call::Call;
+use crate::memo::{Memo, Outcome, find, keep};
 use crate::setting::{Known, Setting};
 use abstract_value::AbstractValue;
 use base_trait::{Base, Log, Stamp};
-use spec_ir::{Core, Spec, Ty};
+use eval_code::Tail;
+use spec_ir::{Spec, Ty};
 use std::alloc::{AllocError as NoMemory, Global};
 use std::sync::ledger::Ledger;
 use support_step_counter::Steps;
@@ -70,20 +73,20 @@ pub fn copy_all<B: Base>(
 ) -> Result<Vec<AbstractValue<B>>, NoMemory>
     ensures { IfOk result (λ r. map abs r.items ≡ map abs xs.now) }
 {
-    let mut out = Vec::new(alloc);
+    let mut out = Vec::with_capacity(alloc, xs.len())?;
     for x in xs {
         out.push(x.copy(alloc, ctx)?)?;
     }
     Ok(out)
 }
 
-/// The body of a function.
-pub fn body_of<'a, B: Base, K: Known<B>>(setting: &Setting<'a, B>, fun: usize) -> &'a Core
-    requires setting { IsReady B.algebra B.CAP setting.now K.spec K.rank (K.calls setting.now.ctx.now) }
+/// The code of the body of a function.
+pub fn body_of<'a, B: Base, K: Known<B>>(setting: &Setting<'a, B>, fun: usize) -> &'a Tail
+    requires setting { IsReady B.algebra B.CAP setting.now K.spec (K.calls setting.now.ctx.now) }
     requires there { fun < length (spec_of setting.now).funs }
-    ensures { option_map (λ f. f.core) (slice_get (spec_of setting.now).funs fun) ≡ Some (core result.now) }
+    ensures { option_map (λ f. f.body) (slice_get (code setting.now.cir.now) fun) ≡ Some (tail result.now) }
 {
-    &setting.cir.funs[fun]
+    &setting.cir.funs[fun].body
 }
 
 /// The same stamps once more.
@@ -125,6 +128,7 @@ fn copy_some<B: Base>(
 
 /// What is known of a call: its value, or none, and its reads are added to the log. A call on arguments of other types is known to
 /// have no value. Nothing where the call is new: then its arguments have the types of the parameters.
+#[inline(never)]
 pub fn recall_call<B: Base, K: Known<B>>(
     alloc: Global,
     setting: &Setting<B>,
@@ -133,7 +137,7 @@ pub fn recall_call<B: Base, K: Known<B>>(
     args: &[AbstractValue<B>],
     log: &mut Log,
 ) -> Result<Option<Option<AbstractValue<B>>>, NoMemory>
-    requires setting { IsReady B.algebra B.CAP setting.now K.spec K.rank (K.calls setting.now.ctx.now) }
+    requires setting { IsReady B.algebra B.CAP setting.now K.spec (K.calls setting.now.ctx.now) }
     requires there { fun < length (spec_of setting.now).funs }
     requires memo { AreTrue (K.calls setting.now.ctx.now) (entries memo.now) }
     ensures value { IfOk result (λ r. IfSome r (λ v. behind (uses_of log.old) (K.calls setting.now.ctx.now fun (map abs args.now)) ≡ gives (option_map abs v) (uses_of log.new))) }
@@ -147,9 +151,9 @@ pub fn recall_call<B: Base, K: Known<B>>(
         return Ok(Some(None));
     }
     match find(memo, fun, args) {
-        Some(entry) => {
-            append(alloc, log, &entry.reads)?;
-            Ok(Some(copy_some(alloc, setting.ctx, &entry.value)?))
+        Some(outcome) => {
+            append(alloc, log, &outcome.reads)?;
+            Ok(Some(copy_some(alloc, setting.ctx, &outcome.value)?))
         }
         None => Ok(None),
     }
@@ -157,6 +161,7 @@ pub fn recall_call<B: Base, K: Known<B>>(
 
 /// The value of a call that was evaluated. It is kept with its own reads, where it is new, and they are added to the log. Where
 /// memory runs out, the memo stays as it was, and the log may have grown.
+#[inline(never)]
 pub fn record_call<B: Base, K: Known<B>, L: Ledger>(
     alloc: Global,
     setting: &Setting<B>,
@@ -179,31 +184,11 @@ pub fn record_call<B: Base, K: Known<B>, L: Ledger>(
 {
     append(alloc, log, &own)?;
     let again = copy_some(alloc, setting.ctx, &value)?;
-    let entry = Entry {
+    let call = Call {
         function: fun,
         args,
-        value,
-        reads: own,
     };
-    keep_call::<B, K, L>(setting, memo, steps, entry)?;
+    let outcome = Outcome { value, reads: own };
+    keep::<B, K, L>(setting, memo, steps, call, outcome)?;
     Ok(again)
-}
-
-/// Keeps a call that was evaluated, with its value and its own reads, where it is new.
-fn keep_call<B: Base, K: Known<B>, L: Ledger>(
-    setting: &Setting<B>,
-    memo: &mut Memo<B>,
-    steps: &mut Steps<L>,
-    entry: Entry<B>,
-) -> Result<(), NoMemory>
-    requires memo { Stands (K.calls setting.now.ctx.now) K.before K.ticked (entries memo.old) steps.old }
-    requires value { K.calls setting.now.ctx.now entry.function (map abs entry.args.items) ≡ gives (option_map abs entry.value) (uses_of entry.reads) }
-    ensures memo { Stands (K.calls setting.now.ctx.now) K.before K.ticked (entries memo.new) steps.new }
-    ensures kept { OnOk result (Keeps (entries memo.old) (remembered entry) (entries memo.new)) }
-    ensures unchanged { OnErr result (entries memo.new ≡ entries memo.old) }
-{
-    if find(memo, entry.function, &entry.args).is_some() {
-        return Ok(());
-    }
-    store::<B, K, L>(setting, memo, steps, entry)
 }

@@ -72,14 +72,14 @@ module _ {X W N C : Type 0} where
   field_there (suc i) (x ∷ xs) = field_there i xs
 
   -- what a field of one constructor is
-  abbrev pub field_in : ℕ → Option (Option (Vec (AbstractValue X W N C) Global)) → Option (Abs W N)
-  field_in i (Some (Some v)) = option_map abs (slice_get v.items i)
-  field_in i _ = None
+  abbrev pub field_in : ℕ → Option (List (AbstractValue X W N C)) → Option (Abs W N)
+  field_in i (Some f) = option_map abs (slice_get f i)
+  field_in i None = None
 
-  pub case_there : (k i : ℕ) (cs : List (Option (Vec (AbstractValue X W N C) Global))) → abs_in [] k i (cases (map case_of cs)) ≡ field_in i (slice_get cs k)
+  pub case_there : (k i : ℕ) (cs : List (Option (List (AbstractValue X W N C)))) → abs_in [] k i (cases (map case_of cs)) ≡ field_in i (get_or cs k None)
   case_there k i [] = refl
   case_there zero i (None ∷ cs) = refl
-  case_there zero i (Some v ∷ cs) = field_there i v.items
+  case_there zero i (Some f ∷ cs) = field_there i f
   case_there (suc k) i (None ∷ cs) = case_there k i cs
   case_there (suc k) i (Some v ∷ cs) = case_there k i cs
 

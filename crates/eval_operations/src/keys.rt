@@ -8,13 +8,12 @@ ghost use Rattle.abstract_map_laws.specs.Keys.{has_key, some};
 ghost use Rattle.abstract_map_laws.specs.Maps as maps;
 ghost use Rattle.abstract_map_laws.specs.Maps.{keys};
 ghost use Rattle.abstract_map.specs.View as view;
-ghost use Rattle.abstract_value_laws.specs.Abs as value;
 ghost use Rattle.abstract_value_laws.specs.Fits.{Fits};
-ghost use Rattle.abstract_value.specs.View.{abs, case_of};
+ghost use Rattle.abstract_value.specs.View.{abs, cases_of};
 ghost use Rattle.abstract_semantics.specs.Keys as of;
 
 use abstract_map::{AbstractMap, KeySet};
-use abstract_value::AbstractValue;
+use abstract_value::{AbstractValue, Constructors};
 use base_trait::Base;
 use std::alloc::{AllocError as NoMemory, Global};
 
@@ -110,10 +109,25 @@ fn all_are_listed<B: Base>(m: &AbstractMap<B>, numbers: &[u64]) -> bool
 fn case_keys<B: Base>(
     alloc: Global,
     m: &AbstractMap<B>,
-    cases: &[Option<Vec<AbstractValue<B>>>],
+    cases: &Constructors<AbstractValue<B>>,
 ) -> Result<KeySet, NoMemory>
     requires order { IsAscending (keys m.now) }
-    ensures { IfOk result (λ r. view.keys_of r ≡ of.case_keys (of.cases_from 0 (value.cases (map case_of cases.now))) (keys m.now)) }
+    ensures { IfOk result (λ r. view.keys_of r ≡ of.case_keys (of.cases_from 0 (cases_of cases.now)) (keys m.now)) }
+{
+    match cases.alone() {
+        Some((number, _fields)) => Ok(KeySet::One(number as u64)),
+        None => several_keys(alloc, m, cases),
+    }
+}
+
+/// The one constructor that is present, or else the listed numbers of those that are, found one by one.
+fn several_keys<B: Base>(
+    alloc: Global,
+    m: &AbstractMap<B>,
+    cases: &Constructors<AbstractValue<B>>,
+) -> Result<KeySet, NoMemory>
+    requires order { IsAscending (keys m.now) }
+    ensures { IfOk result (λ r. view.keys_of r ≡ of.case_keys (of.cases_from 0 (cases_of cases.now)) (keys m.now)) }
 {
     let present = present_cases(alloc, cases)?;
     match present.as_slice() {
@@ -144,13 +158,13 @@ fn listed_among<B: Base>(
 /// The numbers of the constructors that are present.
 fn present_cases<B: Base>(
     alloc: Global,
-    cases: &[Option<Vec<AbstractValue<B>>>],
+    cases: &Constructors<AbstractValue<B>>,
 ) -> Result<Vec<u64>, NoMemory>
-    ensures { IfOk result (λ r. r.items ≡ of.cases_from 0 (value.cases (map case_of cases.now))) }
+    ensures { IfOk result (λ r. r.items ≡ of.cases_from 0 (cases_of cases.now)) }
 {
     let mut present = Vec::new(alloc);
     for i in 0..cases.len() {
-        push_if(&mut present, cases[i].is_some(), i as u64)?;
+        push_if(&mut present, cases.fields(i).is_some(), i as u64)?;
     }
     Ok(present)
 }

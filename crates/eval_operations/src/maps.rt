@@ -95,11 +95,11 @@ pub fn update_map<B: Base>(
     ensures value { IfOk result (λ r. option_map abs r ≡ of.updated B.algebra ctx.now B.CAP at map (abs x) (abs key.now) (abs v.now)) }
     ensures fits { IfOk result (λ r. IfSome r (λ v. Fits B.algebra ctx.now B.CAP (abs v))) }
 {
-    let AbstractValue::Map { map: n, m } = x else {
+    let AbstractValue::Map { map: n, m } = &x else {
         return Ok(None);
     };
     match v {
-        AbstractValue::Word { w, x: word } if n == map && *w == m.width() => {
+        AbstractValue::Word { w, x: word } if *n == map && *w == m.width() => {
             put_word(alloc, ctx, at, map, m, key, word)
         }
         _ => Ok(None),
@@ -112,20 +112,20 @@ fn put_word<B: Base>(
     ctx: &B::Ctx,
     at: u32,
     map: u32,
-    m: AbstractMap<B>,
+    m: &AbstractMap<B>,
     key: &AbstractValue<B>,
     word: &B::Word,
 ) -> Result<Option<AbstractValue<B>>, NoMemory>
-    requires map { maps.Fits B.algebra ctx.now B.CAP m }
+    requires map { maps.Fits B.algebra ctx.now B.CAP m.now }
     requires key { Fits B.algebra ctx.now B.CAP (abs key.now) }
-    requires word { B.algebra.words.fits ctx.now m.width word.now }
-    ensures value { IfOk result (λ r. option_map abs r ≡ of.put_of B.algebra ctx.now B.CAP at map m word.now (of_keys.keys_of B.algebra ctx.now m (abs key.now))) }
+    requires word { B.algebra.words.fits ctx.now m.now.width word.now }
+    ensures value { IfOk result (λ r. option_map abs r ≡ of.put_of B.algebra ctx.now B.CAP at map m.now word.now (of_keys.keys_of B.algebra ctx.now m.now (abs key.now))) }
     ensures fits { IfOk result (λ r. IfSome r (λ v. Fits B.algebra ctx.now B.CAP (abs v))) }
 {
-    match keys_of(alloc, ctx, &m, key)? {
+    match keys_of(alloc, ctx, m, key)? {
         Some(keys) if is_keyed(&keys) => Ok(Some(AbstractValue::Map {
             map,
-            m: put_at(alloc, ctx, at, &m, &keys, word)?,
+            m: put_at(alloc, ctx, at, m, &keys, word)?,
         })),
         _ => Ok(None),
     }

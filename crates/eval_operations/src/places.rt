@@ -3,13 +3,12 @@
 ghost use Rattle.std.specs.Prelude.{◌≡◌, [], ◌∷◌, Some, map, option_map, nat_lt, ◌^◌, All, IfOk, IfSome};
 ghost use Rattle.word_operations.specs.Width.{IsWidth};
 ghost use Rattle.spec_match_compiler.specs.Views.{bound};
-ghost use Rattle.abstract_value_laws.specs.Abs as value;
 ghost use Rattle.abstract_value_laws.specs.Fits.{Fits};
-ghost use Rattle.abstract_value.specs.View.{abs, case_of};
+ghost use Rattle.abstract_value.specs.View.{abs, cases_if, cases_of};
 ghost use Rattle.abstract_semantics.specs.Choices as of;
 
 use super::items::item_at;
-use abstract_value::AbstractValue;
+use abstract_value::{AbstractValue, Constructors};
 use base_trait::{Base, Tri};
 use spec_match_compiler::Path;
 use std::alloc::{AllocError as NoMemory, Global};
@@ -48,15 +47,14 @@ fn field_of<'a, B: Base>(x: &'a AbstractValue<B>, step: &(u32, u32)) -> Option<&
 
 /// A field of one of the constructors.
 fn field_in<B: Base>(
-    cases: &[Option<Vec<AbstractValue<B>>>],
+    cases: &Constructors<AbstractValue<B>>,
     case: u32,
     field: u32,
 ) -> Option<&AbstractValue<B>>
-    ensures { option_map (λ v. abs v.now) result ≡ of.abs_in [] case field (value.cases (map case_of cases.now)) }
+    ensures { option_map (λ v. abs v.now) result ≡ of.abs_in [] case field (cases_of cases.now) }
 {
-    match item_at(cases, case) {
-        Some(Some(fields)) => item_at(fields, field),
-        Some(None) => None,
+    match cases.fields(case as usize) {
+        Some(fields) => item_at(fields, field),
         None => None,
     }
 }
@@ -82,26 +80,26 @@ pub fn abs_named<B: Base>(
     Ok(Some(named))
 }
 
-/// The fields of each constructor of what stands at a place, in declared order; none where no constructor value does.
+/// The constructors of what stands at a place; nothing where no constructor value does.
 pub fn cases_there<'a, B: Base>(
     x: &'a AbstractValue<B>,
     place: &Path,
-) -> &'a [Option<Vec<AbstractValue<B>>>]
-    ensures { value.cases (map case_of result.now) ≡ of.cases_there (of.abs_at place.now.steps.items (abs x.now)) }
+) -> Option<&'a Constructors<AbstractValue<B>>>
+    ensures { cases_if (option_map (λ cs. cs.now) result) ≡ of.cases_there (of.abs_at place.now.steps.items (abs x.now)) }
 {
     match abs_at(x, place) {
-        Some(v) => cases_of(v),
-        None => &[],
+        Some(v) => constructors_of(v),
+        None => None,
     }
 }
 
-/// The fields of each constructor of a value.
-fn cases_of<B: Base>(x: &AbstractValue<B>) -> &[Option<Vec<AbstractValue<B>>>]
-    ensures { value.cases (map case_of result.now) ≡ of.cases_there (Some (abs x.now)) }
+/// The constructors of a value.
+fn constructors_of<B: Base>(x: &AbstractValue<B>) -> Option<&Constructors<AbstractValue<B>>>
+    ensures { cases_if (option_map (λ cs. cs.now) result) ≡ of.cases_there (Some (abs x.now)) }
 {
     match x {
-        AbstractValue::Data { ty: _ty, cases } => cases,
-        _ => &[],
+        AbstractValue::Data { ty: _ty, cases } => Some(cases),
+        _ => None,
     }
 }
 

@@ -33,9 +33,9 @@ module _ {X W N C : Type 0} (B : Algebra W N C) (cap : ℕ) (s : Setting X W N C
   leaf_fits view g None v h e = absurd cc
   leaf_fits view g (Some y) v h e = subst (λ o. IfSome o (Fits B s.ctx.now cap)) e h.out
 
-  module _ (spec : Spec) (rank : ℕ → ℕ) (on : ℕ → List (Abs W N) → Answer (Abs W N)) where
+  module _ (spec : Spec) (on : ℕ → List (Abs W N) → Answer (Abs W N)) where
     -- what a call gives fits
-    pub call_fits : IsReady B cap s spec rank on → (f : ℕ) (ps : List (Abs W N)) → f < length (spec_of s).funs → All (Fits B s.ctx.now cap) ps → IfGives (on f ps) (Fits B s.ctx.now cap)
+    pub call_fits : IsReady B cap s spec on → (f : ℕ) (ps : List (Abs W N)) → f < length (spec_of s).funs → All (Fits B s.ctx.now cap) ps → IfGives (on f ps) (Fits B s.ctx.now cap)
     call_fits ready f ps there h = at (have_types (environment_of (spec_of s)) (parts_of ps) (params_of (spec_of s) f)) refl
       where
         at : (b : Bool) → have_types (environment_of (spec_of s)) (parts_of ps) (params_of (spec_of s) f) ≡ b → IfGives (on f ps) (Fits B s.ctx.now cap)

@@ -1,11 +1,10 @@
 -- What the first of two plans gives, joined behind others.
-use Rattle.std.proofs.Common.{◌≡◌, ◌∙◌, ◌<◌, ◌++◌, ℕ, List, [], ◌∷◌, Bool, Option, length, map, option_map, refl, sym, ap, length-append, arith}
+use Rattle.std.proofs.Common.{◌≡◌, ◌∙◌, ◌<◌, ◌++◌, ℕ, List, [], ◌∷◌, Option, length, map, option_map, refl, sym, ap, length-append, arith}
 use Rattle.std.specs.Prelude.{All}
 use Rattle.std.proofs.lemmas.List.{map-append}
 use Rattle.std.proofs.lemmas.List.Elements.{All-nil, All-cons, All-head, All-tail}
 use Rattle.base_trait.specs.Algebra.{Algebra}
 use Rattle.base_trait.specs.Uses.{Seen}
-use Rattle.spec_ir.specs.CoreTerms.{Cores}
 use Rattle.abstract_value_laws.specs.Abs.{Abs}
 use Rattle.support_tail_fixpoint.specs.Answer.{Yield, fails, gives}
 use Rattle.support_tail_fixpoint.specs.Groups.{join_some}
@@ -13,7 +12,8 @@ use Rattle.abstract_semantics.specs.Answers.{Answer, then_on}
 use Rattle.abstract_semantics.specs.Terms.{GroupArgs}
 use Rattle.eval_memo.specs.declared.setting.Setting.{Setting}
 use Rattle.eval_memo.specs.Settings.{join_yields}
-use Rattle.eval_control.specs.Plans.{Plan, both, given_plan}
+use Rattle.eval_plans.specs.Plans.{Plan, both}
+use Rattle.evaluator.specs.Arms.{Arms, given_plan}
 use Rattle.evaluator.specs.Joins.{join_all, joined_behind}
 
 -- of all but the last, and of the last
@@ -55,7 +55,7 @@ module _ {V A : Type 0} (view : V → A) (j : A → A → A) (whole : Option A) 
   join_done [] n y none long so = so
   join_done (x ∷ xs) n y none long so = absurd (omega (arith, none, long))
 
-module _ {X W N C : Type 0} (B : Algebra W N C) (cap : ℕ) (on : ℕ → List (Abs W N) → Answer (Abs W N)) (s : Setting X W N C) (g : ℕ) (tail : Bool) (env : List (Abs W N)) (arms : Cores) where
+module _ {X W N C : Type 0} (B : Algebra W N C) (cap : ℕ) (on : ℕ → List (Abs W N) → Answer (Abs W N)) (s : Setting X W N C) (env : List (Abs W N)) (arms : Arms) where
   abbrev Given : Type 0
   Given = Yield (GroupArgs W N) (Abs W N)
 
@@ -63,7 +63,7 @@ module _ {X W N C : Type 0} (B : Algebra W N C) (cap : ℕ) (on : ℕ → List (
   j = join_yields B cap on s
 
   abbrev so : Plan W N → List Seen → Answer Given
-  so p l = given_plan B cap on s g tail env arms p l
+  so p l = given_plan B cap on s env arms p l
 
   module _ (xs : List (Option Given)) (whole : Answer Given) (p : Plan W N) (l : List Seen) where
     -- the first has been given, and the second is left

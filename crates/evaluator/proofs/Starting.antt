@@ -1,5 +1,5 @@
 -- When an evaluation begins.
-use Rattle.std.proofs.Common.{◌≡◌, ◌∙◌, ◌++◌, ◌<◌, ◌≤◌, ℕ, false, ltb, List, [], ◌∷◌, Option, None, Result, Ok, Err, option_map, cond, length, sym, ap, subst, append-nil, arith}
+use Rattle.std.proofs.Common.{◌≡◌, ◌∙◌, ◌++◌, ◌<◌, ◌≤◌, ℕ, false, ltb, List, [], ◌∷◌, Option, None, Result, Ok, Err, option_map, cond, length, sym, ap, append-nil, arith}
 use Rattle.std.proofs.lemmas.Bool.{le-ltb}
 use Rattle.std.proofs.lemmas.List.{length-map}
 use Rattle.support_tail_fixpoint.specs.declared.policy.Policy.{Policy}
@@ -22,13 +22,11 @@ use Rattle.eval_memo.proofs.Answering.{passed}
 use Rattle.abstract_value_laws.specs.Abs.{Abs, parts}
 use Rattle.abstract_value_laws.specs.Fits.{Fits, PartsFit}
 use Rattle.abstract_semantics.proofs.Right.{answers_are_right}
-use Rattle.abstract_semantics.specs.GroupRanks.{rank_of}
-use Rattle.abstract_semantics.proofs.Ranks.{ranks_count}
 use Rattle.eval_memo.specs.declared.setting.Setting.{Setting}
 use Rattle.eval_memo.specs.Memos.{Remembered, Stands}
 use Rattle.eval_memo.specs.Ready.{IsReady}
 use Rattle.eval_memo.specs.Settings.{spec_of}
-use Rattle.eval_activation.proofs.Ordered.{may_evaluate}
+use Rattle.eval_activation.proofs.Readiness.{may_evaluate}
 use Rattle.evaluator.specs.Calls.{IsRight, MayEvaluate, calls_of}
 
 module _ {W N C : Type 0} (B : Algebra W N C) (c : C) (cap : ℕ) where
@@ -39,13 +37,11 @@ module _ {W N C : Type 0} (B : Algebra W N C) (c : C) (cap : ℕ) where
 
 module _ {X W N C : Type 0} (B : Algebra W N C) (laws : Laws W N C B) (cap : ℕ) (capacity : cap ≡ cond B.joins 256 (2 ^ 32)) (s : Setting X W N C) where
   -- what an evaluation needs follows from what is asked of callers
-  pub ready_by : MayEvaluate B cap s → IsReady B cap s (spec_of s) (rank_of (spec_of s)) (calls_of B cap s)
+  pub ready_by : MayEvaluate B cap s → IsReady B cap s (spec_of s) (calls_of B cap s)
   ready_by may =
       let fits = room B cap capacity in
-      let again = ranks_count (spec_of s) may.accepted in
       let right = answers_are_right B laws (spec_of s) s.ctx.now cap s.at s.policy may.accepted fits may.has_turn may.joins in
-      subst (λ r. IsReady B cap s (spec_of s) r (calls_of B cap s)) again.1
-      (may_evaluate B laws cap s (calls_of B cap s) again.0 may.code_is fits may.has_turn may.joins right)
+      may_evaluate B laws cap s (calls_of B cap s) may.accepted may.code_is fits may.has_turn may.joins right
 
   -- a memo that is right stands where it is counted from
   pub stands_by : (es : List (Remembered W N)) (steps : ℕ) → IsRight B cap s es → Stands (calls_of B cap s) (length es) steps es steps
@@ -53,11 +49,11 @@ module _ {X W N C : Type 0} (B : Algebra W N C) (laws : Laws W N C B) (cap : ℕ
 
 -- a call that is not kept: its own reads come behind those before
 module _ (X W N C : Type 0) where
-  pub alone_failed : (er : EvalError) (l own : List Seen) (answer : Answer (Abs W N)) → Gives (abs {X = X} {W = W} {N = N} {C = C}) (Err er) own answer → Gives (abs {X = X} {W = W} {N = N} {C = C}) (Err er) l (behind l answer)
-  alone_failed er l own answer h = passed (abs {X = X} {W = W} {N = N} {C = C}) (abs {X = X} {W = W} {N = N} {C = C}) er own l answer (behind l answer) h (λ i e. ap (behind l) e)
+  pub alone_failed : (er : EvalError) (l own : List Seen) (gave answer : Answer (Abs W N)) → gave ≡ answer → Gives (abs {X = X} {W = W} {N = N} {C = C}) (Err er) own gave → Gives (abs {X = X} {W = W} {N = N} {C = C}) (Err er) l (behind l answer)
+  alone_failed er l own gave answer same h = passed (abs {X = X} {W = W} {N = N} {C = C}) (abs {X = X} {W = W} {N = N} {C = C}) er own l gave (behind l answer) h (λ i e. ap (behind l) (sym same ∙ e))
 
-  pub alone_gave : (v w : Option (AbstractValue X W N C)) (l own n : List Seen) (answer : Answer (Abs W N)) → answer ≡ gives (option_map abs v) own → w ≡ v → n ≡ l ++ own → behind l answer ≡ gives (option_map abs w) n
-  alone_gave v w l own n answer gave is log = ap (behind l) gave ∙ ap (λ w. gives (option_map abs w) (l ++ own)) (sym is) ∙ ap (λ n. gives (option_map abs w) n) (sym log)
+  pub alone_gave : (v w : Option (AbstractValue X W N C)) (l own n : List Seen) (gave answer : Answer (Abs W N)) → gave ≡ answer → gave ≡ gives (option_map abs v) own → w ≡ v → n ≡ l ++ own → behind l answer ≡ gives (option_map abs w) n
+  alone_gave v w l own n gave answer same h is log = ap (behind l) (sym same ∙ h) ∙ ap (λ w. gives (option_map abs w) (l ++ own)) (sym is) ∙ ap (λ n. gives (option_map abs w) n) (sym log)
 
 -- what is held where types are right
 pub held_by : {A E T : Type 0} (L H : Type 0) (r : Result A E) → T → IfOk r (λ _. T → H) → IfOk r (λ _. L → H)

@@ -1,29 +1,35 @@
 -- Bodies of the functions of a group, one after the other.
-use Rattle.std.proofs.Common.{◌≡◌, ◌∙◌, ℕ, zero, suc, ◌+◌, ◌≤◌, true, List, [], ◌∷◌, length, map, Option, Some, None, option_map, slice_get, refl, ap, subst, add-one}
+use Rattle.std.proofs.Common.{◌≡◌, ◌∙◌, ◌&&◌, ℕ, zero, suc, ◌+◌, Bool, true, false, List, [], ◌∷◌, length, Option, Some, None, option_map, slice_get, refl, sym, ap, subst, add-one}
 use Rattle.std.specs.Prelude.{All, IfSome}
 use Rattle.std.proofs.lemmas.List.Elements.{All-cons, All-nil}
-use Rattle.std.proofs.lemmas.Option.{slice_get-map, same_Some as some_is}
+use Rattle.std.proofs.lemmas.Option.{same_Some as some_is}
 use Rattle.base_trait.specs.Algebra.{Algebra}
 use Rattle.base_trait.specs.Uses.{Seen}
-use Rattle.spec_ir.specs.CoreTerms.{Core}
-use Rattle.spec_ir.specs.Specification.{Fun, Spec}
-use Rattle.spec_ir.specs.Views.{core}
-use Rattle.semantics.specs.Direct.{group_at}
-use Rattle.eval_code.specs.Code.{IsCodeOf}
+use Rattle.spec_ir.specs.declared.ty.Ty.{Ty}
+use Rattle.spec_ir.specs.Specification.{Spec}
+use Rattle.semantics_values.specs.Types.{environment_of}
+use Rattle.eval_code.specs.Asks.{AsksWithin}
+use Rattle.eval_code.specs.Code.{FunCode, Tail}
 use Rattle.eval_code.specs.Views.{code}
+use Rattle.eval_code_accepted.proofs.Asking.{accepted_code_asks_within}
+use Rattle.eval_code_meaning.specs.Meaning.{code_turn}
+use Rattle.eval_code_meaning.proofs.Groups.{body_alike}
 use Rattle.abstract_value_laws.specs.Abs.{Abs, parts as parts_of}
 use Rattle.abstract_value_laws.specs.Fits.{Fits, PartsFit}
+use Rattle.abstract_value_laws.specs.Types.{has_type, have_types}
 use Rattle.support_tail_fixpoint.specs.Answer.{Yield, fails, gives}
-use Rattle.support_tail_fixpoint.specs.Groups.{join_some}
+use Rattle.support_tail_fixpoint.specs.Groups.{join_some, only}
 use Rattle.abstract_semantics.specs.Answers.{Answer, Evaluation, joined_from, then_on}
 use Rattle.abstract_semantics.specs.Terms as terms
-use Rattle.abstract_semantics.specs.Terms.{GroupArgs}
+use Rattle.abstract_semantics.specs.Terms.{GroupArgs, params_of}
 use Rattle.eval_memo.specs.declared.setting.Setting.{Setting}
-use Rattle.eval_memo.specs.Order.{InOrder}
-use Rattle.eval_memo.specs.Ready.{EachFrom, IsReady}
-use Rattle.eval_memo.specs.Settings.{body_turn, from_number, given_bodies, given_of, group_of, join_yields, spec_of}
-use Rattle.eval_control.specs.Weights.{total, weight}
-use Rattle.evaluator.proofs.Weighing.{of_total}
+use Rattle.eval_memo.specs.Ready.{ArgsOf, EachFrom, IsReady}
+use Rattle.eval_memo.specs.Settings.{body_turn, from_number, given_bodies, group_of, group_turn, join_yields, spec_of}
+use Rattle.evaluator.specs.Arms.{given_tail}
+
+both_true : (a b : Bool) → (a && b) ≡ true → b ≡ true
+both_true true b e = e
+both_true false b e = absurd cc
 
 -- ---- lists that are there, each such as its function has
 pub each_head : {A : Type 0} (P : ℕ → A → Type 0) (i : ℕ) (o : Option A) (xs : List (Option A)) → EachFrom P i (o ∷ xs) → IfSome o (P i)
@@ -52,22 +58,24 @@ module _ {X W N C : Type 0} (B : Algebra W N C) (cap : ℕ) (on : ℕ → List (
   number_next zero f = refl
   number_next (suc i) f = number_next i (λ k. f (suc k))
 
-  -- ---- one body
-  pub body_some : (i : ℕ) (first : Option (Yield (GroupArgs W N) (Abs W N))) (xs : List (Abs W N)) (x : Core) (l : List Seen) → option_map (λ f. f.core) (slice_get (spec_of s).funs i) ≡ Some x
-      → given_from i first (Some xs ∷ []) l ≡ then_on (given_of B cap on s g true xs x l) (λ y l. gives (join_some j first y) l)
-  body_some i first xs x l e = ap (λ f. then_on (f xs l) (λ y l. gives (join_some j first y) l)) (number_is i (body_turn B cap on s g)) ∙ ap (λ r. then_on r (λ y l. gives (join_some j first y) l)) (at (slice_get (spec_of s).funs i) e)
-    where
-      at : (o : Option Fun) → option_map (λ f. f.core) o ≡ Some x → terms.body_turn B s.ctx.now cap (spec_of s) s.at on g o xs l ≡ given_of B cap on s g true xs x l
-      at None k = absurd cc
-      at (Some fun) k = ap (λ z. given_of B cap on s g true xs z l) (some_is fun.core x k)
+  -- ---- a turn on arguments of one function alone is its body
+  only_body : (f : ℕ → List (Abs W N) → Evaluation (Yield (GroupArgs W N) (Abs W N))) (i : ℕ) (xs : List (Abs W N)) → terms.bodies B s.ctx.now cap (spec_of s) s.at f (only i xs) ≡ f i xs ∷ []
+  only_body f zero xs = refl
+  only_body f (suc i) xs = only_body (λ k. f (suc k)) i xs
 
-  pub body_fails : (i : ℕ) (first : Option (Yield (GroupArgs W N) (Abs W N))) (xs : List (Abs W N)) (x : Core) (l : List Seen) → option_map (λ f. f.core) (slice_get (spec_of s).funs i) ≡ Some x
-      → (k : ℕ) → given_of B cap on s g true xs x l ≡ fails k → given_from i first (Some xs ∷ []) l ≡ fails k
-  body_fails i first xs x l e k is = body_some i first xs x l e ∙ ap (λ r. then_on r (λ y l. gives (join_some j first y) l)) is
+  pub only_turn : (i : ℕ) (xs : List (Abs W N)) (l : List Seen) → group_turn B cap on s g (only i xs) l ≡ given_from i None (Some xs ∷ []) l
+  only_turn i xs l = ap (λ fs. joined_from j None fs l) (only_body (body_turn B cap on s g) i xs) ∙ sym (ap (λ f. joined_from j None (f xs ∷ []) l) (number_is i (body_turn B cap on s g)))
 
-  pub body_gives : (i : ℕ) (first : Option (Yield (GroupArgs W N) (Abs W N))) (xs : List (Abs W N)) (x : Core) (l : List Seen) → option_map (λ f. f.core) (slice_get (spec_of s).funs i) ≡ Some x
-      → (y : Option (Yield (GroupArgs W N) (Abs W N))) (m : List Seen) → given_of B cap on s g true xs x l ≡ gives y m → given_from i first (Some xs ∷ []) l ≡ gives (join_some j first y) m
-  body_gives i first xs x l e y m is = body_some i first xs x l e ∙ ap (λ r. then_on r (λ y l. gives (join_some j first y) l)) is
+  -- ---- one body, whose code gives what its core term gives
+  module _ (i : ℕ) (first : Option (Yield (GroupArgs W N) (Abs W N))) (xs : List (Abs W N)) (x : Tail) (l : List Seen) (is : (m : List Seen) → body_turn B cap on s g i xs m ≡ given_tail B cap on s xs x m) where
+    pub body_some : given_from i first (Some xs ∷ []) l ≡ then_on (given_tail B cap on s xs x l) (λ y l. gives (join_some j first y) l)
+    body_some = ap (λ f. then_on (f xs l) (λ y l. gives (join_some j first y) l)) (number_is i (body_turn B cap on s g)) ∙ ap (λ r. then_on r (λ y l. gives (join_some j first y) l)) (is l)
+
+    pub body_fails : (k : ℕ) → given_tail B cap on s xs x l ≡ fails k → given_from i first (Some xs ∷ []) l ≡ fails k
+    body_fails k e = body_some ∙ ap (λ r. then_on r (λ y l. gives (join_some j first y) l)) e
+
+    pub body_gives : (y : Option (Yield (GroupArgs W N) (Abs W N))) (m : List Seen) → given_tail B cap on s xs x l ≡ gives y m → given_from i first (Some xs ∷ []) l ≡ gives (join_some j first y) m
+    body_gives y m e = body_some ∙ ap (λ r. then_on r (λ y l. gives (join_some j first y) l)) e
 
   -- ---- one body after the other
   later_so : (i : ℕ) (first : Option (Yield (GroupArgs W N) (Abs W N))) (rest : GroupArgs W N) (l : List Seen)
@@ -99,17 +107,30 @@ module _ {X W N C : Type 0} (B : Algebra W N C) (cap : ℕ) (s : Setting X W N C
   args_fit [] h = All-nil (Fits B s.ctx.now cap)
   args_fit (x ∷ xs) h = All-cons (Fits B s.ctx.now cap) x xs h.0 (args_fit xs h.1)
 
-  -- the body of a function of the group calls in order
-  pub body_in_order : (spec : Spec) (rank : ℕ → ℕ) (on : ℕ → List (Abs W N) → Answer (Abs W N)) → IsReady B cap s spec rank on → (g i : ℕ) (x : Core) → group_of s i ≡ g → option_map (λ f. f.core) (slice_get (spec_of s).funs i) ≡ Some x
-      → InOrder (length (spec_of s).funs) (group_of s) rank g true x
-  body_in_order spec rank on ready g i x of_group e = at (slice_get (spec_of s).funs i) refl e of_group
-    where
-      at : (o : Option Fun) → slice_get (spec_of s).funs i ≡ o → option_map (λ f. f.core) o ≡ Some x → group_at o ≡ g → InOrder (length (spec_of s).funs) (group_of s) rank g true x
-      at None k e h = absurd cc
-      at (Some fun) k e h =
-          subst (λ z. InOrder (length (spec_of s).funs) (group_of s) rank z true x) h
-          (subst (λ z. InOrder (length (spec_of s).funs) (group_of s) rank fun.group true z) (some_is fun.core x e) (ready.order i fun k))
+  -- as many values as types
+  counted : (ts : List Ty) (xs : List (Abs W N)) → have_types (environment_of (spec_of s)) (parts_of xs) ts ≡ true → length xs ≡ length ts
+  counted [] [] e = refl
+  counted [] (x ∷ xs) e = absurd cc
+  counted (t ∷ ts) [] e = absurd cc
+  counted (t ∷ ts) (x ∷ xs) e = ap suc (counted ts xs (both_true (has_type (environment_of (spec_of s)) x t) (have_types (environment_of (spec_of s)) (parts_of xs) ts) e))
 
-  -- and is no larger than all bodies
-  pub body_weighs : (x : Core) (i : ℕ) → IsCodeOf (code s.cir.now) (spec_of s) → option_map (λ f. f.core) (slice_get (spec_of s).funs i) ≡ Some x → weight x ≤ total (map core s.cir.now.funs.items)
-  body_weighs x i is e = of_total (map core s.cir.now.funs.items) i x (ap (λ ts. slice_get ts i) is ∙ slice_get-map (λ f. f.core) (spec_of s).funs i ∙ e)
+  module _ (spec : Spec) (on : ℕ → List (Abs W N) → Answer (Abs W N)) (ready : IsReady B cap s spec on) (g i : ℕ) (t : Tail) (is : option_map (λ f. f.body) (slice_get (code s.cir.now) i) ≡ Some t) where
+    with_code : (P : Tail → Type 0) → ((f : FunCode) → slice_get (code s.cir.now) i ≡ Some f → P f.body) → P t
+    with_code P go = at (slice_get (code s.cir.now) i) refl is
+      where
+        at : (o : Option FunCode) → slice_get (code s.cir.now) i ≡ o → option_map (λ f. f.body) o ≡ Some t → P t
+        at None k e = absurd cc
+        at (Some f) k e = subst P (some_is f.body t e) (go f k)
+
+    -- the body of a function of the group asks for turns of functions that are there, of the group
+    pub body_asks : group_of s i ≡ g → AsksWithin (length (spec_of s).funs) (group_of s) g t
+    body_asks of_group =
+        with_code (AsksWithin (length (spec_of s).funs) (group_of s) g)
+        (λ f k. subst (λ z. AsksWithin (length (spec_of s).funs) (group_of s) z f.body) of_group (accepted_code_asks_within (spec_of s) (code s.cir.now) i f ready.accepted ready.code_is k))
+
+    -- and its code gives what its core term gives
+    pub body_is : (xs : List (Abs W N)) → ArgsOf B cap s g i xs → (m : List Seen) → body_turn B cap on s g i xs m ≡ given_tail B cap on s xs t m
+    body_is xs are m =
+        with_code (λ t. body_turn B cap on s g i xs m ≡ given_tail B cap on s xs t m)
+        (λ f k. sym (body_alike B s.ctx.now cap (spec_of s) s.at on (code s.cir.now) ready.code_is ready.accepted g i (slice_get (spec_of s).funs i) refl xs (are.of_group, counted (params_of (spec_of s) i) xs are.are.typed) m)
+        ∙ ap (λ o. code_turn B s.ctx.now cap (spec_of s) s.at on o xs m) k)

@@ -2,7 +2,7 @@
 use Rattle.std.specs.Prelude.{ℕ, List}
 use Rattle.base_trait.specs.Algebra.{Algebra}
 use Rattle.semantics_laws.specs.Accepted.{IsAccepted}
-use Rattle.eval_code.specs.Code.{IsCodeOf}
+use Rattle.eval_code.specs.Lowered.{IsCodeOf}
 use Rattle.eval_code.specs.Views.{code}
 use Rattle.support_tail_fixpoint.specs.Activation.{HasTurn}
 use Rattle.abstract_value_laws.specs.Abs.{Abs}

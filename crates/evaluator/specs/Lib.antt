@@ -1,3 +1,5 @@
-pub mod Runs
+pub mod Arms
 pub mod Calls
 pub mod Joins
+pub mod Runs
+pub mod Views

@@ -1,5 +1,5 @@
 -- What the evaluator's functions are called with, and how they end.
-use Rattle.std.specs.Prelude.{◌≡◌, ℕ, true, List, [], Option, Result, All, IfOk, IfSome, OnOk}
+use Rattle.std.specs.Prelude.{◌≡◌, ⊤, ℕ, Bool, true, false, List, [], Option, Some, None, Result, Ok, Err, All, IfOk, IfSome, OnOk, length, map, take}
 use Rattle.base_trait.specs.Algebra.{Algebra}
 use Rattle.base_trait.specs.Lists.{IsGrown}
 use Rattle.base_trait.specs.Uses.{Seen}
@@ -10,9 +10,11 @@ use Rattle.abstract_value_laws.specs.Fits.{Fits}
 use Rattle.abstract_value_laws.specs.Types.{have_types}
 use Rattle.abstract_value.specs.View.{abs}
 use Rattle.abstract_value.specs.declared.value.AbstractValue.{AbstractValue}
+use Rattle.support_tail_fixpoint.specs.Answer.{fails, gives}
 use Rattle.abstract_semantics.specs.Answers.{Answer, behind}
 use Rattle.abstract_semantics.specs.Terms.{params_of}
 use Rattle.eval_memo.specs.declared.error.EvalError.{EvalError}
+use Rattle.eval_memo.specs.declared.error.EvalError.TheVariants as e
 use Rattle.eval_memo.specs.declared.setting.Setting.{Setting}
 use Rattle.eval_memo.specs.Given.{Gives}
 use Rattle.eval_memo.specs.Memos.{Holds, Remembered, Stands}
@@ -24,10 +26,17 @@ pub record HaveGrown {W N : Type 0} (l m : List Seen) (es fs : List (Remembered 
   pub log : IsGrown l m
   pub memo : IsGrown es fs
 
-module _ {X W N C : Type 0} (B : Algebra W N C) (cap : ℕ) (s : Setting X W N C) (spec : Spec) (rank : ℕ → ℕ) (on : ℕ → List (Abs W N) → Answer (Abs W N)) (before ticked : ℕ) where
+-- The answer is this frame, where the result says that it was reached, with the log as it is then. Want of memory is free.
+abbrev pub Reaches : {A : Type 0} → Result Bool EvalError → List A → List Seen → Answer (List A) → Type 0
+Reaches (Ok true) frame log answer = answer ≡ gives (Some frame) log
+Reaches (Ok false) frame log answer = answer ≡ gives None log
+Reaches (Err (e.OutOfFuel f)) frame log answer = answer ≡ fails f
+Reaches (Err e.NoMemory) frame log answer = ⊤
+
+module _ {X W N C : Type 0} (B : Algebra W N C) (cap : ℕ) (s : Setting X W N C) (spec : Spec) (on : ℕ → List (Abs W N) → Answer (Abs W N)) (before ticked : ℕ) where
   -- Values of variables fit, in a setting that is ready, with a memo that is right.
   pub record MayRun (env : List (AbstractValue X W N C)) (es : List (Remembered W N)) (steps : ℕ) : Type 0 where
-    pub ready : IsReady B cap s spec rank on
+    pub ready : IsReady B cap s spec on
     pub fits : All (λ v. Fits B s.ctx.now cap (abs v)) env
     pub memo : Stands on before ticked es steps
 
@@ -44,3 +53,11 @@ module _ {X W N C : Type 0} (B : Algebra W N C) (cap : ℕ) (s : Setting X W N C
     pub runs : Runs abs (λ v. Fits B s.ctx.now cap (abs v)) r l log (behind l (on f args)) [] [] es entries steps
     pub held : IfOk r (λ _. have_types (environment_of (spec_of s)) (parts args) (params_of (spec_of s) f) ≡ true → Holds f args entries)
     pub known : Holds f args es → entries ≡ es
+
+  -- Nodes end so: where all have values these are behind the slots from before, and otherwise there is no frame; and the rest as above.
+  pub record RunsNodes (r : Result Bool EvalError) (l log : List Seen) (answer : Answer (List (Abs W N))) (old new : List (AbstractValue X W N C)) (es entries : List (Remembered W N)) (steps : ℕ) : Type 0 where
+    pub value : Reaches r (map abs new) log answer
+    pub fits : OnOk r (All (λ v. Fits B s.ctx.now cap (abs v)) new)
+    pub front : OnOk r (take (length old) new ≡ old)
+    pub memo : Stands on before ticked entries steps
+    pub grown : HaveGrown l log es entries

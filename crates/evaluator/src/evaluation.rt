@@ -24,15 +24,15 @@ use std::marker::Brand;
 use std::sync::ledger::{Blank, Ledger};
 use support_step_counter::Steps;
 
-/// How many terms and plans of branches may stand within one another, over all calls that are underway. A call of another group
-/// counts as one more. Deeper evaluations answer `NoMemory`, since each takes up to 4 KiB of the stack, over words that are sets.
-const MOST_NESTED: u32 = 1_800;
+/// How many branches and plans may stand within one another, over all calls that are underway. A call of another group
+/// counts as one more. Deeper evaluations answer `NoMemory`, since each takes up to 7 KiB of the stack, over the base that takes most.
+const MOST_NESTED: u32 = 1_200;
 
 /// The value of a call, or none; its reads are added to the log.
 ///
 /// The memo is one of the same setting. A call that it holds is not evaluated again; one of a function of the specification that is new
-/// is kept there, and ticks one step. `Deep` names the function of the first activation that had no turn left. After an error the memo
-/// and the log may have grown. Where more than 1,800 terms and plans of branches stand within one another, over all calls
+/// is kept there, and ticks one step. `OutOfFuel` names the function of the first activation that had no turn left. After an error the memo
+/// and the log may have grown. Where more than 1,200 branches and plans stand within one another, over all calls
 /// that are underway, each of which counts as one more, there is no memory for them.
 pub fn eval<B: Base, L: Ledger>(
     alloc: Global,
@@ -112,7 +112,7 @@ fn evaluate_unkept<B: Base, K: Placed, L: Ledger>(
     steps: &mut Steps<L>,
     log: &mut Log,
 ) -> Result<Option<AbstractValue<B>>, EvalError>
-    requires ready { IsReady B.algebra B.CAP setting.now K.spec K.rank (answers B.algebra setting.now.ctx.now B.CAP K.spec K.at K.policy) }
+    requires ready { IsReady B.algebra B.CAP setting.now K.spec (answers B.algebra setting.now.ctx.now B.CAP K.spec K.at K.policy) }
     requires args { AreArguments B.algebra setting.now.ctx.now B.CAP (spec_of setting.now) function (map abs args.items) }
     requires memo { Stands (answers B.algebra setting.now.ctx.now B.CAP K.spec K.at K.policy) K.before K.ticked (entries memo.old) steps.old }
     ensures value { Gives abs result (uses_of log.new) (behind (uses_of log.old) (answers B.algebra setting.now.ctx.now B.CAP K.spec K.at K.policy function (map abs args.items))) }
@@ -124,16 +124,18 @@ fn evaluate_unkept<B: Base, K: Placed, L: Ledger>(
         return Ok(None);
     }
     let mut own = Log::new(alloc);
-    match evaluate_activation::<B, Defined<K>, L>(
+    let result = evaluate_activation::<B, Defined<K>, L>(
         alloc,
         setting,
         MOST_NESTED,
         function,
-        args,
+        &args,
         memo,
         steps,
         &mut own,
-    ) {
+    );
+    drop(args);
+    match result {
         Ok(value) => Ok(add_reads::<B>(alloc, own, value, log)?),
         Err(error) => {
             drop(own);
@@ -174,7 +176,7 @@ fn evaluate_known<B: Base, K: Placed, L: Ledger>(
     steps: &mut Steps<L>,
     log: &mut Log,
 ) -> Result<Option<AbstractValue<B>>, EvalError>
-    requires ready { IsReady B.algebra B.CAP setting.now K.spec K.rank (answers B.algebra setting.now.ctx.now B.CAP K.spec K.at K.policy) }
+    requires ready { IsReady B.algebra B.CAP setting.now K.spec (answers B.algebra setting.now.ctx.now B.CAP K.spec K.at K.policy) }
     requires args { AreArguments B.algebra setting.now.ctx.now B.CAP (spec_of setting.now) function (map abs args.items) }
     requires memo { Stands (answers B.algebra setting.now.ctx.now B.CAP K.spec K.at K.policy) K.before K.ticked (entries memo.old) steps.old }
     ensures value { Gives abs result (uses_of log.new) (behind (uses_of log.old) (answers B.algebra setting.now.ctx.now B.CAP K.spec K.at K.policy function (map abs args.items))) }

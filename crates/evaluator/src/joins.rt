@@ -12,6 +12,7 @@ use eval_memo::{Known, Setting};
 use std::alloc::{AllocError as NoMemory, Global};
 
 /// The joins of what several branches and a last one give, from the last one on.
+#[inline(never)]
 pub(crate) fn joined_all<B: Base, K: Known<B>>(
     alloc: Global,
     setting: &Setting<B>,
@@ -19,7 +20,7 @@ pub(crate) fn joined_all<B: Base, K: Known<B>>(
     mut firsts: Vec<Option<TurnYield<B>>>,
     last: Option<TurnYield<B>>,
 ) -> Result<Option<TurnYield<B>>, NoMemory>
-    requires setting { IsReady B.algebra B.CAP setting.now K.spec K.rank (K.calls setting.now.ctx.now) }
+    requires setting { IsReady B.algebra B.CAP setting.now K.spec (K.calls setting.now.ctx.now) }
     requires firsts { All (λ x. IfSome x (λ v. YieldFits B.algebra B.CAP setting.now group (yield v))) firsts.items }
     requires last { IfSome last (λ v. YieldFits B.algebra B.CAP setting.now group (yield v)) }
     ensures value { IfOk result (λ r. option_map yield r ≡ join_all (of.join_yields B.algebra B.CAP (K.calls setting.now.ctx.now) setting.now) (map (option_map yield) firsts.items) (option_map yield last)) }

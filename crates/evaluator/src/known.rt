@@ -34,8 +34,6 @@ impl<K: Placed> Specified for Defined<K> {
 }
 
 impl<K: Placed> Counted for Defined<K> {
-    ghost rank = { K.rank };
-
     ghost before = { K.before };
 
     ghost ticked = { K.ticked };

@@ -1,12 +1,12 @@
 -- Tables of which no address is open.
-use Rattle.std.proofs.Common.{◌≡◌, ◌∙◌, ℕ, List, Option, None, Some, ap, refl, sym, subst}
-use Rattle.std.specs.Prelude.{IsSome, IsSomeAnd, ◌⊎◌}
+use Rattle.std.proofs.Common.{◌≡◌, ◌∙◌, ℕ, Option, None, Some, ap, refl, sym, subst}
+use Rattle.std.specs.Prelude.{IsSome, IsSomeAnd}
 use Rattle.fixpoint_theory.specs.Analysis.{Analysis}
 use Rattle.fixpoint_theory.specs.Outcome.{Outcome, moves, too_many, undecodable}
 use Rattle.fixpoint_theory.specs.Runs.{Machine}
 use Rattle.fixpoint_theory.specs.Table.{IsClosed, Listing, Listings, Reaches, Tells}
 use Rattle.fixpoint_open_tables.specs.declared.ending.Ending.{Ending}
-use Rattle.fixpoint_open_tables.specs.Endings.{Endings, IsClosedButOpen, IsDecodable, IsNowhereOpen, ending_at, endings_of}
+use Rattle.fixpoint_open_tables.specs.Endings.{Endings, IsClosedButOpen, IsDecodable, IsNowhereOpen, ending_at}
 use Rattle.fixpoint_open_tables.specs.Laws.{ClosedIfNowhereOpen, SoundIfNowhereOpen}
 use Rattle.fixpoint_open_tables.specs.LeftOpen.{ending_of, left_open, opened}
 

@@ -2,20 +2,20 @@
 use Rattle.std.proofs.Common.{◌≡◌, ◌∙◌, ℕ, zero, suc, ◌+◌, ◌<◌, ◌≤◌, Bool, true, false, List, [], ◌∷◌, Option, None, Some, IsTrue, if◌then◌else◌, arith, ap, refl, sym, subst}
 use Rattle.std.specs.Prelude.{IsSome, IsSomeAnd, is_some, ◌⊎◌}
 use Rattle.base_trait.specs.Lists.{AreAmong, IsAmong}
-use Rattle.base_trait.specs.Uses.{Read, Seen}
+use Rattle.base_trait.specs.Uses.{Read}
 use Rattle.base_trait.specs.declared.uses.Stamp.TheVariants.{At}
 use Rattle.fixpoint_theory.specs.Analysis.{Analysis, AnalysisLaws}
 use Rattle.fixpoint_theory.specs.Code.{is_code}
 use Rattle.fixpoint_theory.specs.Outcome.{AreOfStamps, HasTargets, IfPost, IfUses, Outcome, SameOutcome, moves, too_many, undecodable}
-use Rattle.fixpoint_theory.specs.Runs.{AreSeen, After, Describes, IsSound, IsSoundTable, Machine, Step, Stop, after, at, deep, goes, goes_on, left, no_decoding, run_from, stopped, stops}
-use Rattle.fixpoint_theory.specs.Table.{IsAbsorbed, IsClosed, Listing, Listings, Reaches, TableFits, Tells}
+use Rattle.fixpoint_theory.specs.Runs.{AreSeen, Describes, IsSound, IsSoundTable, Machine, Step, Stop, after, at, deep, goes, goes_on, left, no_decoding, run_from, stopped, stops}
+use Rattle.fixpoint_theory.specs.Table.{IsClosed, Listing, Listings, Reaches, TableFits, Tells}
 use Rattle.fixpoint_theory.proofs.Growth.{by_bool}
 use Rattle.fixpoint_theory.proofs.Soundness.{closed_tables_are_sound}
 use Rattle.fixpoint_open_tables.specs.Endings.{Endings, IsClosedButOpen, IsDecodable, ending_at, endings_of}
 use Rattle.fixpoint_open_tables.specs.Instance.{deep_described, opened_post, opened_same, opened_targets, opened_uses}
 use Rattle.fixpoint_open_tables.specs.Laws.{OpenTablesAreSound}
 use Rattle.fixpoint_open_tables.specs.LeftOpen.{ending_of, left_open, opened}
-use Rattle.fixpoint_open_tables.specs.Runs.{IsSoundUntilOpen, IsUntilOpen}
+use Rattle.fixpoint_open_tables.specs.Runs.{IsUntilOpen}
 
 -- ---- an analysis of which some addresses are left open
 abbrev pick : {E W : Type 0} → Bool → Outcome E W → Outcome E W

@@ -1,5 +1,5 @@
 -- What an analysis that is left open answers.
-use Rattle.std.proofs.Common.{◌≡◌, ℕ, List, Option, None, Some, ap, refl, sym, subst}
+use Rattle.std.proofs.Common.{ℕ, subst}
 use Rattle.fixpoint_theory.specs.Analysis.{Analysis}
 use Rattle.fixpoint_theory.specs.Outcome.{Moves, Outcome, moves, too_many, undecodable}
 use Rattle.fixpoint_theory.specs.WorklistState.{IsStopped, WorklistState}

@@ -1,6 +1,6 @@
 -- The verdict on a table with its endings.
 use Rattle.std.proofs.Common.{◌≡◌, ◌∙◌, ℕ, ◌<◌, ◌≤◌, Bool, true, false, Option, None, Some, IsTrue, arith, inl, inr, ap, refl, sym, subst}
-use Rattle.std.specs.Prelude.{IfNone, IfSome, not, ◌⊎◌}
+use Rattle.std.specs.Prelude.{IfNone, IfSome, not}
 use Rattle.std.proofs.lemmas.Bool.{cases_lt}
 use Rattle.fixpoint_theory.specs.Analysis.{Analysis, AnalysisLaws}
 use Rattle.fixpoint_theory.specs.Table.{Listings, TableFits}

@@ -1,5 +1,8 @@
 -- How the blocks of a table end, and when a table that is left open is closed but there.
-use Rattle.std.specs.Prelude.{◌≡◌, ℕ, Option, Some, None}
+use Rattle.std.specs.Prelude.{◌≡◌, ℕ, List, Option, Some, None}
+use Rattle.std.specs.BTreeMap.{is_at}
+use Rattle.std.specs.Map.{lookup}
+use Rattle.std.specs.Ordering.{nat_cmp}
 use Rattle.fixpoint_theory.specs.Analysis.{Analysis}
 use Rattle.fixpoint_theory.specs.Table.{IsClosed, Listing, Listings}
 use Rattle.fixpoint_open_tables.specs.declared.ending.Ending.{Ending}
@@ -9,6 +12,10 @@ use Rattle.fixpoint_open_tables.specs.LeftOpen.{ending_of, left_open}
 -- How the block at each address ends. The address is open where there is an ending.
 abbrev pub Endings : Type 0 → Type 0
 Endings W = ℕ → Option (Ending W)
+
+-- Those that stand in a list with their addresses.
+abbrev pub ends_in : {W : Type 0} → List (ℕ × Ending W) → Endings W
+ends_in es a = lookup (is_at (nat_cmp a)) es
 
 -- It is not for want of a decoding that a block is open.
 abbrev pub IsDecodable : {W : Type 0} → Option (Ending W) → Type 0

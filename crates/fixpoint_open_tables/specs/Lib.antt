@@ -4,5 +4,6 @@ pub mod Gathering
 pub mod Instance
 pub mod Laws
 pub mod LeftOpen
+pub mod Places
 pub mod Runs
 pub mod Verdicts

@@ -1,24 +1,22 @@
 //! Analyses whose tables are left open.
 
 ghost use Rattle.std.specs.Prelude.{◌≡◌, ◌+◌, ◌*◌, ◌≤◌, ℕ, IfOk, vec_len, length};
-ghost use Rattle.std.specs.Ordering.{nat_cmp};
-ghost use Rattle.std.specs.BTreeMap.{btree_map_len, get};
+ghost use Rattle.std.specs.BTreeMap.{btree_map_len};
 ghost use Rattle.fixpoint_theory.specs.Analysis.{Analysis, height_of};
 ghost use Rattle.fixpoint_theory.specs.Elements.{Elements};
 ghost use Rattle.fixpoint_theory.specs.Table.{FitsImage, IsClosed, TableFits};
 ghost use Rattle.fixpoint_theory.specs.Views.{listings};
 ghost use Rattle.fixpoint_worklist.specs.Answers.{IsReportOf};
-ghost use Rattle.fixpoint_open_tables.specs.Endings.{IsClosedButOpen};
+ghost use Rattle.fixpoint_open_tables.specs.Endings.{IsClosedButOpen, ends_in};
 ghost use Rattle.fixpoint_open_tables.specs.LeftOpen.{left_open};
 ghost use Rattle.fixpoint_open_tables.specs.Runs.{IsSoundUntilOpen};
 
-use crate::block_endings::endings;
-use crate::ending::Ending;
+use crate::block_endings::table_endings;
+use crate::endings::Endings;
 use crate::left_open::LeftOpen;
 use fixpoint_theory::{Analyser, Described, Table};
 use fixpoint_worklist::{AnalyseError, Report};
 use std::alloc::{AllocError as NoMemory, Global};
-use std::collections::BTreeMap;
 use std::sync::ledger::Ledger;
 use support_step_counter::Steps;
 
@@ -26,7 +24,7 @@ use support_step_counter::Steps;
 #[derive(Drop)]
 pub struct OpenReport<E, W> {
     pub report: Report<E>,
-    pub endings: BTreeMap<u32, Ending<W>>,
+    pub endings: Endings<W>,
 }
 
 /// The table of an analysis that is left open.
@@ -84,9 +82,9 @@ pub fn analyse<A: Described, L: Ledger>(
 ) -> Result<OpenReport<A::Element, A::Shown>, NoMemory>
     requires ready { A.IsReady analyser.now }
     ensures value { IfOk result (λ r. IsReportOf (left_open (A.analysis analyser.now)) A.view r.report) }
-    ensures closed { IfOk result (λ r. IsClosedButOpen (A.analysis analyser.now) (listings A.view r.report.table) (get nat_cmp r.endings)) }
+    ensures closed { IfOk result (λ r. IsClosedButOpen (A.analysis analyser.now) (listings A.view r.report.table) (ends_in r.endings)) }
     ensures sound { IfOk result (λ r. IsSoundUntilOpen (A.analysis analyser.now) (A.machine analyser.now) (listings A.view r.report.table)
-        (get nat_cmp r.endings)) }
+        (ends_in r.endings)) }
     ensures fits { IfOk result (λ r. TableFits (A.analysis analyser.now) (listings A.view r.report.table)) }
     ensures image { IfOk result (λ r. FitsImage (A.analysis analyser.now) (listings A.view r.report.table)) }
     ensures count { IfOk result (λ r. steps.new ≤ steps.old + (vec_len r.report.trace + btree_map_len r.report.table.blocks)) }
@@ -95,6 +93,6 @@ pub fn analyse<A: Described, L: Ledger>(
 {
     let report = table_of(alloc, analyser, steps)?;
     are_few(analyser, &report.table);
-    let endings = endings(alloc, analyser, &report.table, steps)?;
+    let endings = table_endings(alloc, analyser, &report.table, steps)?;
     Ok(OpenReport { report, endings })
 }

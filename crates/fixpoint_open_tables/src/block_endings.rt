@@ -1,21 +1,20 @@
 //! The endings of a table's blocks.
 
 ghost use Rattle.std.specs.Prelude.{◌≡◌, ◌+◌, ◌≤◌, ℕ, true, false, IfOk, IsTrue, OnOk};
-ghost use Rattle.std.specs.Ordering.{nat_cmp};
-ghost use Rattle.std.specs.BTreeMap.{btree_map_len, get};
+ghost use Rattle.std.specs.BTreeMap.{btree_map_len};
 ghost use Rattle.fixpoint_theory.specs.Analysis.{Analysis};
 ghost use Rattle.fixpoint_theory.specs.Code.{is_code};
 ghost use Rattle.fixpoint_theory.specs.Elements.{Elements};
 ghost use Rattle.fixpoint_theory.specs.Table.{IsClosed, TableFits, Tells};
 ghost use Rattle.fixpoint_theory.specs.Views.{listing, listings};
-ghost use Rattle.fixpoint_open_tables.specs.Endings.{endings_of};
+ghost use Rattle.fixpoint_open_tables.specs.Endings.{endings_of, ends_in};
 ghost use Rattle.fixpoint_open_tables.specs.Gathering.{IsPut};
 ghost use Rattle.fixpoint_open_tables.specs.LeftOpen.{ending_of, left_open, opened};
 
 use crate::ending::Ending;
+use crate::endings::Endings;
 use fixpoint_theory::{Analyser, Block, Table, Targets, Transfer, Transferred};
 use std::alloc::{AllocError as NoMemory, Global};
-use std::collections::BTreeMap;
 use std::sync::ledger::Ledger;
 use support_step_counter::Steps;
 
@@ -73,16 +72,16 @@ fn ending_of<A: Analyser, L: Ledger>(
     }
 }
 
-/// Adds an ending, if there is one.
-fn add_ending<W: Drop>(
-    found: &mut BTreeMap<u32, Ending<W>>,
+/// Adds the ending of the block of an address, if it has one.
+pub fn add_ending<W: Drop>(
+    endings: &mut Endings<W>,
     at: u32,
     ending: Option<Ending<W>>,
 ) -> Result<(), NoMemory>
-    ensures { OnOk result (IsPut found.old found.new at ending) }
+    ensures { OnOk result (IsPut endings.old endings.new at ending) }
 {
     if let Some(ending) = ending {
-        found.insert(at, ending)?;
+        endings.insert(at, ending)?;
     }
     Ok(())
 }
@@ -94,14 +93,14 @@ pub(crate) fn endings_of<A: Analyser, L: Ledger>(
     table: &Table<A::Element>,
     all: bool,
     steps: &mut Steps<L>,
-) -> Result<BTreeMap<u32, Ending<A::Shown>>, NoMemory>
+) -> Result<Endings<A::Shown>, NoMemory>
     requires ready { A.IsReady analyser.now }
     requires table { TableFits (A.analysis analyser.now) (listings A.view table.now) }
     requires closed { all ≡ false → IsClosed (left_open (A.analysis analyser.now)) (listings A.view table.now) }
-    ensures value { IfOk result (λ r. (a : ℕ) → get nat_cmp r a ≡ endings_of (A.analysis analyser.now) (listings A.view table.now) a) }
+    ensures value { IfOk result (λ r. (a : ℕ) → ends_in r a ≡ endings_of (A.analysis analyser.now) (listings A.view table.now) a) }
     ensures most { steps.new ≤ steps.old + btree_map_len table.now.blocks }
 {
-    let mut found = BTreeMap::new(alloc);
+    let mut found = Endings::new(alloc);
     for (at, block) in table.blocks.iter() {
         let ending = ending_of(analyser, alloc, *at, block, all, steps)?;
         add_ending(&mut found, *at, ending)?;
@@ -111,16 +110,16 @@ pub(crate) fn endings_of<A: Analyser, L: Ledger>(
 
 /// The endings of the blocks of a table that is closed where it is not open. Each block with neither next addresses
 /// nor exits is transferred once.
-pub fn endings<A: Analyser, L: Ledger>(
+pub fn table_endings<A: Analyser, L: Ledger>(
     alloc: Global,
     analyser: &A,
     table: &Table<A::Element>,
     steps: &mut Steps<L>,
-) -> Result<BTreeMap<u32, Ending<A::Shown>>, NoMemory>
+) -> Result<Endings<A::Shown>, NoMemory>
     requires ready { A.IsReady analyser.now }
     requires table { TableFits (A.analysis analyser.now) (listings A.view table.now) }
     requires closed { IsClosed (left_open (A.analysis analyser.now)) (listings A.view table.now) }
-    ensures value { IfOk result (λ r. (a : ℕ) → get nat_cmp r a ≡ endings_of (A.analysis analyser.now) (listings A.view table.now) a) }
+    ensures value { IfOk result (λ r. (a : ℕ) → ends_in r a ≡ endings_of (A.analysis analyser.now) (listings A.view table.now) a) }
     ensures most { steps.new ≤ steps.old + btree_map_len table.now.blocks }
 {
     endings_of(analyser, alloc, table, false, steps)

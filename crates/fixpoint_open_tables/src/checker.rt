@@ -1,23 +1,21 @@
 //! The checker of tables that are left open.
 
 ghost use Rattle.std.specs.Prelude.{◌≡◌, ◌+◌, ◌≤◌, ◌↔◌, IsTrue, IfNone, IfOk, IfSome};
-ghost use Rattle.std.specs.Ordering.{nat_cmp};
-ghost use Rattle.std.specs.BTreeMap.{btree_map_len, get};
+ghost use Rattle.std.specs.BTreeMap.{btree_map_len};
 ghost use Rattle.base_trait.specs.Identity.{IsIdentity};
 ghost use Rattle.fixpoint_theory.specs.Analysis.{Analysis};
 ghost use Rattle.fixpoint_theory.specs.Table.{TableFits};
 ghost use Rattle.fixpoint_theory.specs.Views.{listings};
-ghost use Rattle.fixpoint_open_tables.specs.Endings.{IsClosedButOpen};
+ghost use Rattle.fixpoint_open_tables.specs.Endings.{IsClosedButOpen, ends_in};
 ghost use Rattle.fixpoint_open_tables.specs.Runs.{IsSoundUntilOpen};
 ghost use Rattle.fixpoint_open_tables.specs.Verdicts.{IsSettled, IsUpTo, IsVerdict};
 
 use crate::apart::first_apart;
 use crate::block_endings::endings_of;
-use crate::ending::Ending;
+use crate::endings::Endings;
 use crate::left_open::LeftOpen;
 use fixpoint_theory::{Described, Table, Verdict};
 use std::alloc::{AllocError as NoMemory, Global};
-use std::collections::BTreeMap;
 use std::sync::ledger::Ledger;
 use support_step_counter::Steps;
 
@@ -72,7 +70,7 @@ pub fn check<A: Described, L: Ledger>(
     alloc: Global,
     analyser: &A,
     table: &Table<A::Element>,
-    endings: &BTreeMap<u32, Ending<A::Shown>>,
+    endings: &Endings<A::Shown>,
     steps: &mut Steps<L>,
 ) -> Result<Verdict<A::Shown>, NoMemory>
 where
@@ -80,11 +78,11 @@ where
     requires ready { A.IsReady analyser.now }
     requires table { TableFits (A.analysis analyser.now) (listings A.view table.now) }
     requires same { IsIdentity A.Shown.eq }
-    ensures value { IfOk result (IsVerdict (A.analysis analyser.now) (listings A.view table.now) (get nat_cmp endings.now)) }
+    ensures value { IfOk result (IsVerdict (A.analysis analyser.now) (listings A.view table.now) (ends_in endings.now)) }
     ensures accepted { IfOk result (λ v. (v ≡ Verdict.Accepted) ↔ IsClosedButOpen (A.analysis analyser.now) (listings A.view table.now)
-        (get nat_cmp endings.now)) }
+        (ends_in endings.now)) }
     ensures sound { IfOk result (λ v. v ≡ Verdict.Accepted → IsSoundUntilOpen (A.analysis analyser.now) (A.machine analyser.now)
-        (listings A.view table.now) (get nat_cmp endings.now)) }
+        (listings A.view table.now) (ends_in endings.now)) }
     ensures most { steps.new ≤ steps.old + (btree_map_len table.now.blocks + btree_map_len table.now.blocks) }
 {
     let verdict = fixpoint_table_check::check(alloc, &LeftOpen { of: analyser }, table, steps)?;

@@ -57,11 +57,13 @@ mod apart;
 mod block_endings;
 mod checker;
 mod ending;
+mod endings;
 pub mod laws;
 mod left_open;
 
 pub use analysis::{OpenReport, analyse};
-pub use block_endings::endings;
+pub use block_endings::{add_ending, table_endings};
 pub use checker::check;
 pub use ending::Ending;
+pub use endings::Endings;
 pub use left_open::LeftOpen;

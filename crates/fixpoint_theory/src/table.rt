@@ -14,7 +14,13 @@ pub struct Block<E> {
 }
 
 /// The blocks by their addresses.
-#[derive(Drop)]
 pub struct Table<E> {
     pub blocks: BTreeMap<u32, Block<E>>,
+}
+
+/// Written out, so that what lets a table go stands once for each element, and not once more in each crate where one is let go.
+impl<E: Drop> Drop for Table<E> {
+    fn drop(self) {
+        let Table { blocks: _blocks } = self;
+    }
 }

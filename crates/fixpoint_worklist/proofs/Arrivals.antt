@@ -1,18 +1,50 @@
 -- Arrivals at a worklist.
-use Rattle.std.proofs.Common.{◌≡◌, ◌∙◌, ℕ, ◌+◌, List, take, length, get_or, ◌<◌, Option, None, Some, ap, sym, subst}
+use Rattle.std.proofs.Common.{◌≡◌, ◌∙◌, ℕ, ◌+◌, min, true, false, List, take, length, get_or, ◌<◌, Option, None, Some, if◌then◌else◌, ap, refl, sym, subst}
 use Rattle.std.specs.Prelude.{IsSomeAnd, fold}
 use Rattle.std.proofs.lemmas.List.Sums.{fold_more}
 use Rattle.base_trait.specs.Uses.{Seen}
 use Rattle.fixpoint_theory.specs.Analysis.{Analysis, AnalysisLaws}
+use Rattle.fixpoint_theory.specs.Code.{is_code}
 use Rattle.fixpoint_theory.specs.Outcome.{IfPost, Moves, Outcome, SameOutcome, too_many}
-use Rattle.fixpoint_theory.specs.WorklistState.{WorklistState, Reached, arrive, arrive_all, changed, done, sent, transferred, transferred_from}
+use Rattle.fixpoint_theory.specs.WorklistState.{WorklistState, Reached, arrival, arrive, arrive_all, arrived, begin, changed, done, grown, nowhere, sent, transferred, transferred_from}
+use Rattle.fixpoint_theory.proofs.Growth.{by_same}
 use Rattle.fixpoint_worklist.specs.Fitting.{AllFit, IsFit}
-use Rattle.fixpoint_worklist.specs.Likeness.{AllLike}
+use Rattle.fixpoint_worklist.specs.Likeness.{AllLike, IsLike}
 use Rattle.fixpoint_worklist.proofs.Fitting.{all_fit, one_done_fit}
 use Rattle.fixpoint_worklist.proofs.Likeness.{arrive_like, like_itself, like_on, sent_like}
 use Rattle.fixpoint_worklist.proofs.Traces.{has_too, same_too_many}
 
 module _ {E W S : Type 0} (A : Analysis E W S) (laws : AnalysisLaws A) where
+  -- the first arrival, where nothing was reached
+  pub begun_from : (p q : WorklistState E) (x : E) → A.elements.fits x → A.elements.same x A.entry → ((a : ℕ) → p a ≡ None) → AllLike A q (arrive A x p A.start) → AllLike A q (begin A)
+  begun_from p q x fits same none here a =
+      like_on A laws (q a) (arrive A x p A.start a) (begin A a) (here a)
+      (arrive_like A laws x A.entry p nowhere A.start fits laws.entry_fits (λ a. subst (IsFit A a) (sym (none a)) tt) (λ a. tt) same (λ a. subst (λ y. IsLike A y None) (sym (none a)) tt) a)
+
+  -- an element that does not absorb the new one has grown, and is pending
+  pub grown_arrives : (p q : WorklistState E) (at changes more : ℕ) (x y new : E) → is_code A.code at ≡ true → IsSomeAnd (p at) (λ r. (r.elem ≡ x) × (r.changes ≡ changes))
+      → A.elements.absorbs x new ≡ false → A.elements.same y (grown A changes x new) → min more A.joins ≡ min (changes + 1) A.joins
+      → ((a : ℕ) → q a ≡ changed at (λ _. Some (record { elem = y; changes = more; pending = true })) p a) → AllLike A q (arrive A new p at)
+  grown_arrives p q at changes more x y new code stands apart same few is a =
+      subst (λ b. IsLike A (q a) ((if b then changed at (arrived A new) p else p) a)) (sym code)
+      (subst (λ u. IsLike A u (changed at (arrived A new) p a)) (sym (is a))
+      (by_same a at (λ b. IsLike A (if b then Some here else p a) (if b then arrived A new (p a) else p a))
+      (λ e. subst (λ a. IsLike A (Some here) (arrived A new (p a))) (sym e) (from (p at) stands))
+      (λ e. like_itself A laws (p a))))
+    where
+      here : Reached E
+      here = record { elem = y; changes = more; pending = true }
+
+      from : (u : Option (Reached E)) → IsSomeAnd u (λ r. (r.elem ≡ x) × (r.changes ≡ changes)) → IsLike A (Some here) (arrived A new u)
+      from None h = absurd h
+      from (Some r) h =
+          subst (λ b. IsLike A (Some here) (Some (arrival A b new r))) (sym (ap (λ x. A.elements.absorbs x new) h.0 ∙ apart))
+          (record {
+            elem = subst (λ n. A.elements.same y (grown A n r.elem new)) (sym h.1) (subst (λ x. A.elements.same y (grown A changes x new)) (sym h.0) same);
+            changes = subst (λ n. min more A.joins ≡ min (n + 1) A.joins) (sym h.1) few;
+            pending = refl;
+          })
+
   -- one more target
   pub one_more : (p q s : WorklistState E) (new : E) (targets : List ℕ) (i : ℕ) → i < length targets → A.elements.fits new → AllFit A p → AllFit A q
       → AllLike A q (arrive_all A (Some new) (take i targets) p) → AllLike A s (arrive A new q (get_or targets i 0))

@@ -1,5 +1,4 @@
 pub mod Arrivals
-pub mod Finishing
 pub mod Fitting
 pub mod Likeness
 pub mod Pending

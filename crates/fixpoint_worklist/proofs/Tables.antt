@@ -1,6 +1,6 @@
 -- The table of what was reached.
-use Rattle.std.proofs.Common.{◌≡◌, ◌∙◌, ℕ, ◌+◌, ◌≤◌, List, [], ◌∷◌, length, Option, None, Some, IsTrue, arith, inl, inr, nat_cmp, sym, subst, ap, refl}
-use Rattle.std.specs.Prelude.{All, IsSomeAnd, map, option_map}
+use Rattle.std.proofs.Common.{◌≡◌, ℕ, ◌+◌, ◌≤◌, List, [], ◌∷◌, length, Option, None, Some, IsTrue, arith, inl, inr, nat_cmp, sym, subst, ap, refl}
+use Rattle.std.specs.Prelude.{All, map, option_map}
 use Rattle.std.specs.declared.cmp.Ordering.TheVariants.{Less}
 use Rattle.std.specs.BTreeMap.{BTreeMap, IsOrdered, btree_map_len, get}
 use Rattle.std.specs.List.Sorted.{IsStrictlySortedBy}
@@ -12,21 +12,19 @@ use Rattle.std.proofs.lemmas.Map.Keys.{sorted_tail}
 use Rattle.std.proofs.lemmas.Map.Views.{All-after_first, All-found}
 use Rattle.base_trait.specs.Lists.{IsAmong, IsAscending, IsAscendingFrom}
 use Rattle.base_trait.proofs.Lists.{ascending_shorter}
-use Rattle.fixpoint_theory.specs.Analysis.{Analysis, AnalysisLaws}
+use Rattle.fixpoint_theory.specs.Analysis.{Analysis}
 use Rattle.fixpoint_theory.specs.Code.{is_code}
-use Rattle.fixpoint_theory.specs.WorklistState.{WorklistState, Reached}
-use Rattle.fixpoint_theory.specs.Table.{IsBlockOf, IsTableOf, Listing, TableFits, Tells}
+use Rattle.fixpoint_theory.specs.WorklistState.{IsComplete, WorklistState, Reached}
+use Rattle.fixpoint_theory.specs.Table.{IsBlockOf, IsTableOf, Listing, TableFits}
 use Rattle.fixpoint_theory.specs.Views.{listing, listings}
 use Rattle.fixpoint_theory.specs.declared.table.Block.{Block}
 use Rattle.fixpoint_theory.specs.declared.table.Table.{Table}
 use Rattle.fixpoint_theory.proofs.Bounded.{code_among}
-use Rattle.fixpoint_worklist.specs.Finishing.{IsMade, IsMadeOf, told_block}
-use Rattle.fixpoint_worklist.specs.Settled.{IsToldOf, told_listing}
-use Rattle.fixpoint_worklist.specs.declared.place.Told.{Told}
+use Rattle.fixpoint_worklist.specs.Settled.{AreSettled, IsToldOf}
+use Rattle.fixpoint_worklist.proofs.Settled.{all_told}
 use Rattle.fixpoint_worklist.specs.Fitting.{AllFit, IsFit}
 use Rattle.fixpoint_worklist.specs.Likeness.{AllLike, IsLike}
 use Rattle.fixpoint_worklist.specs.Views.{worklist_state_in, reached_at}
-use Rattle.fixpoint_worklist.specs.declared.place.Place.{Place}
 use Rattle.fixpoint_worklist.specs.declared.worklist.Worklist.{Worklist}
 
 -- ---- few addresses
@@ -60,45 +58,29 @@ few_places {X} code m ascends sorted inside =
     let same = length-map m.entries (λ (e : ℕ × X). e.0) in
     omega (arith, few, same)
 
-module _ {E P W S : Type 0} (view : E → P) (A : Analysis P W S) (laws : AnalysisLaws A) where
-  told_made : (a : ℕ) (elem : E) (told : Option Told) (made : Option (Block E)) → made ≡ option_map (told_block elem) told
-      → IsSomeAnd told (λ t. Tells A (told_listing (view elem) t) (A.transfer a (view elem))) → IsSomeAnd made (λ b. (view b.elem ≡ view elem) × Tells A (listing view b) (A.transfer a (view elem)))
-  told_made a elem None made is h = absurd h
-  told_made a elem (Some t) made is h = subst (λ m. IsSomeAnd m (λ b. (view b.elem ≡ view elem) × Tells A (listing view b) (A.transfer a (view elem)))) (sym is) (refl, h)
+-- the blocks of a worklist as a table
+abbrev pub table_in : {E : Type 0} → Worklist E → Table E
+table_in w = record { blocks = w.blocks }
 
-  made_table : (a : ℕ) (x : Option (Place E)) (y : Option (Block E)) (z : Option (Reached P)) (reach : Place E → Reached P)
-      → ((p : Place E) → (reach p).elem ≡ view p.elem) → ((p : Place E) → x ≡ Some p → IsToldOf view A a p) → IsMade x y → IsLike A (option_map reach x) z → IsBlockOf A a (option_map (listing view) y) z
-  made_table a None None None reach elems told made like = tt
-  made_table a None None (Some s) reach elems told made like = like
-  made_table a None (Some b) z reach elems told made like = cc
-  made_table a (Some p) None z reach elems told made like = absurd (told_made a p.elem p.told None made (told p refl))
-  made_table a (Some p) (Some b) None reach elems told made like = like
-  made_table a (Some p) (Some b) (Some s) reach elems told made like =
-      let block = told_made a p.elem p.told (Some b) made (told p refl) in (
-        subst (λ e. A.elements.same e s.elem) (elems p ∙ sym block.0) like.elem,
-        subst (λ e. Tells A (listing view b) (A.transfer a e)) (sym block.0) block.1,
-      )
+module _ {E P W S : Type 0} (view : E → P) (A : Analysis P W S) where
+  made_table : (w : Worklist E) (a : ℕ) (x : Option (Block E)) (z : Option (Reached P)) → ((b : Block E) → x ≡ Some b → IsToldOf view A a b)
+      → IsLike A (option_map (reached_at view w a) x) z → IsBlockOf A a (option_map (listing view) x) z
+  made_table w a None None told like = tt
+  made_table w a None (Some s) told like = like
+  made_table w a (Some b) None told like = like
+  made_table w a (Some b) (Some s) told like = (like.elem, told b refl)
 
-  -- The blocks of what is reached are the table of its worklist state.
-  pub table_made : (w : Worklist E) (t : Table E) (q : WorklistState P) → ((a : ℕ) (p : Place E) → get nat_cmp w.places a ≡ Some p → IsToldOf view A a p) → IsMadeOf w.places t.blocks
-      → AllLike A (worklist_state_in view w) q → IsTableOf A (listings view t) q
-  table_made w t q told made like a = made_table a (get nat_cmp w.places a) (get nat_cmp t.blocks a) (q a) (reached_at view w.pending a) (λ p. refl) (told a) (made a) (like a)
+  -- Where nothing is pending, the blocks are the table of the worklist state.
+  pub table_made : (w : Worklist E) (q : WorklistState P) → AreSettled view A w → IsComplete (worklist_state_in view w) → AllLike A (worklist_state_in view w) q → IsTableOf A (listings view (table_in w)) q
+  table_made w q settled complete like a = made_table w a (get nat_cmp w.blocks a) (q a) (all_told view A w settled complete a) (like a)
 
-  made_fits : (a : ℕ) (x : Option (Place E)) (y : Option (Block E)) (b : Listing P) → ((p : Place E) → x ≡ Some p → IsTrue (is_code A.code a) × A.elements.fits (view p.elem))
-      → ((p : Place E) → x ≡ Some p → IsToldOf view A a p) → IsMade x y → option_map (listing view) y ≡ Some b → IsTrue (is_code A.code a) × A.elements.fits b.elem
-  made_fits a x None b fine told made is = cc
-  made_fits a None (Some c) b fine told made is = cc
-  made_fits a (Some p) (Some c) b fine told made is =
-      let here = fine p refl in
+  listed_fits : (w : Worklist E) (a : ℕ) (x : Option (Block E)) (b : Listing P) → IsFit A a (option_map (reached_at view w a) x) → option_map (listing view) x ≡ Some b
+      → IsTrue (is_code A.code a) × A.elements.fits b.elem
+  listed_fits w a None b fit is = cc
+  listed_fits w a (Some c) b fit is =
       let one : listing view c ≡ b = cc in
-      let block = told_made a p.elem p.told (Some c) made (told p refl) in
-      let elem : view p.elem ≡ b.elem = sym block.0 ∙ ap (λ (b : Listing P). b.elem) one in
-      (here.0, subst A.elements.fits elem here.1)
+      (fit.0, subst A.elements.fits (ap (λ (b : Listing P). b.elem) one) fit.1)
 
   -- The elements of the table fit.
-  pub table_fits : (w : Worklist E) (t : Table E) → AllFit A (worklist_state_in view w) → ((a : ℕ) (p : Place E) → get nat_cmp w.places a ≡ Some p → IsToldOf view A a p) → IsMadeOf w.places t.blocks
-      → TableFits A (listings view t)
-  table_fits w t fine told made a b is =
-      made_fits a (get nat_cmp w.places a) (get nat_cmp t.blocks a) b
-      (λ p stands. let here : IsFit A a (Some (reached_at view w.pending a p)) = subst (IsFit A a) (ap (option_map (reached_at view w.pending a)) stands) (fine a) in here)
-      (told a) (made a) is
+  pub table_fits : (w : Worklist E) → AllFit A (worklist_state_in view w) → TableFits A (listings view (table_in w))
+  table_fits w fine a b is = listed_fits w a (get nat_cmp w.blocks a) b (fine a) is

@@ -1,5 +1,4 @@
 pub mod Answers
-pub mod Finishing
 pub mod Fitting
 pub mod Likeness
 pub mod Settled

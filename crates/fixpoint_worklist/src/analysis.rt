@@ -1,6 +1,6 @@
 //! Worklist analysis.
 
-ghost use Rattle.std.specs.Prelude.{◌≡◌, ◌+◌, ◌*◌, ◌≤◌, ℕ, List, IfOk, OnOk, vec_len, length};
+ghost use Rattle.std.specs.Prelude.{◌≡◌, ◌+◌, ◌*◌, ◌≤◌, ℕ, List, None, IfOk, OnOk, vec_len, length};
 ghost use Rattle.base_trait.specs.Uses.{Seen};
 ghost use Rattle.fixpoint_theory.specs.Analysis.{Analysis, height_of};
 ghost use Rattle.fixpoint_theory.specs.Elements.{Elements};
@@ -11,11 +11,10 @@ ghost use Rattle.fixpoint_theory.specs.Views.{listings};
 ghost use Rattle.fixpoint_worklist.specs.Fitting.{AllFit};
 ghost use Rattle.fixpoint_worklist.specs.Answers.{IsAnswer};
 ghost use Rattle.fixpoint_worklist.specs.Likeness.{AllLike};
-ghost use Rattle.fixpoint_worklist.specs.Settled.{AreSettled};
+ghost use Rattle.fixpoint_worklist.specs.Settled.{AreSettled, settled_in};
 ghost use Rattle.fixpoint_worklist.specs.Views.{IsReached, worklist_state_in};
 
 use crate::arrive::arrive;
-use crate::blocks::blocks_of;
 use crate::report::{AnalyseError, Report};
 use crate::run::run;
 use crate::worklist::{Worklist, empty_worklist};
@@ -24,21 +23,23 @@ use std::alloc::{AllocError as NoMemory, Global};
 use std::sync::ledger::Ledger;
 use support_step_counter::Steps;
 
-/// The entry's element arrives at the entry's counter.
+/// The entry's element arrives at the entry's counter, as nothing was reached yet.
 fn arrive_at_entry<A: Analyser>(
     analyser: &A,
     alloc: Global,
-) -> Result<Worklist<A::Element>, NoMemory>
+    work: &mut Worklist<A::Element>,
+) -> Result<(), NoMemory>
     requires ready { A.IsReady analyser.now }
-    ensures value { IfOk result (λ w. AllLike (A.analysis analyser.now) (worklist_state_in A.view w) (begin (A.analysis analyser.now))) }
-    ensures fine { IfOk result (λ w. AllFit (A.analysis analyser.now) (worklist_state_in A.view w)) }
-    ensures settled { IfOk result (AreSettled A.view (A.analysis analyser.now)) }
-    ensures reached { IfOk result IsReached }
+    requires nothing { (a : ℕ) → worklist_state_in A.view work.old a ≡ None }
+    requires unsettled { (a : ℕ) → settled_in work.old a ≡ None }
+    requires reached { IsReached work.old }
+    ensures value { OnOk result (AllLike (A.analysis analyser.now) (worklist_state_in A.view work.new) (begin (A.analysis analyser.now))) }
+    ensures fine { OnOk result (AllFit (A.analysis analyser.now) (worklist_state_in A.view work.new)) }
+    ensures settled { OnOk result (AreSettled A.view (A.analysis analyser.now) work.new) }
+    ensures reached { OnOk result (IsReached work.new) }
 {
-    let mut work = empty_worklist::<A>(alloc);
     let entry = analyser.entry(alloc)?;
-    arrive(analyser, alloc, &mut work, &entry, analyser.start())?;
-    Ok(work)
+    arrive(analyser, alloc, work, &entry, analyser.start())
 }
 
 /// Transfers the least pending address until none is pending. The table lists of each reached address what its last transfer told. What it
@@ -58,13 +59,14 @@ pub fn analyse<A: Described, L: Ledger>(
     ensures most { steps.new ≤ steps.old + length (A.analysis analyser.now).code *
         (height_of (A.analysis analyser.now) + (A.analysis analyser.now).joins + 1) }
 {
-    let mut work = arrive_at_entry(analyser, alloc)?;
+    let mut work = empty_worklist::<A>(alloc);
+    arrive_at_entry(analyser, alloc, &mut work)?;
     let trace = run(analyser, alloc, &mut work, steps)?;
     let Worklist {
-        places,
+        blocks,
+        changes: _changes,
         pending: _pending,
     } = work;
-    let blocks = blocks_of(alloc, places)?;
     Ok(Report {
         table: Table { blocks },
         trace,

@@ -10,8 +10,7 @@ ghost use Rattle.fixpoint_worklist.specs.Likeness.{AllLike};
 ghost use Rattle.fixpoint_worklist.specs.Settled.{AreSettled};
 ghost use Rattle.fixpoint_worklist.specs.Views.{IsReached, worklist_state_in};
 
-use crate::place::Place;
-use crate::worklist::{Worklist, place_at, put_pending};
+use crate::worklist::{Worklist, block_at, count_at, one_more, put_pending};
 use fixpoint_theory::Analyser;
 use std::alloc::{AllocError as NoMemory, Global};
 
@@ -19,29 +18,21 @@ use std::alloc::{AllocError as NoMemory, Global};
 fn grow<A: Analyser>(
     analyser: &A,
     alloc: Global,
-    old: &Place<A::Element>,
+    changes: u32,
+    old: &A::Element,
     new: &A::Element,
-) -> Result<Place<A::Element>, NoMemory>
+) -> Result<A::Element, NoMemory>
     requires ready { A.IsReady analyser.now }
-    requires old_fits { (A.analysis analyser.now).elements.fits (A.view old.now.elem) }
+    requires old_fits { (A.analysis analyser.now).elements.fits (A.view old.now) }
     requires new_fits { (A.analysis analyser.now).elements.fits (A.view new.now) }
-    ensures value { IfOk result (λ r. (A.analysis analyser.now).elements.same (A.view r.elem)
-        (grown (A.analysis analyser.now) old.now.changes (A.view old.now.elem) (A.view new.now))) }
-    ensures fits { IfOk result (λ r. (A.analysis analyser.now).elements.fits (A.view r.elem)) }
-    ensures changes { IfOk result (λ r. min r.changes (A.analysis analyser.now).joins ≡ min (old.now.changes + 1) (A.analysis analyser.now).joins) }
+    ensures value { IfOk result (λ r. (A.analysis analyser.now).elements.same (A.view r)
+        (grown (A.analysis analyser.now) changes (A.view old.now) (A.view new.now))) }
+    ensures fits { IfOk result (λ r. (A.analysis analyser.now).elements.fits (A.view r)) }
 {
-    if old.changes < analyser.joins() {
-        Ok(Place {
-            elem: analyser.join(alloc, &old.elem, new)?,
-            changes: old.changes + 1,
-            told: None,
-        })
+    if changes < analyser.joins() {
+        analyser.join(alloc, old, new)
     } else {
-        Ok(Place {
-            elem: analyser.widen(alloc, &old.elem, new)?,
-            changes: old.changes,
-            told: None,
-        })
+        analyser.widen(alloc, old, new)
     }
 }
 
@@ -67,22 +58,19 @@ pub(crate) fn arrive<A: Analyser>(
     if !analyser.is_code(at) {
         return Ok(());
     }
-    match place_at::<A>(work, at) {
+    let changes = count_at(&work.changes, at);
+    match block_at::<A>(work, at) {
         None => {
             let elem = analyser.copy(alloc, new)?;
-            let place = Place {
-                elem,
-                changes: 1,
-                told: None,
-            };
-            put_pending::<A>(work, at, place)
+            put_pending::<A>(work, alloc, at, elem, 1)
         }
         Some(old) => {
             if analyser.absorbs(&old.elem, new) {
                 return Ok(());
             }
-            let place = grow(analyser, alloc, old, new)?;
-            put_pending::<A>(work, at, place)
+            let elem = grow(analyser, alloc, changes, &old.elem, new)?;
+            let changes = one_more(changes, analyser.joins());
+            put_pending::<A>(work, alloc, at, elem, changes)
         }
     }
 }

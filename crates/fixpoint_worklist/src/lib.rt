@@ -4,11 +4,11 @@
 //! transferred until there is none. What the last transfer of an address told of its element, the targets and the uses, is kept for its block. `analyse`
 //! works over any `Analyser` that is ready (`IsReady`) and sound for its machine (`Described`).
 //!
-//! *What stands.* A map has the element of each reached address with the number of its changes, counted up to the joins of the analysis,
-//! and a set has the pending addresses. Seen together they are a worklist state (`worklist_state_in`, specs/Views). It is like the worklist
-//! state of the trace so far: elements are the same, changes agree up to the joins, the same addresses are pending (specs/Likeness). Beside
-//! an element that was transferred stands what its transfer told (specs/Settled). Each
-//! function's contract says one step of the definition, from the worklist state before it to the worklist state after it; that such steps
+//! *What stands.* A map has the block of each reached address, a second one the number of its element's changes, counted up to the joins of the
+//! analysis, and a set has the pending addresses. Seen together they are a worklist state (`worklist_state_in`, specs/Views). It is like the
+//! worklist state of the trace so far: elements are the same, changes agree up to the joins, the same addresses are pending (specs/Likeness). The
+//! block of an address that is not pending lists what the transfer of its element told (specs/Settled); so once nothing is pending, the blocks are
+//! the table. Each function's contract says one step of the definition, from the worklist state before it to the worklist state after it; that such steps
 //! keep likeness is a lemma for each step.
 //!
 //! *Why it ends.* A legal trace has at most N(H + J + 1) addresses, and while an address is pending there is room for
@@ -25,13 +25,13 @@
 
 mod analysis;
 mod arrive;
-mod blocks;
-mod place;
 mod report;
 mod run;
 mod step;
+mod told;
 mod worklist;
 mod worklist_step;
 
 pub use analysis::analyse;
 pub use report::{AnalyseError, Report};
+pub use worklist::put_block;

@@ -15,8 +15,8 @@ ghost use Rattle.fixpoint_worklist.specs.Steps.{IsMove, IsStepped};
 ghost use Rattle.fixpoint_worklist.specs.Views.{IsReached, worklist_state_in};
 
 use crate::arrive::arrive_at_all;
-use crate::place::Told;
-use crate::worklist::{Worklist, finish, place_at};
+use crate::told::Told;
+use crate::worklist::{Worklist, block_at, finish};
 use crate::worklist_step::WorklistStep;
 use fixpoint_theory::{Analyser, Targets, Transfer, Transferred, exits_of, next_of};
 use std::alloc::{AllocError as NoMemory, Global};
@@ -73,14 +73,14 @@ pub(crate) fn step<A: Analyser, L: Ledger>(
     ensures one { IfOk result (λ s. IsMove s → steps.new ≡ steps.old + 1) }
     ensures most { steps.new ≤ steps.old + 1 }
 {
-    let Some(place) = place_at::<A>(work, at) else {
+    let Some(block) = block_at::<A>(work, at) else {
         unreachable!();
     };
     let Transfer {
         targets,
         post,
         uses,
-    } = match analyser.transfer(alloc, at, &place.elem, steps)? {
+    } = match analyser.transfer(alloc, at, &block.elem, steps)? {
         Transferred::Undecodable { word } => return Ok(WorklistStep::Undecodable { word }),
         Transferred::Made(made) => made,
     };

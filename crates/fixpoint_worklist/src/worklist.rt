@@ -1,21 +1,23 @@
 //! The reached addresses, and those that are pending.
 
-ghost use Rattle.std.specs.Prelude.{◌≡◌, ℕ, List, Some, None, true, IsSome, IfSome, IfNone, IsSomeAnd, OnOk, option_map};
+ghost use Rattle.std.specs.Prelude.{◌≡◌, ◌+◌, ℕ, List, Some, None, true, min, IsSome, IfSome, IfNone, IsSomeAnd, OnOk, option_map};
 ghost use Rattle.std.specs.Ordering.{nat_cmp};
-ghost use Rattle.std.specs.BTreeMap.{get};
+ghost use Rattle.std.specs.BTreeMap.{get, Updates};
 ghost use Rattle.fixpoint_theory.specs.WorklistState.{IsComplete, IsLeastPending, Reached, changed, done};
 ghost use Rattle.fixpoint_worklist.specs.Settled.{changed_at, settled_in, with_told};
-ghost use Rattle.fixpoint_worklist.specs.Views.{IsReached, worklist_state_in};
+ghost use Rattle.fixpoint_worklist.specs.Views.{IsReached, count_in, worklist_state_in};
 
-use crate::place::{Place, Told};
-use fixpoint_theory::Analyser;
+use crate::told::Told;
+use fixpoint_theory::{Analyser, Block};
 use std::alloc::{AllocError as NoMemory, Global};
 use std::collections::{BTreeMap, BTreeSet};
 
-/// What stands at each address.
+/// The block of each reached address, how often its element changed, counted up to the joins of the analysis, and the pending addresses. The
+/// lists of a block are what the last transfer told; where its address is pending, they tell nothing.
 #[derive(Drop)]
 pub(crate) struct Worklist<E> {
-    pub(crate) places: BTreeMap<u32, Place<E>>,
+    pub(crate) blocks: BTreeMap<u32, Block<E>>,
+    pub(crate) changes: BTreeMap<u32, u32>,
     pub(crate) pending: BTreeSet<u32>,
 }
 
@@ -26,7 +28,8 @@ pub(crate) fn empty_worklist<A: Analyser>(alloc: Global) -> Worklist<A::Element>
     ensures reached { IsReached result }
 {
     Worklist {
-        places: BTreeMap::new(alloc),
+        blocks: BTreeMap::new(alloc),
+        changes: BTreeMap::new(alloc),
         pending: BTreeSet::new(alloc),
     }
 }
@@ -43,30 +46,75 @@ pub(crate) fn first<A: Analyser>(work: &Worklist<A::Element>) -> Option<u32>
     }
 }
 
-/// What stands at an address.
-pub(crate) fn place_at<'a, A: Analyser>(
+/// The block of an address.
+pub(crate) fn block_at<'a, A: Analyser>(
     work: &'a Worklist<A::Element>,
     at: u32,
-) -> Option<&'a Place<A::Element>>
+) -> Option<&'a Block<A::Element>>
     ensures none { IfNone result (worklist_state_in A.view work.now at ≡ None) }
-    ensures some { IfSome result (λ p. IsSomeAnd (worklist_state_in A.view work.now at) (λ r. (r.elem ≡ A.view p.now.elem) × (r.changes ≡ p.now.changes))) }
+    ensures some { IfSome result (λ b. IsSomeAnd (worklist_state_in A.view work.now at)
+        (λ r. (r.elem ≡ A.view b.now.elem) × (r.changes ≡ count_in work.now.changes at))) }
 {
-    work.places.get(&at)
+    work.blocks.get(&at)
 }
 
-/// An address takes another element, and is pending.
+/// How often the element of an address changed.
+pub(crate) fn count_at(changes: &BTreeMap<u32, u32>, at: u32) -> u32
+    ensures { result ≡ count_in changes.now at }
+{
+    match changes.get(&at) {
+        Some(count) => *count,
+        None => 0,
+    }
+}
+
+/// One change more, counted up to the joins.
+pub(crate) fn one_more(changes: u32, joins: u32) -> u32
+    ensures { min result joins ≡ min (changes + 1) joins }
+{
+    if changes < joins {
+        changes + 1
+    } else {
+        changes
+    }
+}
+
+/// Puts the block of an address among those of a table.
+pub fn put_block<E: Drop>(
+    blocks: &mut BTreeMap<u32, Block<E>>,
+    at: u32,
+    block: Block<E>,
+) -> Result<(), NoMemory>
+    ensures { OnOk result (Updates nat_cmp blocks.old blocks.new at (Some block)) }
+{
+    match blocks.insert(at, block) {
+        Ok(_) => Ok(()),
+        Err(_) => Err(NoMemory),
+    }
+}
+
+/// An address takes another element, which has changed so often, and is pending.
 pub(crate) fn put_pending<A: Analyser>(
     work: &mut Worklist<A::Element>,
+    alloc: Global,
     at: u32,
-    place: Place<A::Element>,
+    elem: A::Element,
+    changes: u32,
 ) -> Result<(), NoMemory>
     requires { IsReached work.old }
     ensures value { OnOk result ((a : ℕ) → worklist_state_in A.view work.new a
-        ≡ changed at (λ _. Some (record { elem = A.view place.elem; changes = place.changes; pending = true })) (worklist_state_in A.view work.old) a) }
+        ≡ changed at (λ _. Some (record { elem = A.view elem; changes = changes; pending = true })) (worklist_state_in A.view work.old) a) }
     ensures settled { OnOk result ((a : ℕ) → settled_in work.new a ≡ changed_at at None (settled_in work.old) a) }
     ensures reached { OnOk result (IsReached work.new) }
 {
-    work.places.insert(at, place)?;
+    let block = Block {
+        elem,
+        next: Vec::new(alloc),
+        exits: Vec::new(alloc),
+        uses: Vec::new(alloc),
+    };
+    put_block(&mut work.blocks, at, block)?;
+    work.changes.insert(at, changes)?;
     work.pending.insert(at)?;
     Ok(())
 }
@@ -76,11 +124,14 @@ pub(crate) fn finish<A: Analyser>(work: &mut Worklist<A::Element>, at: u32, told
     requires { IsReached work.old }
     ensures value { (a : ℕ) → worklist_state_in A.view work.new a ≡ changed at done (worklist_state_in A.view work.old) a }
     ensures settled { (a : ℕ) → settled_in work.new a
-        ≡ changed_at at (option_map (with_told told) (get nat_cmp work.old.places at)) (settled_in work.old) a }
+        ≡ changed_at at (option_map (with_told told) (get nat_cmp work.old.blocks at)) (settled_in work.old) a }
     ensures reached { IsReached work.new }
 {
     work.pending.remove(&at);
-    if let Some(place) = work.places.get_mut(&at) {
-        place.told = Some(told);
+    if let Some(block) = work.blocks.get_mut(&at) {
+        let Told { next, exits, uses } = told;
+        block.next = next;
+        block.exits = exits;
+        block.uses = uses;
     }
 }

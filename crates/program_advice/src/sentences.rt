@@ -328,8 +328,8 @@ const LINES: [Sentence; 8] = [
     },
     Sentence {
         code: "no memory",
-        says: "memory ran out, or an evaluation went deeper than 1,800 terms within one another, where a call counts as two",
-        advice: "more memory; a base with fewer parts; terms that nest less",
+        says: "memory ran out, or an evaluation went deeper than 1,200 levels, of which an if, a match or a call takes two or more",
+        advice: "more memory; a base with fewer parts; branches and calls that nest less",
     },
 ];
 

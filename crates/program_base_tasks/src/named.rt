@@ -22,6 +22,7 @@ use base_strides::Strides;
 use domain_affine::AffineDomain;
 use domain_cells::StateDomain;
 use domain_product::PairDomain;
+use domain_product_states::PairedStates;
 use program_common::{Answer, Halt};
 use program_domain_tasks::Subject;
 use std::alloc::Global;
@@ -65,7 +66,7 @@ fn over_both<'a, 'b, A: NamedBase, B: NamedBase, L: Ledger>(
         (cells_of (state_type (specification it.now.spec.now)) B.algebra B.shared B.CAP B.named B.texts B.readings)) it.now.image.now
         (base_text base) (task_of (specification it.now.spec.now) it.now.image.now it.now.task) steps.old steps.new }
 {
-    in_domain::<PairDomain<StateDomain<A>, StateDomain<B>>, L>(alloc, it, base, steps)
+    in_domain::<PairedStates<A, B>, L>(alloc, it, base, steps)
 }
 
 /// What is asked, where an element is the affine relations among the tracked cells.

@@ -1,6 +1,6 @@
 -- What an analysis needs of a specification, as the code has it.
 use Rattle.std.specs.Prelude.{◌≡◌}
-use Rattle.eval_code.specs.Code.{IsCodeOf}
+use Rattle.eval_code.specs.Lowered.{IsCodeOf}
 use Rattle.eval_code.specs.Views.{code}
 use Rattle.code_image.specs.Decoders.{IsDecoderOf}
 use Rattle.spec_ir.specs.Specification.{Spec}

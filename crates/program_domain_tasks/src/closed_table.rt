@@ -1,11 +1,10 @@
 //! Tables of which no block is left open.
 
 ghost use Rattle.std.specs.Prelude.{◌≡◌, ◌<◌, ◌^◌, ℕ, None, IfErr, IfNone, IfOk, IfSome, IsTrue, length, true};
-ghost use Rattle.std.specs.BTreeMap.{get};
-ghost use Rattle.std.specs.Ordering.{nat_cmp};
 ghost use Rattle.support_command_line.specs.Bases.{base_text};
 ghost use Rattle.spec_ir.specs.Views.{specification};
 ghost use Rattle.fixpoint_theory.specs.Views.{listings};
+ghost use Rattle.fixpoint_open_tables.specs.Endings.{ends_in};
 ghost use Rattle.domain_laws.specs.States.{has_states};
 ghost use Rattle.text_table_reader.specs.Blocks.{BlocksFit};
 ghost use Rattle.text_table_reader.specs.Ends.{is_word_of};
@@ -15,22 +14,20 @@ ghost use Rattle.program_common.specs.Outcomes.{Stops};
 ghost use Rattle.program_domain_tasks.specs.Own.{OwnRefuses};
 
 use crate::task::Subject;
-use fixpoint_open_tables::Ending;
+use fixpoint_open_tables::Endings;
 use fixpoint_theory::Table;
 use program_common::{Halt, Refusal, Rejection};
 use program_domains::NamedDomain;
 use std::alloc::Global;
-use std::collections::BTreeMap;
 use support_command_line::BaseName;
 use text_table_reader::{OpenTable, read_table};
 
 /// The first address whose block is left open.
-pub fn first_open<W>(endings: &BTreeMap<u32, Ending<W>>) -> Option<u32>
-    ensures none { IfNone result ((a : ℕ) → get nat_cmp endings.now a ≡ None) }
-    ensures some { IfSome result (IsFirstOpen (λ a. get nat_cmp endings.now a)) }
+pub fn first_open<W>(endings: &Endings<W>) -> Option<u32>
+    ensures none { IfNone result ((a : ℕ) → ends_in endings.now a ≡ None) }
+    ensures some { IfSome result (IsFirstOpen (ends_in endings.now)) }
 {
-    let (at, _ending) = endings.first_key_value()?;
-    Some(*at)
+    endings.first()
 }
 
 /// Reads the table of a text. A text that is none is refused, and so is one of a table of which a block is left open.

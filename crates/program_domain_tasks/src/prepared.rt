@@ -8,7 +8,8 @@ ghost use Rattle.program_domain_tasks.specs.Prepared.{IsPrepared};
 use code_image::Decoder;
 use domain_cells::fields_of;
 use domain_laws::Field;
-use eval_code::{EvaluatorCode, lower};
+use eval_code::EvaluatorCode;
+use eval_code_lowering::lower;
 use spec_ir::Spec;
 use std::alloc::{AllocError as NoMemory, Global};
 

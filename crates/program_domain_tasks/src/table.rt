@@ -1,12 +1,11 @@
 //! The table of an analysis, in a domain.
 
 ghost use Rattle.std.specs.Prelude.{◌≡◌, ◌≤◌, ◌+◌, IfOk, IsTrue};
-ghost use Rattle.std.specs.BTreeMap.{get};
-ghost use Rattle.std.specs.Ordering.{nat_cmp};
 ghost use Rattle.std.specs.String.{string_bytes};
 ghost use Rattle.support_command_line.specs.Bases.{base_text};
 ghost use Rattle.spec_ir.specs.Views.{specification};
 ghost use Rattle.fixpoint_theory.specs.Views.{listings};
+ghost use Rattle.fixpoint_open_tables.specs.Endings.{ends_in};
 ghost use Rattle.state_text.specs.Reading.{entry_of};
 ghost use Rattle.analysis_transfer.specs.Analysis.{problem};
 ghost use Rattle.text_tables.specs.Open.{IsOpenTableText};
@@ -23,14 +22,13 @@ use analysis_problems::laws::read_problems_are_well_posed;
 use analysis_transfer::ImageAnalysis;
 use base_trait::Base;
 use code_image::Image;
-use fixpoint_open_tables::Ending;
+use fixpoint_open_tables::Endings;
 use fixpoint_theory::{Analyser, Table};
 use fixpoint_worklist::{AnalyseError, Report};
 use program_common::{Answer, Halt, Refusal};
 use program_domains::NamedDomain;
 use spec_ir::Spec;
 use std::alloc::{AllocError as NoMemory, Global};
-use std::collections::BTreeMap;
 use std::sync::ledger::Ledger;
 use support_command_line::BaseName;
 use support_step_counter::Steps;
@@ -88,9 +86,9 @@ pub fn open_table_answer<D: NamedDomain>(
     image: &Image,
     base: BaseName,
     table: &Table<D::Element>,
-    endings: &BTreeMap<u32, Ending<<D::B as Base>::Word>>,
+    endings: &Endings<<D::B as Base>::Word>,
 ) -> Result<Answer, NoMemory>
-    ensures { IfOk result (λ answer. IsTextOf (IsOpenTableText D.word_text (D.IsText (specification spec.now)) (specification spec.now) image.now (base_text base) (listings (λ x. x) table.now) (λ a. get nat_cmp endings.now a)) (answer_of answer)) }
+    ensures { IfOk result (λ answer. IsTextOf (IsOpenTableText D.word_text (D.IsText (specification spec.now)) (specification spec.now) image.now (base_text base) (listings (λ x. x) table.now) (ends_in endings.now)) (answer_of answer)) }
 {
     Ok(Answer::Text(open_table_text::<D>(alloc, spec, image, base.name(), table, endings)?))
 }

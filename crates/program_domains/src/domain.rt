@@ -5,9 +5,11 @@ ghost use Rattle.spec_ir.specs.Views.{specification};
 ghost use Rattle.domain_laws.specs.States.{has_states, state_type};
 
 use analysis_claims::ClaimElement;
+use base_product::Pair;
 use domain_affine::AffineDomain;
 use domain_cells::StateDomain;
 use domain_product::PairDomain;
+use domain_product_states::PairedStates;
 use spec_ir::Spec;
 use std::alloc::{AllocError as NoMemory, Global};
 use text_element_readers::ReadElement;
@@ -78,5 +80,23 @@ impl<A: NamedDomain, B: NamedDomain> NamedDomain for PairDomain<A, B> {
             first: A::make_domain(alloc, spec)?,
             second: B::make_domain(alloc, spec)?,
         })
+    }
+}
+
+impl<A: NamedBase, B: NamedBase> NamedDomain for PairedStates<A, B> {
+    ghost use Rattle.std.specs.Prelude.{◌&&◌, not};
+    ghost use Rattle.base_product.specs.Meaning.{paired};
+    ghost use Rattle.domain_cells.specs.Views.{context_of};
+    ghost use Rattle.program_domains.specs.Instance.{cells_join};
+
+    ghost may = { (paired A.algebra B.algebra).joins && not (paired A.algebra B.algebra).words.looks };
+
+    ghost HasContext = { λ it. ((context_of it.states).0 ≡ A.shared) × ((context_of it.states).1 ≡ B.shared) };
+
+    ghost joins = { λ h. cells_join (paired A.algebra B.algebra) h };
+
+    fn make_domain(alloc: Global, spec: &Spec) -> Result<PairedStates<A, B>, NoMemory> {
+        let states = StateDomain::new(alloc, spec, Pair(A::context(alloc), B::context(alloc)))?;
+        Ok(PairedStates { states })
     }
 }

@@ -26,11 +26,21 @@ use support_command_line::{Code, SpecName};
 use support_io::Inputs;
 
 /// The specification of a machine, its code, and an entry.
-#[derive(Drop)]
 pub struct AnalysisInputs {
     pub spec: Spec,
     pub image: Image,
     pub entry: Entry,
+}
+
+/// Written out, so that it stands once, and not once more in each crate where such inputs are let go.
+impl Drop for AnalysisInputs {
+    fn drop(self) {
+        let AnalysisInputs {
+            spec: _spec,
+            image: _image,
+            entry: _entry,
+        } = self;
+    }
 }
 
 /// The machine, the code and the entry of these names.

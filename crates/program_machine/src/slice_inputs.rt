@@ -22,10 +22,19 @@ use support_io::Inputs;
 use text_slices::SliceCell;
 
 /// What a slice is of: the specification of a machine, its code and an entry, and a cell of its states.
-#[derive(Drop)]
 pub struct SliceInputs {
     pub posed: AnalysisInputs,
     pub asked: SliceCell,
+}
+
+/// Written out, so that it stands once, and not once more in each crate where such inputs are let go.
+impl Drop for SliceInputs {
+    fn drop(self) {
+        let SliceInputs {
+            posed: _posed,
+            asked: _asked,
+        } = self;
+    }
 }
 
 /// The machine of this name and the cell of its states that a text is, and then the code and the entry of these names.

@@ -1,14 +1,12 @@
 -- What the code's analyses that are left open come to.
 use Rattle.std.proofs.Common.{ℕ, List}
 use Rattle.std.specs.Prelude.{Ok}
-use Rattle.std.specs.BTreeMap.{get}
-use Rattle.std.specs.Ordering.{nat_cmp}
 use Rattle.code_image.specs.Image.{Image}
 use Rattle.fixpoint_theory.specs.Analysis.{AnalysisLaws}
 use Rattle.fixpoint_theory.specs.Table.{TableFits}
 use Rattle.fixpoint_theory.specs.Views.{listings}
 use Rattle.fixpoint_theory.proofs.Potential.{legal_traces_are_short}
-use Rattle.fixpoint_open_tables.specs.Endings.{IsClosedButOpen}
+use Rattle.fixpoint_open_tables.specs.Endings.{IsClosedButOpen, ends_in}
 use Rattle.fixpoint_open_tables.specs.Instance.{left_open_laws}
 use Rattle.fixpoint_open_tables.specs.declared.analysis.OpenReport.{OpenReport}
 use Rattle.analysis_transfer_laws.specs.OpenRuns.{IsTrueUntilOpen}
@@ -25,13 +23,13 @@ use Rattle.program_domain_tasks.specs.Read.{IsTextOf}
 module _ {X E W N C : Type 0} (own : Own X E W N C) (p : Problem) (image : Image) (base : List ℕ) where
   -- a table that is left open, with its text
   pub own_open_table : (r : OpenReport X W) (answer : Answer) → AnalysisLaws (analysis (as_defined own) p) → IsReportOf (open_analysis (as_defined own) p) own.view r.report
-      → IsClosedButOpen (analysis (as_defined own) p) (listings own.view r.report.table) (get nat_cmp r.endings) → TableFits (analysis (as_defined own) p) (listings own.view r.report.table)
-      → IsTrueUntilOpen own.base own.elements p (listings own.view r.report.table) (get nat_cmp r.endings)
-      → IsTextOf (IsOpenTableText own.word_text (own.IsText p.spec) p.spec image base (listings (λ x. x) r.report.table) (λ a. get nat_cmp r.endings a)) answer → OwnComesOpen own p image base (Ok answer)
+      → IsClosedButOpen (analysis (as_defined own) p) (listings own.view r.report.table) (ends_in r.endings) → TableFits (analysis (as_defined own) p) (listings own.view r.report.table)
+      → IsTrueUntilOpen own.base own.elements p (listings own.view r.report.table) (ends_in r.endings)
+      → IsTextOf (IsOpenTableText own.word_text (own.IsText p.spec) p.spec image base (listings (λ x. x) r.report.table) (ends_in r.endings)) answer → OwnComesOpen own p image base (Ok answer)
   own_open_table r (text bytes) laws reports closed fits runs told = record {
     trace = r.report.trace.items;
     table = r.report.table;
-    ends = λ a. get nat_cmp r.endings a;
+    ends = ends_in r.endings;
     legal = reports.legal;
     complete = reports.complete;
     few = legal_traces_are_short (open_analysis (as_defined own) p) (left_open_laws (analysis (as_defined own) p) laws) r.report.trace.items reports.legal;

@@ -1,11 +1,12 @@
 //! The verdict on a table that was read with its endings, in a domain.
 
-ghost use Rattle.std.specs.BTreeMap.{IsOrdered, btree_map_len, get};
+ghost use Rattle.std.specs.BTreeMap.{IsOrdered, btree_map_len};
 ghost use Rattle.std.specs.Ordering.{nat_cmp};
 ghost use Rattle.std.specs.Prelude.{◌≤◌, ◌+◌, IfOk, IsTrue};
 ghost use Rattle.spec_ir.specs.Views.{specification};
 ghost use Rattle.fixpoint_theory.specs.Table.{TableFits};
 ghost use Rattle.fixpoint_theory.specs.Views.{listings};
+ghost use Rattle.fixpoint_open_tables.specs.Endings.{ends_in};
 ghost use Rattle.state_text.specs.Reading.{entry_of};
 ghost use Rattle.analysis_transfer.specs.Analysis.{problem};
 ghost use Rattle.text_table_reader.specs.Blocks.{BlocksFit};
@@ -34,7 +35,7 @@ fn open_verdict_on<'a, D: NamedDomain, L: Ledger>(
 ) -> Result<Verdict<<D::B as Base>::Word>, NoMemory>
     requires ready { ⟦<ImageAnalysis<'a, D> as Analyser>⟧.IsReady it.now }
     requires fits { TableFits (⟦<ImageAnalysis<'a, D> as Analyser>⟧.analysis it.now) (listings D.view found.now.table) }
-    ensures verdict { IfOk result (λ v. IsOwnOpenVerdict (record { base = D.B.algebra; cap = D.B.CAP; elements = D.elements it.now.domain.now; meaning = D.meaning it.now.domain.now; view = D.view; IsText = D.IsText; Reads = D.Reads it.now.domain.now; word_in = D.word_in it.now.domain.now; word_text = D.word_text }) (problem it.now) found.now.table (λ a. get nat_cmp found.now.endings a) v) }
+    ensures verdict { IfOk result (λ v. IsOwnOpenVerdict (record { base = D.B.algebra; cap = D.B.CAP; elements = D.elements it.now.domain.now; meaning = D.meaning it.now.domain.now; view = D.view; IsText = D.IsText; Reads = D.Reads it.now.domain.now; word_in = D.word_in it.now.domain.now; word_text = D.word_text }) (problem it.now) found.now.table (ends_in found.now.endings) v) }
     ensures work { steps.new ≤ steps.old + (btree_map_len found.now.table.blocks + btree_map_len found.now.table.blocks) }
 {
     check_open(alloc, it, &found.table, &found.endings, steps)
@@ -53,7 +54,7 @@ pub(crate) fn open_verdict_in<'a, D: NamedDomain, L: Ledger>(
     requires made { IsTrue (D.is_for domain.now (specification it.now.spec.now)) }
     requires read { IsRead (specification it.now.spec.now) start.now.machine (entry_of start.now.entry.now) }
     requires fits { BlocksFit (is_word_of it.now.image.now) (λ x. (D.elements domain.now).fits (D.view x)) (listings (λ x. x) found.now.table) }
-    ensures verdict { IfOk result (λ v. IsOwnOpenVerdict (record { base = D.B.algebra; cap = D.B.CAP; elements = D.elements domain.now; meaning = D.meaning domain.now; view = D.view; IsText = D.IsText; Reads = D.Reads domain.now; word_in = D.word_in domain.now; word_text = D.word_text }) (problem_at (specification it.now.spec.now) it.now.image.now start.now) found.now.table (λ a. get nat_cmp found.now.endings a) v) }
+    ensures verdict { IfOk result (λ v. IsOwnOpenVerdict (record { base = D.B.algebra; cap = D.B.CAP; elements = D.elements domain.now; meaning = D.meaning domain.now; view = D.view; IsText = D.IsText; Reads = D.Reads domain.now; word_in = D.word_in domain.now; word_text = D.word_text }) (problem_at (specification it.now.spec.now) it.now.image.now start.now) found.now.table (ends_in found.now.endings) v) }
     ensures ordered { IsOrdered nat_cmp found.now.table.blocks }
     ensures work { steps.new ≤ steps.old + (btree_map_len found.now.table.blocks + btree_map_len found.now.table.blocks) }
 {

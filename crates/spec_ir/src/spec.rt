@@ -30,13 +30,25 @@ pub struct Machine {
 }
 
 /// A checked specification.
-#[derive(Drop)]
 pub struct Spec {
     pub datas: Vec<Data>,
     pub maps: Vec<MapType>,
     pub funs: Vec<Fun>,
     pub rows: Vec<Row>,
     pub machine: Option<Machine>,
+}
+
+/// Written out, so that what lets a specification go stands once, and not once more in each crate where one is let go.
+impl Drop for Spec {
+    fn drop(self) {
+        let Spec {
+            datas: _datas,
+            maps: _maps,
+            funs: _funs,
+            rows: _rows,
+            machine: _machine,
+        } = self;
+    }
 }
 
 /// What a specification is wanted for.

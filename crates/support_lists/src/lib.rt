@@ -6,12 +6,16 @@
 
 ghost use Rattle.std.specs.Prelude.{◌≡◌, ◌++◌, ◌∷◌, [], IfOk, IsOkAnd};
 
-use std::alloc::AllocError;
+use std::alloc::{AllocError, Allocator};
 
 /// The list with one item more, where that was made; else the list is let go. `[1, 2]` and `Ok(3)` give `[1, 2, 3]`.
 ///
-/// The error is that of the item, or that memory ran out in putting it there.
-pub fn pushed<T: Drop>(mut list: Vec<T>, item: Result<T, AllocError>) -> Result<Vec<T>, AllocError>
+/// The error is that of the item, or that memory ran out in putting it there. The allocator is a parameter, so that a list is let go by
+/// what its caller has for that, and not by one function more for each kind of item.
+pub fn pushed<T: Drop, A: Allocator + Drop>(
+    mut list: Vec<T, A>,
+    item: Result<T, AllocError>,
+) -> Result<Vec<T, A>, AllocError>
     ensures { IfOk result (λ r. IsOkAnd item (λ x. r.items ≡ list.items ++ x ∷ [])) }
 {
     list.push(item?)?;

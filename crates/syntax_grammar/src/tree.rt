@@ -26,10 +26,19 @@ pub struct Num {
 }
 
 /// A whole specification. `end` is the length of its source.
-#[derive(Drop)]
 pub struct Tree {
     pub items: Vec<Item>,
     pub end: u32,
+}
+
+/// Written out, so that what lets a tree go stands once, and not once more in each crate where one is let go.
+impl Drop for Tree {
+    fn drop(self) {
+        let Tree {
+            items: _items,
+            end: _end,
+        } = self;
+    }
 }
 
 /// A declaration.

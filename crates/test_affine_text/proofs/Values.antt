@@ -1,12 +1,12 @@
 -- Values that fit: those of the fields of a state, with one changed, and the state of them.
-use Rattle.std.proofs.Common.{◌≡◌, ℕ, ◌<◌, List, [], ◌∷◌, ◌++◌, Option, Some, None, Vec, Global, get_or, length, map, sym, ap, subst, ◌∙◌, arith}
+use Rattle.std.proofs.Common.{◌≡◌, ℕ, ◌<◌, List, [], ◌∷◌, Option, Some, None, get_or, length, map, sym, ap, subst, ◌∙◌, arith}
 use Rattle.std.specs.Prelude.{All, IsTrue, Result, Ok, Err, IfOk, IsOkAnd, set}
 use Rattle.std.proofs.lemmas.List.Elements.{All-cons, All-get_or, All-head, All-nil, All-set, All-tail}
 use Rattle.support_modular_rows.specs.Submodule.{Submodule}
 use Rattle.spec_ir.specs.Specification.{Spec}
 use Rattle.semantics_values.specs.declared.entry.KeyAt.{KeyAt}
 use Rattle.abstract_value_laws.specs.Abs.{Abs, cases, made, no_case, parts, present}
-use Rattle.abstract_value_laws.specs.Fits.{CasesFit, Fits, PartsFit}
+use Rattle.abstract_value_laws.specs.Fits.{CaseFits, CasesFit, Fits, PartsFit}
 use Rattle.abstract_value_laws.specs.OfValues.{one_case}
 use Rattle.domain_laws.specs.declared.field.Field.{Field}
 use Rattle.domain_laws.specs.declared.field.Field.TheVariants.{Word as WordField}
@@ -17,7 +17,8 @@ use Rattle.domain_affine_base.specs.declared.word.Word.{Word}
 use Rattle.domain_affine_laws.specs.Calls.{affine_calls, cell_count, is_for}
 use Rattle.domain_affine_laws.specs.Tracked.{tracked_cells}
 use Rattle.domain_affine.specs.Instance.{has_the_laws}
-use Rattle.abstract_value.specs.View.{abs, case_of}
+use Rattle.abstract_value.specs.View.{abs, case_of, cases_of}
+use Rattle.abstract_value.specs.declared.constructors.Constructors.{Constructors}
 use Rattle.abstract_value.specs.declared.value.AbstractValue.{AbstractValue, Data}
 use Rattle.abstract_value.proofs.Views.{abs_Data}
 use Rattle.test_affine_text.proofs.Fields.{form_of}
@@ -48,20 +49,23 @@ module _ {X K : Type 0} (ctx : List (ℕ × KeyAt)) where
   all_fit [] h = All-nil (λ v. Fits affine ctx 256 (abs v))
   all_fit (x ∷ xs) h = All-cons (λ v. Fits affine ctx 256 (abs v)) x xs h.0 (all_fit xs h.1)
 
-  last_fit : (before : List (Option (Vec (AbstractValue X Word (Unit {0}) K) Global))) (v : Vec (AbstractValue X Word (Unit {0}) K) Global)
-      → CasesFit affine ctx 256 (cases (map case_of (before ++ Some v ∷ []))) → All (λ v. Fits affine ctx 256 (abs v)) v.items
-  last_fit [] v h = all_fit v.items h.0
-  last_fit (None ∷ before) v h = last_fit before v h
-  last_fit (Some u ∷ before) v h = last_fit before v h.1
+  -- those of a constructor that is present fit
+  pub first_fit : (cs : List (Option (List (AbstractValue X Word (Unit {0}) K)))) (f : List (AbstractValue X Word (Unit {0}) K)) → get_or cs 0 None ≡ Some f → CasesFit affine ctx 256 (cases (map case_of cs)) → PartsFit affine ctx 256 (parts (map abs f))
+  first_fit [] f is h = absurd cc
+  first_fit (None ∷ cs) f is h = absurd cc
+  first_fit (Some g ∷ cs) f is h = subst (λ o. CaseFits affine ctx 256 (case_of o)) is h.0
 
-  -- the values of the last constructor, where it is present
-  pub popped_fit : (n : ℕ) (cs : Vec (Option (Vec (AbstractValue X Word (Unit {0}) K) Global)) Global) (before : List (Option (Vec (AbstractValue X Word (Unit {0}) K) Global))) (v : Vec (AbstractValue X Word (Unit {0}) K) Global)
-      → cs.items ≡ before ++ Some v ∷ [] → Fits affine ctx 256 (abs (Data n cs)) → All (λ v. Fits affine ctx 256 (abs v)) v.items
-  popped_fit n cs before v is h = last_fit before v (subst (λ l. CasesFit affine ctx 256 (cases (map case_of l))) is (subst (λ z. Fits affine ctx 256 z) (abs_Data n cs) h))
+  -- and so do the constructors of a value
+  pub constructors_fit : (v : AbstractValue X Word (Unit {0}) K) (n : ℕ) (cs : Constructors (AbstractValue X Word (Unit {0}) K)) → v ≡ Data n cs → Fits affine ctx 256 (abs v) → CasesFit affine ctx 256 (cases_of cs)
+  constructors_fit v n cs is h = subst (λ z. Fits affine ctx 256 z) (ap abs is ∙ abs_Data n cs) h
+
+  -- a copy of one of fitting parts fits
+  pub copy_fits : (xs : List (AbstractValue X Word (Unit {0}) K)) (i : ℕ) (x y : AbstractValue X Word (Unit {0}) K) → i < length xs → x ≡ get_or xs i x → abs y ≡ abs x → PartsFit affine ctx 256 (parts (map abs xs)) → Fits affine ctx 256 (abs y)
+  copy_fits xs i x y within is same h = subst (λ z. Fits affine ctx 256 z) (sym same) (item_fits (λ v. Fits affine ctx 256 (abs v)) xs i x within is (all_fit xs h))
 
   -- the state of values of its fields
-  pub state_is : (t : StateType) (n : ℕ) (cs : Vec (Option (Vec (AbstractValue X Word (Unit {0}) K) Global)) Global) (fields : List Field) (values : List (AbstractValue X Word (Unit {0}) K))
-      → n ≡ t.number → cases (map case_of cs.items) ≡ one_case 1 0 (parts (map abs values)) → fields ≡ WordField 32 ∷ t.fields → AreOf fields (parts (map abs values))
+  pub state_is : (t : StateType) (n : ℕ) (cs : Constructors (AbstractValue X Word (Unit {0}) K)) (fields : List Field) (values : List (AbstractValue X Word (Unit {0}) K))
+      → n ≡ t.number → cases_of cs ≡ one_case 1 0 (parts (map abs values)) → fields ≡ WordField 32 ∷ t.fields → AreOf fields (parts (map abs values))
       → All (λ v. Fits affine ctx 256 (abs v)) values → IsStateValue affine ctx 256 t (abs (Data n cs))
   state_is t n cs fields values number one all are fit =
       let xs = parts (map abs values) in

@@ -1,23 +1,24 @@
 //! State values with changes.
 
-ghost use Rattle.std.specs.Prelude.{◌≡◌, ◌∷◌, All, IfOk, IsOkAnd, set, true};
+ghost use Rattle.std.specs.Prelude.{◌≡◌, ◌∷◌, map, All, IfOk, IsOkAnd, set, true};
 ghost use Rattle.spec_ir.specs.Views.{specification};
 ghost use Rattle.abstract_map_laws.specs.Maps.{Fits as MapFits};
-ghost use Rattle.abstract_value_laws.specs.Fits.{Fits};
+ghost use Rattle.abstract_value_laws.specs.Abs.{parts};
+ghost use Rattle.abstract_value_laws.specs.Fits.{CasesFit, Fits, PartsFit};
 ghost use Rattle.domain_laws.specs.declared.field.Field.TheVariants.{Word as WordField};
 ghost use Rattle.domain_laws.specs.States.{has_states, state_type};
 ghost use Rattle.domain_laws.specs.Values.{IsStateValue};
 ghost use Rattle.domain_affine_base.specs.Meaning.{affine};
 ghost use Rattle.domain_affine_laws.specs.Calls.{cell_count};
 ghost use Rattle.domain_affine_laws.specs.Tracked.{tracked_cells};
-ghost use Rattle.abstract_value.specs.View.{abs};
+ghost use Rattle.abstract_value.specs.View.{abs, cases_of};
 ghost use Rattle.test_affine_text.specs.Settings.{IsSetting};
 
 use crate::forms::are_of;
 use crate::setting::Setting;
 use crate::words::{place, word_in};
 use abstract_map::{AbstractMap, KeySet};
-use abstract_value::{AbstractValue, one_case};
+use abstract_value::{AbstractValue, Constructors, one_case};
 use base_trait::Base;
 use domain_affine_base::{Affine, Tracked, Word};
 use domain_cells::{fields_of, state_number};
@@ -33,19 +34,46 @@ use test_case_lines::{Read, Unread};
 fn values_of(
     alloc: Global,
     ctx: &Tracked,
-    state: AbstractValue<Affine>,
-) -> Vec<AbstractValue<Affine>>
-    requires { Fits affine ctx.now 256 (abs state) }
-    ensures { All (λ v. Fits affine ctx.now 256 (abs v)) result.items }
+    state: &AbstractValue<Affine>,
+) -> Result<Vec<AbstractValue<Affine>>, NoMemory>
+    requires { Fits affine ctx.now 256 (abs state.now) }
+    ensures { IfOk result (λ vs. All (λ v. Fits affine ctx.now 256 (abs v)) vs.items) }
 {
-    let _ctx = ctx;
     match state {
-        AbstractValue::Data { ty: _ty, mut cases } => match cases.pop() {
-            Some(Some(values)) => values,
-            _ => Vec::new(alloc),
-        },
-        _ => Vec::new(alloc),
+        AbstractValue::Data { ty: _ty, cases } => first_fields(alloc, ctx, cases),
+        _ => Ok(Vec::new(alloc)),
     }
+}
+
+/// Copies of the values of the fields of the first constructor.
+fn first_fields(
+    alloc: Global,
+    ctx: &Tracked,
+    cases: &Constructors<AbstractValue<Affine>>,
+) -> Result<Vec<AbstractValue<Affine>>, NoMemory>
+    requires { CasesFit affine ctx.now 256 (cases_of cases.now) }
+    ensures { IfOk result (λ vs. All (λ v. Fits affine ctx.now 256 (abs v)) vs.items) }
+{
+    match cases.fields(0) {
+        Some(fields) => copies(alloc, ctx, fields),
+        None => Ok(Vec::new(alloc)),
+    }
+}
+
+/// Copies of values.
+fn copies(
+    alloc: Global,
+    ctx: &Tracked,
+    values: &[AbstractValue<Affine>],
+) -> Result<Vec<AbstractValue<Affine>>, NoMemory>
+    requires { PartsFit affine ctx.now 256 (parts (map abs values.now)) }
+    ensures { IfOk result (λ vs. All (λ v. Fits affine ctx.now 256 (abs v)) vs.items) }
+{
+    let mut out = Vec::with_capacity(alloc, values.len())?;
+    for value in values {
+        out.push(value.copy(alloc, ctx)?)?;
+    }
+    Ok(out)
 }
 
 /// A map of words of 32 bits with a word at a key.
@@ -191,7 +219,7 @@ fn opened(
     ensures { IfOk result (λ vs. All (λ v. Fits affine setting.now.ctx.now 256 (abs v)) vs.items) }
 {
     let state = setting.domain.open(alloc, setting.spec, x, 4096)?;
-    Ok(values_of(alloc, setting.ctx, state))
+    values_of(alloc, setting.ctx, &state)
 }
 
 /// The state value of an element at 1000 with changes.

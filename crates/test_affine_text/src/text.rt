@@ -1,7 +1,7 @@
 //! Cells, words and state values as text.
 
 use abstract_map::AbstractMap;
-use abstract_value::AbstractValue;
+use abstract_value::{AbstractValue, Constructors};
 use domain_affine_base::{Affine, Tracked, Word};
 use semantics_values::KeyAt;
 use std::alloc::AllocError as NoMemory;
@@ -73,10 +73,10 @@ fn push_fields(out: &mut String, fields: &[AbstractValue<Affine>]) -> Result<(),
 /// Appends the fields of each constructor that is present, a line each.
 fn push_cases(
     out: &mut String,
-    cases: &[Option<Vec<AbstractValue<Affine>>>],
+    cases: &Constructors<AbstractValue<Affine>>,
 ) -> Result<(), NoMemory> {
-    for case in cases {
-        if let Some(fields) = case {
+    for number in 0..cases.len() {
+        if let Some(fields) = cases.fields(number) {
             push_fields(out, fields)?;
         }
     }

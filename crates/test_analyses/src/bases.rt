@@ -8,7 +8,7 @@ use analysis_problems::laws::accepted_have_states;
 use base_defuse::DefUse;
 use base_interval::Interval;
 use base_kset::KSet;
-use base_product::Paired;
+use base_product::{Pair, Paired};
 use domain_cells::StateDomain;
 use std::alloc::{AllocError as NoMemory, Global};
 use test_analysis_cases::{Case, Program, Subject, analysed, no};
@@ -33,7 +33,7 @@ fn over<B: BaseText>(
 /// What an analysis over two bases side by side gives.
 fn over_both<A: BaseText, B: BaseText>(
     alloc: Global,
-    ctx: (A::Ctx, B::Ctx),
+    ctx: Pair<A::Ctx, B::Ctx>,
     subject: &Subject,
     limit: u32,
 ) -> Result<String, NoMemory>
@@ -56,8 +56,8 @@ impl Program for Bases {
             "kset1" => over::<KSet<1>>(alloc, (), it, limit),
             "interval" => over::<Interval>(alloc, (), it, limit),
             "defuse" => over::<DefUse>(alloc, (), it, limit),
-            "kset+interval" => over_both::<KSet<16>, Interval>(alloc, ((), ()), it, limit),
-            "kset+defuse" => over_both::<KSet<16>, DefUse>(alloc, ((), ()), it, limit),
+            "kset+interval" => over_both::<KSet<16>, Interval>(alloc, Pair((), ()), it, limit),
+            "kset+defuse" => over_both::<KSet<16>, DefUse>(alloc, Pair((), ()), it, limit),
             _ => no(alloc, "base"),
         }
     }

@@ -19,7 +19,7 @@ use code_image::Decoder;
 use domain_cells::fields_of;
 use domain_laws::Field;
 use domain_trait::Domain;
-use eval_code::lower;
+use eval_code_lowering::lower;
 use fixpoint_theory::{Analyser, Table};
 use fixpoint_worklist::Report;
 use spec_ir::Spec;

@@ -7,7 +7,7 @@ use super::notations::{Definitions, Intervals, Numbers, Pairs, Sets};
 use super::notes::{made_again, noted};
 use base_concrete::Concrete;
 use base_defuse::DefUse;
-use base_product::Paired;
+use base_product::{Pair, Paired};
 use base_trait::Base;
 use std::alloc::{AllocError as NoMemory, Global};
 use test_case_lines::{Notation, Read, Unread, answer, given, parts};
@@ -25,7 +25,7 @@ pub(crate) fn found(alloc: Global, line: &str) -> Result<String, NoMemory> {
 fn case_of_base(alloc: Global, line: &str) -> Read<String> {
     let (base, case) = parts(line);
     let none = ();
-    let pair = ((), ());
+    let pair = Pair((), ());
     match base {
         "set0" => of_joining::<Sets<0>>(alloc, &none, case),
         "set2" => of_joining::<Sets<2>>(alloc, &none, case),
@@ -42,7 +42,7 @@ fn case_of_base(alloc: Global, line: &str) -> Read<String> {
 
 fn of_set_and<B: Notation>(
     alloc: Global,
-    ctx: &((), <B::Of as Base>::Ctx),
+    ctx: &Pair<(), <B::Of as Base>::Ctx>,
     case: &str,
 ) -> Read<String>
     requires { IsTrue B.Of.algebra.joins }

@@ -1,10 +1,12 @@
 //! Words of the bases as text.
 
+ghost use Rattle.std.specs.Prelude.{◌≡◌, IfOk, Ok};
+
 use base_concrete::Concrete;
 use base_defuse::DefUse;
 use base_interval::{Interval, Range};
 use base_kset::{KSet, Set};
-use base_product::Paired;
+use base_product::{Pair, Paired};
 use base_trait::Base;
 use std::alloc::{AllocError as NoMemory, Global};
 use std::marker::PhantomData;
@@ -94,24 +96,31 @@ impl<A: Notation, B: Notation> Notation for Pairs<A, B> {
 
     fn word(
         alloc: Global,
-        ctx: &(<A::Of as Base>::Ctx, <B::Of as Base>::Ctx),
+        ctx: &Pair<<A::Of as Base>::Ctx, <B::Of as Base>::Ctx>,
         w: u32,
         text: &str,
-    ) -> Read<(<A::Of as Base>::Word, <B::Of as Base>::Word)> {
+    ) -> Read<Pair<<A::Of as Base>::Word, <B::Of as Base>::Word>> {
         let Some((first, second)) = text.split_once('&') else {
             return Err(Unread::No);
         };
         let x = A::word(alloc, &ctx.0, w, first)?;
-        both(x, B::word(alloc, &ctx.1, w, second))
+        word_pair(x, B::word(alloc, &ctx.1, w, second))
     }
 
     fn text(
         alloc: Global,
         w: u32,
-        x: &(<A::Of as Base>::Word, <B::Of as Base>::Word),
+        x: &Pair<<A::Of as Base>::Word, <B::Of as Base>::Word>,
     ) -> Result<String, NoMemory> {
         beside(A::text(alloc, w, &x.0)?, B::text(alloc, w, &x.1))
     }
+}
+
+/// The first word beside the second, if that is one. The first is let go here where it is none.
+fn word_pair<V: Drop, W: Drop>(first: V, second: Read<W>) -> Read<Pair<V, W>>
+    ensures { IfOk result (λ r. (r.0 ≡ first) × (second ≡ Ok r.1)) }
+{
+    Ok(Pair(first, second?))
 }
 
 /// The second text behind the first.

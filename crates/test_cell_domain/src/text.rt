@@ -78,8 +78,8 @@ pub(crate) fn push_state(
     let AbstractValue::Data { ty: _ty, cases } = v else {
         return out.push_str("    opened?\n");
     };
-    for case in cases {
-        if let Some(fields) = case {
+    for number in 0..cases.len() {
+        if let Some(fields) = cases.fields(number) {
             push_element(alloc, out, "opened", fields)?;
         }
     }

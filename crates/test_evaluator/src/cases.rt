@@ -14,8 +14,8 @@ use base_concrete::Concrete;
 use base_defuse::DefUse;
 use base_interval::Interval;
 use base_kset::KSet;
-use base_product::Paired;
-use eval_code::lower;
+use base_product::{Pair, Paired};
+use eval_code_lowering::lower;
 use eval_memo::Setting;
 use program_common::specification_of;
 use spec_ir::{Spec, SpecUse};
@@ -119,7 +119,7 @@ fn over_joining<B: BaseText>(
 /// The same over two bases side by side.
 fn over_both<A: BaseText, B: BaseText>(
     alloc: Global,
-    ctx: &(A::Ctx, B::Ctx),
+    ctx: &Pair<A::Ctx, B::Ctx>,
     spec: &Spec,
     policy: Policy,
     call: &str,
@@ -149,7 +149,7 @@ fn over_named(
         ("kset", _) => over_joining::<KSet<16>>(alloc, &(), spec, policy, call),
         ("interval", _) => over_joining::<Interval>(alloc, &(), spec, policy, call),
         ("kset+defuse", _) => {
-            over_both::<KSet<16>, DefUse>(alloc, &((), ()), spec, policy, call)
+            over_both::<KSet<16>, DefUse>(alloc, &Pair((), ()), spec, policy, call)
         }
         _ => no_case(alloc),
     }

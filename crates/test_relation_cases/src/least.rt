@@ -26,7 +26,7 @@ fn entered<D: Domain>(
 }
 
 /// The join of an element and the next, if that is read.
-fn joined<D: Domain>(
+pub(crate) fn joined<D: Domain>(
     alloc: Global,
     domain: &D,
     all: D::Element,

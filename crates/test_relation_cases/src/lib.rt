@@ -17,6 +17,7 @@
 mod analyses;
 mod domains;
 mod least;
+mod pairs;
 mod rows;
 mod verdicts;
 

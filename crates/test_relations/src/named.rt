@@ -6,6 +6,7 @@ use base_kset::KSet;
 use domain_affine::AffineDomain;
 use domain_cells::StateDomain;
 use domain_product::PairDomain;
+use domain_product_states::PairedStates;
 use std::alloc::{AllocError as NoMemory, Global};
 use test_analysis_cases::{Case, Program, Subject, no};
 use test_relation_cases::{Replacement, over, over_both};
@@ -25,8 +26,8 @@ impl Program for Domains {
             "affine+kset" => over_both::<AffineDomain, Sets>(alloc, it, by),
             "kset+affine" => over_both::<Sets, AffineDomain>(alloc, it, by),
             "affine+defuse" => over_both::<AffineDomain, Sources>(alloc, it, by),
-            "kset+interval" => over_both::<Sets, StateDomain<Interval>>(alloc, it, by),
-            "kset+defuse" => over_both::<Sets, Sources>(alloc, it, by),
+            "kset+interval" => over::<PairedStates<KSet<16>, Interval>>(alloc, it, by),
+            "kset+defuse" => over::<PairedStates<KSet<16>, DefUse>>(alloc, it, by),
             "kset+defuse+affine" => {
                 over_both::<Sets, PairDomain<Sources, AffineDomain>>(alloc, it, by)
             }

@@ -1,7 +1,7 @@
 //! Values as text.
 
 use abstract_map::AbstractMap;
-use abstract_value::AbstractValue;
+use abstract_value::{AbstractValue, Constructors};
 use base_trait::Tri;
 use spec_ir::Spec;
 use std::alloc::AllocError as NoMemory;
@@ -65,11 +65,11 @@ fn push_data<B: BaseText>(
     out: &mut String,
     spec: &Spec,
     ty: u32,
-    cases: &[Option<Vec<AbstractValue<B>>>],
+    cases: &Constructors<AbstractValue<B>>,
 ) -> Result<(), NoMemory> {
     let mut mark = "";
     for number in 0..cases.len() {
-        if let Some(fields) = &cases[number] {
+        if let Some(fields) = cases.fields(number) {
             write!(out, "{mark}{}", case_name(spec, ty, number).unwrap_or("?"))?;
             push_fields(out, fields)?;
             mark = " + ";

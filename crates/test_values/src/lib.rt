@@ -8,6 +8,8 @@ mod map_tests;
 #[cfg(test)]
 mod maps;
 #[cfg(test)]
+mod tree_tests;
+#[cfg(test)]
 mod value_tests;
 #[cfg(test)]
 mod values;

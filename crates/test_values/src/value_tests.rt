@@ -5,17 +5,17 @@ use super::values::{byte, optional, word};
 use abstract_value::AbstractValue;
 use base_defuse::DefUse;
 use base_kset::KSet;
-use base_product::Paired;
+use base_product::{Pair, Paired};
 use base_trait::Stamp;
 use spec_ir::Ty;
 use std::test::Fail;
 
 type Sets = KSet<16>;
 
-type Pair = Paired<KSet<16>, DefUse>;
+type Both = Paired<KSet<16>, DefUse>;
 
 #[test]
-fn joins_and_widenings(rt: HostRuntime) -> Result<(), Fail> {
+fn joins(rt: HostRuntime) -> Result<(), Fail> {
     let alloc = rt.alloc();
     let none = optional::<Sets>(alloc, &(), true, None)?;
     let one = optional::<Sets>(alloc, &(), false, Some(&[1]))?;
@@ -26,11 +26,29 @@ fn joins_and_widenings(rt: HostRuntime) -> Result<(), Fail> {
     let some = one.join(alloc, &(), &two)?;
     let wanted = optional::<Sets>(alloc, &(), false, Some(&[1, 2]))?;
     assert!(rt; some == wanted);
+    Ok(())
+}
+
+#[test]
+fn widenings(rt: HostRuntime) -> Result<(), Fail> {
+    let alloc = rt.alloc();
+    let none = optional::<Sets>(alloc, &(), true, None)?;
+    let one = optional::<Sets>(alloc, &(), false, Some(&[1]))?;
+    let two = optional::<Sets>(alloc, &(), false, Some(&[2]))?;
+    let either = optional::<Sets>(alloc, &(), true, Some(&[1]))?;
     let wide = either.widen(alloc, &(), &two)?;
     let wanted = optional::<Sets>(alloc, &(), true, Some(&[]))?;
     assert!(rt; wide == wanted);
     let wide = one.widen(alloc, &(), &none)?;
     assert!(rt; wide == either);
+    Ok(())
+}
+
+#[test]
+fn copies_and_equality(rt: HostRuntime) -> Result<(), Fail> {
+    let alloc = rt.alloc();
+    let one = optional::<Sets>(alloc, &(), false, Some(&[1]))?;
+    let either = optional::<Sets>(alloc, &(), true, Some(&[1]))?;
     let same = either.widen(alloc, &(), &one)?;
     assert!(rt; same == either);
     assert!(rt; same.same(&either));
@@ -67,18 +85,18 @@ fn concrete_values(rt: HostRuntime) -> Result<(), Fail> {
     let some = of_some::<Sets>(alloc, &(), &spec, 3)?;
     let wanted = optional::<Sets>(alloc, &(), false, Some(&[3]))?;
     assert!(rt; some == wanted);
-    let map = of_map::<Pair>(alloc, &((), ()), &spec, 9)?;
+    let map = of_map::<Both>(alloc, &Pair((), ()), &spec, 9)?;
     assert!(rt; map.has_type(&spec, Ty::Map(0)));
-    let other = of_map::<Pair>(alloc, &((), ()), &spec, 8)?;
+    let other = of_map::<Both>(alloc, &Pair((), ()), &spec, 8)?;
     assert!(rt; map != other);
-    let both = map.join(alloc, &((), ()), &other)?;
-    assert!(rt; both.absorbs(&((), ()), &map) && !map.absorbs(&((), ()), &both));
+    let both = map.join(alloc, &Pair((), ()), &other)?;
+    assert!(rt; both.absorbs(&Pair((), ()), &map) && !map.absorbs(&Pair((), ()), &both));
     let AbstractValue::Map { map: _map, m } = &both else {
         return Err(Fail::new("no map"));
     };
     assert_eq!(rt; m.listed(), 1);
     assert_eq!(rt; m.key_at(0), 4);
-    let wanted = word::<Pair>(alloc, &((), ()), &[8, 9])?;
+    let wanted = word::<Both>(alloc, &Pair((), ()), &[8, 9])?;
     let (number, note) = m.cell_at(0);
     assert!(rt; *number == wanted);
     assert_eq!(rt; note.1.items(), &[Stamp::At(16)][..]);

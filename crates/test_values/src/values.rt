@@ -1,12 +1,13 @@
 //! Values of `None | Some(INT8)` over any base, made of lists of numbers.
 
-ghost use Rattle.std.specs.Prelude.{IfOk};
+ghost use Rattle.std.specs.Prelude.{option_map, IfOk};
 ghost use Rattle.abstract_value_laws.specs.Fits.{CaseFits, Fits};
 ghost use Rattle.abstract_value.specs.View.{abs, case_of};
 
-use abstract_value::AbstractValue;
+use abstract_value::{AbstractValue, Constructors, shared_list};
 use base_trait::Base;
 use std::alloc::{AllocError, Global};
+use std::rc::Rc;
 
 /// The word of these numbers, joined one by one; any, where there are none.
 pub(crate) fn word<B: Base>(
@@ -42,10 +43,17 @@ pub(crate) fn byte<B: Base>(
 }
 
 /// `None`, where it is present.
-fn none_case<B: Base>(alloc: Global, _ctx: &B::Ctx, present: bool) -> Option<Vec<AbstractValue<B>>>
-    ensures { CaseFits B.algebra _ctx.now B.CAP (case_of result) }
+fn none_case<B: Base>(
+    alloc: Global,
+    _ctx: &B::Ctx,
+    present: bool,
+) -> Result<Option<Rc<Vec<AbstractValue<B>>>>, AllocError>
+    ensures { IfOk result (λ r. CaseFits B.algebra _ctx.now B.CAP (case_of (option_map (λ f. f.value.items) r))) }
 {
-    if present { Some(Vec::new(alloc)) } else { None }
+    if !present {
+        return Ok(None);
+    }
+    Ok(Some(shared_list(alloc, Vec::new(alloc))?))
 }
 
 /// `Some` of a byte, where it is present.
@@ -53,14 +61,14 @@ fn some_case<B: Base>(
     alloc: Global,
     ctx: &B::Ctx,
     numbers: Option<&[u8]>,
-) -> Result<Option<Vec<AbstractValue<B>>>, AllocError>
-    ensures { IfOk result (λ r. CaseFits B.algebra ctx.now B.CAP (case_of r)) }
+) -> Result<Option<Rc<Vec<AbstractValue<B>>>>, AllocError>
+    ensures { IfOk result (λ r. CaseFits B.algebra ctx.now B.CAP (case_of (option_map (λ f. f.value.items) r))) }
 {
     match numbers {
         Some(numbers) => {
             let mut fields = Vec::new(alloc);
             fields.push(byte::<B>(alloc, ctx, numbers)?)?;
-            Ok(Some(fields))
+            Ok(Some(shared_list(alloc, fields)?))
         }
         None => Ok(None),
     }
@@ -75,8 +83,7 @@ pub(crate) fn optional<B: Base>(
 ) -> Result<AbstractValue<B>, AllocError>
     ensures { IfOk result (λ r. Fits B.algebra ctx.now B.CAP (abs r)) }
 {
-    let mut cases = Vec::new(alloc);
-    cases.push(none_case::<B>(alloc, ctx, none))?;
-    cases.push(some_case::<B>(alloc, ctx, some)?)?;
+    let first = Constructors::none(alloc).grown(alloc, none_case::<B>(alloc, ctx, none))?;
+    let cases = first.grown(alloc, some_case::<B>(alloc, ctx, some))?;
     Ok(AbstractValue::Data { ty: 0, cases })
 }

@@ -9,10 +9,9 @@ use crate::machine::Interval;
 use crate::program::Program;
 use crate::reading::{interval, parts};
 use crate::writing::{endings_text, joined, table_text, verdict_text};
-use fixpoint_open_tables::{Ending, OpenReport, analyse, check};
+use fixpoint_open_tables::{Ending, Endings, OpenReport, analyse, check};
 use fixpoint_theory::Table;
 use std::alloc::{AllocError as NoMemory, Global};
-use std::collections::BTreeMap;
 use std::sync::ledger::{Blank, Ledger};
 use support_step_counter::Steps;
 
@@ -31,7 +30,7 @@ pub(crate) fn analysed_open<L: Ledger>(
     let OpenReport { report, endings } = analyse(alloc, program, &mut steps)?;
     let trace = joined(alloc, &report.trace)?;
     let table = table_text(alloc, &report.table)?;
-    let ends = endings_text(alloc, &endings)?;
+    let ends = endings_text(alloc, &report.table, &endings)?;
     format!(in alloc;
         "trace {} table {} endings {}",
         trace.as_str(),
@@ -45,7 +44,7 @@ pub(crate) fn checked_open<L: Ledger>(
     alloc: Global,
     program: &Program,
     table: &Table<Interval>,
-    endings: &BTreeMap<u32, Ending<Interval>>,
+    endings: &Endings<Interval>,
     blank: Blank,
 ) -> Result<String, NoMemory>
     requires ready { IsProgram program.now.code.items program.now.entry }
@@ -74,11 +73,8 @@ fn ending(text: &str) -> Option<Ending<Interval>> {
 }
 
 /// Endings by their addresses, as `4104 undecodable 0, 4108 open 0..9`, or `-` where there are none.
-pub(crate) fn endings(
-    alloc: Global,
-    text: &str,
-) -> Result<Option<BTreeMap<u32, Ending<Interval>>>, NoMemory> {
-    let mut all = BTreeMap::new(alloc);
+pub(crate) fn endings(alloc: Global, text: &str) -> Result<Option<Endings<Interval>>, NoMemory> {
+    let mut all = Endings::new(alloc);
     for part in text.split(',') {
         if part == "-" {
             continue;

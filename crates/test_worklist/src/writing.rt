@@ -1,10 +1,9 @@
 //! Traces, tables and verdicts as text.
 
 use crate::machine::Interval;
-use fixpoint_open_tables::Ending;
+use fixpoint_open_tables::{Ending, Endings};
 use fixpoint_theory::{Block, Table, Verdict};
 use std::alloc::{AllocError as NoMemory, Global};
-use std::collections::BTreeMap;
 
 /// Addresses, as `4100+4104`, or `-` where there are none.
 pub(crate) fn joined(alloc: Global, addresses: &[u32]) -> Result<String, NoMemory> {
@@ -63,20 +62,29 @@ pub(crate) fn verdict_text(alloc: Global, verdict: &Verdict<Interval>) -> Result
     }
 }
 
-/// The endings of open blocks, by their addresses, as `4104 undecodable 0, 4108 open 0..9`, or `-`.
+/// Appends the ending of the block at an address, if it is open, behind others.
+fn push_ending(text: &mut String, at: u32, endings: &Endings<Interval>) -> Result<(), NoMemory> {
+    let Some(ending) = endings.get(at) else {
+        return Ok(());
+    };
+    if !text.is_empty() {
+        text.push_str(", ")?;
+    }
+    match ending {
+        Ending::Undecodable { word } => write!(text, "{at} undecodable {word}"),
+        Ending::Open { shown } => write!(text, "{at} open {}..{}", shown.low, shown.high),
+    }
+}
+
+/// The endings of the open blocks of a table, by their addresses, as `4104 undecodable 0, 4108 open 0..9`, or `-`.
 pub(crate) fn endings_text(
     alloc: Global,
-    endings: &BTreeMap<u32, Ending<Interval>>,
+    table: &Table<Interval>,
+    endings: &Endings<Interval>,
 ) -> Result<String, NoMemory> {
     let mut text = String::new(alloc);
-    for (at, ending) in endings.iter() {
-        if !text.is_empty() {
-            text.push_str(", ")?;
-        }
-        match ending {
-            Ending::Undecodable { word } => write!(text, "{at} undecodable {word}")?,
-            Ending::Open { shown } => write!(text, "{at} open {}..{}", shown.low, shown.high)?,
-        }
+    for at in table.blocks.keys() {
+        push_ending(&mut text, *at, endings)?;
     }
     if text.is_empty() {
         text.push('-')?;

@@ -6,6 +6,7 @@ use Rattle.base_trait.proofs.Tests.{and_parts}
 use Rattle.support_modular_rows.specs.Submodule.{Submodule}
 use Rattle.spec_ir.specs.Specification.{Spec}
 use Rattle.abstract_value_laws.specs.Abs.{Parts}
+use Rattle.abstract_value_laws.specs.Fits.{PartsFit}
 use Rattle.domain_laws.specs.declared.field.Field.{Field}
 use Rattle.domain_laws.specs.States.{StateType, has_states, same_states, state_type}
 use Rattle.domain_laws.specs.Values.{FieldsFit}
@@ -86,3 +87,36 @@ module _ {A B : Type 0} (First : ElementReading A) (Second : ElementReading B) (
 
   pub pair_none : (ls left : Lines) → First spec code ls None left → PairRead First Second spec code ls None left
   pair_none ls left first = no_first first
+
+-- ---- pairs of cells: parts that were read, put together
+
+module _ {E F R Y : Type 0} (view : R → E × F) (see : Y → F) (x : E) where
+  abbrev pub Put : {D : Type 0} → Result (Option R) D → Result (Option Y) D → Type 0
+  Put result second = IfOk result (λ r. IsOkAnd second (λ y. option_map view r ≡ option_map (λ b. (x, see b)) y))
+
+  pub put_has : {D : Type 0} (P : E × F → Type 0) (result : Result (Option R) D) (second : Result (Option Y) D) → IfOk second (λ y. IfSome y (λ b. P (x, see b))) → Put result second → IfOk result (λ r. IfSome r (λ z. P (view z)))
+  put_has P (Err e) second has made = tt
+  put_has P (Ok None) second has made = tt
+  put_has P (Ok (Some z)) (Err e) has made = absurd made
+  put_has P (Ok (Some z)) (Ok None) has made = absurd cc
+  put_has P (Ok (Some z)) (Ok (Some y)) has made = let same : view z ≡ (x, see y) = cc in subst P (sym same) has
+
+  module _ (First : ElementReading E) (Second : ElementReading F) (spec : Spec) (code : ℕ → Bool) where
+    pub put_done : {D : Type 0} (result : Result (Option R) D) (second : Result (Option Y) D) (ls others left : Lines) → First spec code ls (Some x) others → IfOk second (λ y. Second spec code others (option_map see y) left) → Put result second
+        → IfOk result (λ r. PairRead First Second spec code ls (option_map view r) left)
+    put_done (Err e) second ls others left first read made = tt
+    put_done (Ok r) (Err e) ls others left first read made = absurd made
+    put_done (Ok r) (Ok None) ls others left first read made = subst (λ p. PairRead First Second spec code ls p left) (sym made) (no_second x first read)
+    put_done (Ok r) (Ok (Some y)) ls others left first read made = subst (λ p. PairRead First Second spec code ls p left) (sym made) (both x (see y) first read)
+
+-- values whose fields fit, and a fact beside what holds of each that was read
+pub values_fit : {W N C V E : Type 0} (B : Algebra W N C) (c : C) (cap : ℕ) (fields : List Field) (result : Result (Option V) E) (view : V → Parts W N) → IfOk result (λ r. IfSome r (λ xs. FieldsFit B c cap fields (view xs)))
+    → IfOk result (λ r. IfSome r (λ xs. PartsFit B c cap (view xs)))
+values_fit B c cap fields (Err e) view h = tt
+values_fit B c cap fields (Ok None) view h = tt
+values_fit B c cap fields (Ok (Some x)) view h = h.1
+
+pub both_hold : {V E : Type 0} (F : Type 0) (Q : V → Type 0) (result : Result (Option V) E) → F → IfOk result (λ r. IfSome r Q) → IfOk result (λ r. IfSome r (λ x. F × Q x))
+both_hold F Q (Err e) f h = tt
+both_hold F Q (Ok None) f h = tt
+both_hold F Q (Ok (Some x)) f h = (f, h)

@@ -1,20 +1,28 @@
 //! The trait of domains whose elements are read, and each domain.
 
-ghost use Rattle.std.specs.Prelude.{◌≡◌, ◌≤◌, IfOk, IfSome, IsOkAnd, IsTrue, OnOk, is_some, length, option_map};
+ghost use Rattle.std.specs.Prelude.{◌≡◌, ◌≤◌, IfOk, IfSome, IsOkAnd, IsTrue, OnOk, is_some, length, option_map, map, true};
 ghost use Rattle.spec_ir.specs.Views.{specification};
 ghost use Rattle.code_image.specs.Image.{code_at};
-ghost use Rattle.text_element_readers.specs.Reading.{ElementReading};
+ghost use Rattle.abstract_value_laws.specs.Abs.{parts};
+ghost use Rattle.domain_laws.specs.States.{has_states, state_type};
+ghost use Rattle.abstract_value_laws.specs.Fits.{PartsFit};
+ghost use Rattle.domain_laws.specs.Values.{FieldsFit};
+ghost use Rattle.abstract_value.specs.View.{abs};
+ghost use Rattle.text_element_readers.specs.Reading.{CellsRead, ElementReading};
+ghost use Rattle.domain_product_states.specs.Views.{apart, seen};
 ghost use Rattle.text_element_readers.specs.Words.{WordReading};
 
 use crate::part::read_part;
 use crate::words::affine_word;
 use abstract_value::AbstractValue;
+use base_product::Pair;
 use base_trait::Base;
 use code_image::Image;
 use domain_affine::AffineDomain;
 use domain_affine_base::{Tracked, Word};
 use domain_cells::StateDomain;
 use domain_product::PairDomain;
+use domain_product_states::{PairedStates, PairedValues, of_parts};
 use domain_trait::Domain;
 use spec_ir::Spec;
 use std::alloc::{AllocError as NoMemory, Global};
@@ -54,10 +62,6 @@ pub trait ReadElement: WriteElement {
 }
 
 impl<B: NamedBase> ReadElement for StateDomain<B> {
-    ghost use Rattle.std.specs.Prelude.{map};
-    ghost use Rattle.abstract_value_laws.specs.Abs.{parts};
-    ghost use Rattle.abstract_value.specs.View.{abs};
-    ghost use Rattle.text_element_readers.specs.Reading.{CellsRead};
     ghost use Rattle.text_element_readers.specs.Words.{cells_word};
 
     ghost Reads = { λ it spec code ls r rest. CellsRead B.readings B.CAP B.named spec code ls (option_map (λ x. parts (map abs x.items)) r) rest };
@@ -80,6 +84,42 @@ impl<B: NamedBase> ReadElement for StateDomain<B> {
 
     fn read_word(&self, alloc: Global, text: &[u8]) -> Result<Option<B::Word>, NoMemory> {
         B::word_in(alloc, 32, text)
+    }
+}
+
+/// The values that the next lines are, behind the line that names their base.
+fn read_named<B: NamedBase>(
+    alloc: Global,
+    ctx: &B::Ctx,
+    spec: &Spec,
+    image: &Image,
+    lines: &mut LinesOf<'_>,
+) -> Result<Option<Vec<AbstractValue<B>>>, NoMemory>
+    requires states { has_states (specification spec.now) ≡ true }
+    ensures reads { IfOk result (λ r. CellsRead B.readings B.CAP B.named (specification spec.now) (λ a. is_some (code_at image.now a)) lines.old (option_map (λ x. parts (map abs x.items)) r) lines.new) }
+    ensures fits { IfOk result (λ r. IfSome r (λ x. FieldsFit B.algebra ctx.now B.CAP (state_type (specification spec.now)).fields (parts (map abs x.items)))) }
+    ensures shorter { OnOk result (length lines.new ≤ length lines.old) }
+{
+    if !read_part(B::name(), lines) {
+        return Ok(None);
+    }
+    read_cells::<B>(alloc, ctx, spec, image, lines)
+}
+
+/// Two parts, if there are both.
+fn both_parts<A: Base, B: Base>(
+    alloc: Global,
+    ctx: &Pair<A::Ctx, B::Ctx>,
+    xs: Vec<AbstractValue<A>>,
+    second: Result<Option<Vec<AbstractValue<B>>>, NoMemory>,
+) -> Result<Option<PairedValues<A, B>>, NoMemory>
+    requires first { PartsFit A.algebra ctx.now.0 A.CAP (parts (map abs xs.items)) }
+    requires second { IfOk second (λ r. IfSome r (λ ys. PartsFit B.algebra ctx.now.1 B.CAP (parts (map abs ys.items)))) }
+    ensures { IfOk result (λ r. IsOkAnd second (λ ys. option_map (λ z. seen z) r ≡ option_map (λ y. apart xs.items y.items) ys)) }
+{
+    match second? {
+        Some(ys) => Ok(Some(of_parts(alloc, ctx, xs, ys)?)),
+        None => Ok(None),
     }
 }
 
@@ -145,12 +185,52 @@ impl<A: ReadElement, B: ReadElement> ReadElement for PairDomain<A, B> {
         &self,
         alloc: Global,
         text: &[u8],
-    ) -> Result<Option<(<A::B as Base>::Word, <B::B as Base>::Word)>, NoMemory> {
+    ) -> Result<Option<Pair<<A::B as Base>::Word, <B::B as Base>::Word>>, NoMemory> {
         let Some((first, second)) = cut(b' ', text) else {
             return Ok(None);
         };
         match self.first.read_word(alloc, first)? {
-            Some(x) => with_second_part(x, self.second.read_word(alloc, second)),
+            Some(x) => with_second_word(x, self.second.read_word(alloc, second)),
+            None => Ok(None),
+        }
+    }
+}
+
+impl<A: NamedBase, B: NamedBase> ReadElement for PairedStates<A, B> {
+    ghost use Rattle.text_element_readers.specs.Reading.{PairRead};
+    ghost use Rattle.text_element_readers.specs.Words.{cells_word, pair_word};
+
+    ghost Reads = { λ it spec code ls r rest. PairRead (CellsRead A.readings A.CAP A.named) (CellsRead B.readings B.CAP B.named) spec code ls (option_map (λ z. seen z) r) rest };
+
+    ghost word_in = { λ _. pair_word (cells_word A.readings) (cells_word B.readings) };
+
+    fn read_element(
+        &self,
+        alloc: Global,
+        spec: &Spec,
+        image: &Image,
+        lines: &mut LinesOf<'_>,
+    ) -> Result<Option<PairedValues<A, B>>, NoMemory> {
+        let ctx = self.states.shared();
+        match read_named::<A>(alloc, &ctx.0, spec, image, lines)? {
+            Some(xs) => {
+                let second = read_named::<B>(alloc, &ctx.1, spec, image, lines);
+                both_parts(alloc, ctx, xs, second)
+            }
+            None => Ok(None),
+        }
+    }
+
+    fn read_word(
+        &self,
+        alloc: Global,
+        text: &[u8],
+    ) -> Result<Option<Pair<A::Word, B::Word>>, NoMemory> {
+        let Some((first, second)) = cut(b' ', text) else {
+            return Ok(None);
+        };
+        match A::word_in(alloc, 32, first)? {
+            Some(x) => with_second_word(x, B::word_in(alloc, 32, second)),
             None => Ok(None),
         }
     }
@@ -165,6 +245,19 @@ fn with_second_part<A: Drop, B: Drop>(
 {
     match second? {
         Some(y) => Ok(Some((x, y))),
+        None => Ok(None),
+    }
+}
+
+/// A first word with what was read behind it.
+fn with_second_word<A: Drop, B: Drop>(
+    x: A,
+    second: Result<Option<B>, NoMemory>,
+) -> Result<Option<Pair<A, B>>, NoMemory>
+    ensures { IfOk result (λ r. IsOkAnd second (λ y. r ≡ option_map (λ b. (x, b)) y)) }
+{
+    match second? {
+        Some(y) => Ok(Some(Pair(x, y))),
         None => Ok(None),
     }
 }

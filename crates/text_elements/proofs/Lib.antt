@@ -1,3 +1,4 @@
 pub mod Appending
 pub mod CellLines
+pub mod PartLines
 pub mod RowLines

@@ -17,8 +17,11 @@ abbrev pub part_line : List ℕ → List ℕ
 part_line name = codes "part " ++ (name ++ codes "\n")
 
 -- cells
+abbrev pub named_cells : {W N : Type 0} → List ℕ → Texts W N → Spec → Parts W N → List ℕ
+named_cells name texts spec x = part_line name ++ cell_lines texts spec (state_fields spec) x
+
 abbrev pub CellsText : {W N : Type 0} → List ℕ → Texts W N → ElementText (Parts W N)
-CellsText name texts spec x text = text ≡ part_line name ++ cell_lines texts spec (state_fields spec) x
+CellsText name texts spec x text = text ≡ named_cells name texts spec x
 
 -- affine relations
 pub record AffineText (spec : Spec) (x : Submodule) (text : List ℕ) : Type 0 where

@@ -19,7 +19,7 @@ use syntax_lexer::Text;
 use text_words::{BaseText, push_noted};
 
 /// Appends the line of a word field.
-fn push_word<B: BaseText>(
+pub(crate) fn push_word<B: BaseText>(
     out: &mut String,
     spec: &Spec,
     field: &(Text, Ty),
@@ -35,7 +35,7 @@ fn push_word<B: BaseText>(
 }
 
 /// Appends the line of a cell of a map.
-fn push_line<B: BaseText>(
+pub(crate) fn push_line<B: BaseText>(
     out: &mut String,
     spec: &Spec,
     field: &(Text, Ty),

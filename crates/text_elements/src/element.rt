@@ -1,19 +1,27 @@
 //! The trait of domains whose elements have texts, and each domain.
 
-ghost use Rattle.std.specs.Prelude.{◌≡◌, ℕ, ◌++◌, List, OnOk};
+ghost use Rattle.std.specs.Prelude.{◌≡◌, ℕ, ◌++◌, List, OnOk, map};
 ghost use Rattle.std.specs.String.{string_bytes};
 ghost use Rattle.spec_ir.specs.Views.{specification};
-ghost use Rattle.text_elements.specs.Parts.{Appended, ElementText, part_line};
+ghost use Rattle.abstract_value_laws.specs.Abs.{parts};
+ghost use Rattle.abstract_value.specs.View.{abs};
+ghost use Rattle.domain_product_laws.specs.Calls.{mapped_parts};
+ghost use Rattle.domain_product_states.specs.Parts.{first_parts, second_parts};
+ghost use Rattle.text_elements.specs.Parts.{Appended, ElementText, named_cells, part_line};
 
 use crate::cells::push_cells;
 use crate::named::NamedBase;
+use crate::part_cells::push_cells_part;
 use crate::rows::push_rows;
 use abstract_value::AbstractValue;
+use base_product::{Pair, Paired};
 use base_trait::Base;
 use domain_affine::AffineDomain;
 use domain_affine_base::{Affine, Word};
 use domain_cells::StateDomain;
 use domain_product::PairDomain;
+use domain_product_maps::{First, ProductPart, Second};
+use domain_product_states::{Both, PairedStates, PairedValues};
 use domain_trait::Domain;
 use spec_ir::Spec;
 use std::alloc::AllocError as NoMemory;
@@ -47,10 +55,58 @@ fn push_part(out: &mut String, name: &str) -> Result<(), NoMemory>
     out.push_str("\n")
 }
 
+/// Appends the text of cells, behind the line that names their base.
+fn push_named<B: NamedBase>(
+    out: &mut String,
+    spec: &Spec,
+    values: &[AbstractValue<B>],
+) -> Result<(), NoMemory>
+    ensures { OnOk result (string_bytes out.new ≡ string_bytes out.old ++ named_cells B.named B.texts (specification spec.now) (parts (map abs values.now))) }
+{
+    push_part(out, B::name())?;
+    push_cells::<B>(out, spec, values)
+}
+
+/// Appends the text of a part of cells over a pair, behind the line that names its base.
+fn push_named_part<P: ProductPart>(
+    out: &mut String,
+    spec: &Spec,
+    values: &[AbstractValue<P::From>],
+) -> Result<(), NoMemory>
+where
+    P::To: NamedBase,
+    ensures { OnOk result (string_bytes out.new ≡ string_bytes out.old ++ named_cells P.To.named P.To.texts (specification spec.now) (mapped_parts P.word_of P.note_of (parts (map abs values.now)))) }
+{
+    push_part(out, <P::To as NamedBase>::name())?;
+    push_cells_part::<P>(out, spec, values)
+}
+
+/// Appends the texts of both parts of cells over a pair.
+fn push_together<A: NamedBase, B: NamedBase>(
+    out: &mut String,
+    spec: &Spec,
+    values: &[AbstractValue<Paired<A, B>>],
+) -> Result<(), NoMemory>
+    ensures { OnOk result (string_bytes out.new ≡ string_bytes out.old ++ (named_cells A.named A.texts (specification spec.now) (first_parts (parts (map abs values.now))) ++ named_cells B.named B.texts (specification spec.now) (second_parts (parts (map abs values.now))))) }
+{
+    push_named_part::<First<A, B>>(out, spec, values)?;
+    push_named_part::<Second<A, B>>(out, spec, values)
+}
+
+/// Appends the texts of cells over each of two bases.
+fn push_apart<A: NamedBase, B: NamedBase>(
+    out: &mut String,
+    spec: &Spec,
+    xs: &[AbstractValue<A>],
+    ys: &[AbstractValue<B>],
+) -> Result<(), NoMemory>
+    ensures { OnOk result (string_bytes out.new ≡ string_bytes out.old ++ (named_cells A.named A.texts (specification spec.now) (parts (map abs xs.now)) ++ named_cells B.named B.texts (specification spec.now) (parts (map abs ys.now)))) }
+{
+    push_named::<A>(out, spec, xs)?;
+    push_named::<B>(out, spec, ys)
+}
+
 impl<B: NamedBase> WriteElement for StateDomain<B> {
-    ghost use Rattle.std.specs.Prelude.{map};
-    ghost use Rattle.abstract_value_laws.specs.Abs.{parts};
-    ghost use Rattle.abstract_value.specs.View.{abs};
     ghost use Rattle.text_elements.specs.Parts.{CellsText};
 
     ghost IsText = { λ spec x. CellsText B.named B.texts spec (parts (map abs x.items)) };
@@ -110,8 +166,32 @@ impl<A: WriteElement, B: WriteElement> WriteElement for PairDomain<A, B> {
     fn push_word(
         out: &mut String,
         w: u32,
-        x: &(<A::B as Base>::Word, <B::B as Base>::Word),
+        x: &Pair<<A::B as Base>::Word, <B::B as Base>::Word>,
     ) -> Result<(), NoMemory> {
+        A::push_word(out, w, &x.0)?;
+        out.push_str(" ")?;
+        B::push_word(out, w, &x.1)
+    }
+}
+
+impl<A: NamedBase, B: NamedBase> WriteElement for PairedStates<A, B> {
+    ghost use Rattle.text_words.specs.Words.{pair_text};
+    ghost use Rattle.text_elements.specs.Parts.{CellsText, PairText};
+    ghost use Rattle.domain_product_states.specs.Views.{seen};
+
+    ghost IsText = { λ spec x. PairText (CellsText A.named A.texts) (CellsText B.named B.texts) spec (seen x) };
+
+    ghost word_text = { pair_text A.texts.word B.texts.word };
+
+    fn push_element(out: &mut String, spec: &Spec, x: &PairedValues<A, B>) -> Result<(), NoMemory> {
+        match x {
+            Both::Together(values) => push_together::<A, B>(out, spec, values),
+            Both::Apart(xs, ys) => push_apart::<A, B>(out, spec, xs, ys),
+        }
+    }
+
+    /// Both parts.
+    fn push_word(out: &mut String, w: u32, x: &Pair<A::Word, B::Word>) -> Result<(), NoMemory> {
         A::push_word(out, w, &x.0)?;
         out.push_str(" ")?;
         B::push_word(out, w, &x.1)

@@ -31,6 +31,7 @@ mod appended;
 mod cells;
 mod element;
 mod named;
+mod part_cells;
 mod rows;
 
 pub use appended::{append_element, append_word};

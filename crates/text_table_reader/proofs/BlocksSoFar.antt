@@ -12,7 +12,7 @@ use Rattle.spec_ir.specs.Specification.{Spec}
 use Rattle.fixpoint_theory.specs.declared.table.Block.{Block}
 use Rattle.fixpoint_theory.specs.Views.{listing, listings}
 use Rattle.fixpoint_theory.specs.Table.{Listing, Listings}
-use Rattle.fixpoint_open_tables.specs.Endings.{Endings}
+use Rattle.fixpoint_open_tables.specs.Endings.{Endings, ends_in}
 use Rattle.fixpoint_open_tables.specs.Gathering.{IsPut}
 use Rattle.fixpoint_open_tables.specs.declared.ending.Ending.{Ending}
 use Rattle.text_lines.specs.Lines.{Lines}
@@ -74,16 +74,16 @@ module _ {W : Type 0} where
     | inr h ↦ rw h (other_ending at a ending ends apart)
   ]
 
-  -- what a map has to which the ending of a block is added that had none
-  pub ending_put : (m n : BTreeMap ℕ (Ending W)) (at : ℕ) (ending : Option (Ending W)) → IsPut m n at ending → get nat_cmp m at ≡ None
-      → (a : ℕ) → get nat_cmp n a ≡ cond (at == a) ending (get nat_cmp m a)
+  -- what there is where the ending of a block is added that had none
+  pub ending_put : (m n : List (ℕ × Ending W)) (at : ℕ) (ending : Option (Ending W)) → IsPut m n at ending → ends_in m at ≡ None
+      → (a : ℕ) → ends_in n a ≡ cond (at == a) ending (ends_in m a)
   ending_put m n at None put lacks a = elim (cases_Bool (at == a)) [
-    | inl h ↦ let same : at ≡ a = eqb-true at a h in ap (λ k. get nat_cmp k a) put ∙ subst (λ z. get nat_cmp m z ≡ None) same lacks ∙ rw h refl
-    | inr h ↦ ap (λ k. get nat_cmp k a) put ∙ rw h refl
+    | inl h ↦ let same : at ≡ a = eqb-true at a h in ap (λ k. ends_in k a) put ∙ subst (λ z. ends_in m z ≡ None) same lacks ∙ rw h refl
+    | inr h ↦ ap (λ k. ends_in k a) put ∙ rw h refl
   ]
-  ending_put m n at (Some x) put lacks a = put.0 a ∙ ap (λ t. cond t (Some x) (get nat_cmp m a)) (same_key at a)
+  ending_put m n at (Some x) put lacks a = put a
 
-  pub no_endings : (m : BTreeMap ℕ (Ending W)) → m.entries ≡ [] → (a : ℕ) → get nat_cmp m a ≡ None
+  pub no_endings : (m : List (ℕ × Ending W)) → m ≡ [] → (a : ℕ) → ends_in m a ≡ None
   no_endings m e a = rw e refl
 
 -- ---- what is read so far

@@ -2,7 +2,6 @@
 
 ghost use Rattle.std.specs.Prelude.{◌≡◌, ◌≤◌, IfOk, OnOk, length};
 ghost use Rattle.text_words.specs.Reading as reading;
-ghost use Rattle.fixpoint_open_tables.specs.Gathering.{IsPut};
 ghost use Rattle.text_table_reader.specs.Endings as defined;
 ghost use Rattle.text_table_reader.specs.Views.{end_of};
 
@@ -10,7 +9,6 @@ use crate::block::End;
 use base_trait::Base;
 use fixpoint_open_tables::Ending;
 use std::alloc::{AllocError as NoMemory, Global};
-use std::collections::BTreeMap;
 use text_element_readers::ReadElement;
 use text_lines::LinesOf;
 use text_words::{number_in, text_behind};
@@ -99,18 +97,4 @@ pub(crate) fn read_ending<D: ReadElement>(
         }
         None => Ok(None),
     }
-}
-
-/// Adds the ending of the block of an address, if it has one.
-pub(crate) fn add_ending<W: Drop>(
-    endings: &mut BTreeMap<u32, Ending<W>>,
-    at: u32,
-    ending: Option<Ending<W>>,
-) -> Result<(), NoMemory>
-    ensures { OnOk result (IsPut endings.old endings.new at ending) }
-{
-    if let Some(ending) = ending {
-        endings.insert(at, ending)?;
-    }
-    Ok(())
 }

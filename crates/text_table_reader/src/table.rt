@@ -1,26 +1,25 @@
 //! Tables.
 
 ghost use Rattle.std.specs.Prelude.{◌≡◌, ◌⊎◌, ◌+◌, ◌-◌, ◌<◌, ◌^◌, IfErr, IfOk, IfSome, IsTrue, length, option_map, true};
-ghost use Rattle.std.specs.BTreeMap.{get};
-ghost use Rattle.std.specs.Ordering.{nat_cmp};
 ghost use Rattle.spec_ir.specs.Views.{specification};
 ghost use Rattle.domain_laws.specs.States.{has_states, state_type};
 ghost use Rattle.support_command_line.specs.Bases.{base_text};
 ghost use Rattle.text_lines.specs.Lines.{lines};
 ghost use Rattle.fixpoint_theory.specs.Views.{listings};
+ghost use Rattle.fixpoint_open_tables.specs.Endings.{ends_in};
 ghost use Rattle.text_table_reader.specs.Blocks.{AreReadAs, BlocksFit};
 ghost use Rattle.text_table_reader.specs.Ends.{is_word_of};
 ghost use Rattle.text_table_reader.specs.Tables.{IsErrorIn, IsOpenTableIn, error_at};
 
 use crate::block::{BlockAt, read_block};
-use crate::endings::add_ending;
 use crate::head::{HeadStop, Rule, read_head};
 use crate::setting::Setting;
 use base_trait::Base;
 use code_image::Image;
 use domain_cells::fields_of;
-use fixpoint_open_tables::Ending;
+use fixpoint_open_tables::{Endings, add_ending};
 use fixpoint_theory::Table;
+use fixpoint_worklist::put_block;
 use spec_ir::Spec;
 use std::alloc::{AllocError as NoMemory, Global};
 use std::collections::BTreeMap;
@@ -34,7 +33,7 @@ use text_lines::{LinesOf, count_lines};
 pub struct OpenTable<E, W> {
     pub table: Table<E>,
     /// By the addresses of the blocks; a block that is not left open has none.
-    pub endings: BTreeMap<u32, Ending<W>>,
+    pub endings: Endings<W>,
 }
 
 /// Reads the blocks of a table to the end of the text.
@@ -47,12 +46,12 @@ fn read_blocks<D: ReadElement>(
     requires made { IsTrue (D.is_for domain.now (specification at.now.spec.now)) }
     requires fields { at.now.fields.now ≡ (state_type (specification at.now.spec.now)).fields }
     ensures read { IfOk result (λ r. AreReadAs (D.Reads domain.now) (D.word_in domain.now) (specification at.now.spec.now)
-        (is_word_of at.now.image.now) lines.old (option_map (λ t. (listings (λ x. x) t.table, λ a. get nat_cmp t.endings a)) r) lines.new) }
+        (is_word_of at.now.image.now) lines.old (option_map (λ t. (listings (λ x. x) t.table, ends_in t.endings)) r) lines.new) }
     ensures fits { IfOk result (λ r. IfSome r (λ t. BlocksFit (is_word_of at.now.image.now) (λ x. (D.elements domain.now).fits (D.view x))
         (listings (λ x. x) t.table))) }
 {
     let mut blocks = BTreeMap::new(alloc);
-    let mut endings = BTreeMap::new(alloc);
+    let mut endings = Endings::new(alloc);
     let mut low = 0;
     'lines: while !lines.is_done() {
         match read_block(alloc, domain, at, low, lines) {
@@ -62,7 +61,7 @@ fn read_blocks<D: ReadElement>(
                     block,
                     ending,
                 } = found;
-                let _old = blocks.insert(address, block)?;
+                put_block(&mut blocks, address, block)?;
                 add_ending(&mut endings, address, ending)?;
                 low = u64::from(address) + 1;
             }
@@ -112,7 +111,7 @@ pub fn read_table<D: ReadElement>(
     requires states { has_states (specification spec.now) ≡ true }
     requires short { length bytes.now < 2 ^ 32 }
     ensures table { IfOk result (λ r. IsOpenTableIn (D.Reads domain.now) (D.word_in domain.now) (specification spec.now) (base_text base) image.now
-        bytes.now (listings (λ x. x) r.table) (λ a. get nat_cmp r.endings a)) }
+        bytes.now (listings (λ x. x) r.table) (ends_in r.endings)) }
     ensures error { IfErr result (λ e. (e ≡ TableError.NoMemory) ⊎ IsErrorIn (D.Reads domain.now) (D.word_in domain.now) (specification spec.now)
         (base_text base) image.now bytes.now e) }
     ensures fits { IfOk result (λ r. BlocksFit (is_word_of image.now) (λ x. (D.elements domain.now).fits (D.view x)) (listings (λ x. x) r.table)) }

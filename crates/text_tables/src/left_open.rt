@@ -1,11 +1,10 @@
 //! Tables that are left open.
 
 ghost use Rattle.std.specs.Prelude.{◌≡◌, ◌++◌, IfOk, OnOk};
-ghost use Rattle.std.specs.BTreeMap.{get};
-ghost use Rattle.std.specs.Ordering.{nat_cmp};
 ghost use Rattle.std.specs.String.{string_bytes};
 ghost use Rattle.spec_ir.specs.Views.{specification};
 ghost use Rattle.fixpoint_theory.specs.Views.{listing, listings};
+ghost use Rattle.fixpoint_open_tables.specs.Endings.{ends_in};
 ghost use Rattle.text_elements.specs.Parts.{Appended};
 ghost use Rattle.text_tables.specs.Open.{AreOpenBlocks, IsOpenAt, IsOpenBlock, IsOpenTableText, ending_text, open_line, undecodable_line};
 
@@ -13,11 +12,10 @@ use crate::blocks::push_block;
 use crate::head::push_head;
 use base_trait::Base;
 use code_image::Image;
-use fixpoint_open_tables::Ending;
+use fixpoint_open_tables::{Ending, Endings};
 use fixpoint_theory::{Block, Table};
 use spec_ir::Spec;
 use std::alloc::{AllocError as NoMemory, Global};
-use std::collections::BTreeMap;
 use text_elements::{WriteElement, append_word};
 use text_words::push_number;
 
@@ -46,11 +44,11 @@ fn push_open<D: WriteElement>(
 fn push_ending<D: WriteElement>(
     out: &mut String,
     at: u32,
-    endings: &BTreeMap<u32, Ending<<D::B as Base>::Word>>,
+    endings: &Endings<<D::B as Base>::Word>,
 ) -> Result<(), NoMemory>
-    ensures { OnOk result (string_bytes out.new ≡ string_bytes out.old ++ ending_text D.word_text (get nat_cmp endings.now at)) }
+    ensures { OnOk result (string_bytes out.new ≡ string_bytes out.old ++ ending_text D.word_text (ends_in endings.now at)) }
 {
-    match endings.get(&at) {
+    match endings.get(at) {
         Some(Ending::Undecodable { word }) => push_undecodable(out, *word),
         Some(Ending::Open { shown }) => push_open::<D>(out, shown),
         None => Ok(()),
@@ -63,10 +61,10 @@ fn push_open_block<D: WriteElement>(
     spec: &Spec,
     at: u32,
     block: &Block<D::Element>,
-    endings: &BTreeMap<u32, Ending<<D::B as Base>::Word>>,
+    endings: &Endings<<D::B as Base>::Word>,
 ) -> Result<(), NoMemory>
     ensures { OnOk result (Appended (IsOpenBlock D.word_text (D.IsText (specification spec.now)) (specification spec.now) at
-        (listing (λ x. x) block.now) (get nat_cmp endings.now at)) (string_bytes out.old) (string_bytes out.new)) }
+        (listing (λ x. x) block.now) (ends_in endings.now at)) (string_bytes out.old) (string_bytes out.new)) }
 {
     push_block::<D>(out, spec, at, block)?;
     push_ending::<D>(out, at, endings)?;
@@ -79,10 +77,10 @@ fn push_listed<D: WriteElement>(
     spec: &Spec,
     at: u32,
     table: &Table<D::Element>,
-    endings: &BTreeMap<u32, Ending<<D::B as Base>::Word>>,
+    endings: &Endings<<D::B as Base>::Word>,
 ) -> Result<(), NoMemory>
     ensures { OnOk result (Appended (IsOpenAt D.word_text (D.IsText (specification spec.now)) (specification spec.now) at
-        (listings (λ x. x) table.now at) (get nat_cmp endings.now at)) (string_bytes out.old) (string_bytes out.new)) }
+        (listings (λ x. x) table.now at) (ends_in endings.now at)) (string_bytes out.old) (string_bytes out.new)) }
 {
     match table.blocks.get(&at) {
         Some(block) => push_open_block::<D>(out, spec, at, block, endings),
@@ -96,10 +94,10 @@ fn push_blocks<D: WriteElement>(
     spec: &Spec,
     addresses: &[u32],
     table: &Table<D::Element>,
-    endings: &BTreeMap<u32, Ending<<D::B as Base>::Word>>,
+    endings: &Endings<<D::B as Base>::Word>,
 ) -> Result<(), NoMemory>
     ensures { OnOk result (Appended (AreOpenBlocks D.word_text (D.IsText (specification spec.now)) (specification spec.now)
-        (listings (λ x. x) table.now) (λ a. get nat_cmp endings.now a) addresses.now) (string_bytes out.old) (string_bytes out.new)) }
+        (listings (λ x. x) table.now) (ends_in endings.now) addresses.now) (string_bytes out.old) (string_bytes out.new)) }
 {
     for at in addresses {
         push_listed::<D>(out, spec, *at, table, endings)?;
@@ -115,10 +113,10 @@ fn push_table<D: WriteElement>(
     image: &Image,
     base: &str,
     table: &Table<D::Element>,
-    endings: &BTreeMap<u32, Ending<<D::B as Base>::Word>>,
+    endings: &Endings<<D::B as Base>::Word>,
 ) -> Result<(), NoMemory>
     ensures { OnOk result (Appended (IsOpenTableText D.word_text (D.IsText (specification spec.now)) (specification spec.now) image.now base.now
-        (listings (λ x. x) table.now) (λ a. get nat_cmp endings.now a)) (string_bytes out.old) (string_bytes out.new)) }
+        (listings (λ x. x) table.now) (ends_in endings.now)) (string_bytes out.old) (string_bytes out.new)) }
 {
     push_head(out, base, image)?;
     let addresses = image.addresses(alloc)?;
@@ -133,10 +131,10 @@ pub fn open_table_text<D: WriteElement>(
     image: &Image,
     base: &str,
     table: &Table<D::Element>,
-    endings: &BTreeMap<u32, Ending<<D::B as Base>::Word>>,
+    endings: &Endings<<D::B as Base>::Word>,
 ) -> Result<Vec<u8>, NoMemory>
     ensures { IfOk result (λ r. IsOpenTableText D.word_text (D.IsText (specification spec.now)) (specification spec.now) image.now base.now
-        (listings (λ x. x) table.now) (λ a. get nat_cmp endings.now a) r.items) }
+        (listings (λ x. x) table.now) (ends_in endings.now) r.items) }
 {
     let mut out = String::new(alloc);
     push_table::<D>(alloc, &mut out, spec, image, base, table, endings)?;

@@ -11,7 +11,7 @@ use base_concrete::Concrete;
 use base_defuse::{DefUse, Stamps};
 use base_interval::{Interval, Range};
 use base_kset::{KSet, Set};
-use base_product::Paired;
+use base_product::{Pair, Paired};
 use base_strides::{StridedSet, Strides};
 use base_trait::{Base, Stamp};
 use domain_affine_base::{Affine, Word};
@@ -146,13 +146,13 @@ impl<A: BaseText, B: BaseText> BaseText for Paired<A, B> {
 
     ghost texts = { paired_texts A.texts B.texts };
 
-    fn push_word(out: &mut String, w: u32, x: &(A::Word, B::Word)) -> Result<(), NoMemory> {
+    fn push_word(out: &mut String, w: u32, x: &Pair<A::Word, B::Word>) -> Result<(), NoMemory> {
         A::push_word(out, w, &x.0)?;
         out.push_str(" ")?;
         B::push_word(out, w, &x.1)
     }
 
-    fn push_note(out: &mut String, note: &(A::Note, B::Note)) -> Result<(), NoMemory> {
+    fn push_note(out: &mut String, note: &Pair<A::Note, B::Note>) -> Result<(), NoMemory> {
         A::push_note(out, &note.0)?;
         B::push_note(out, &note.1)
     }

@@ -1,18 +1,21 @@
 use Rattle.std.proofs.Common.{◌≡◌, map, drop, ◌+◌, ◌*◌}
 use Rattle.abstract_value_laws.specs.Abs.{cases, parts, cases_onto, parts_onto}
 use Rattle.abstract_value_laws.specs.Fits.{CasesFit, PartsFit}
-use Rattle.abstract_value.specs.View.{abs, case_of}
+use Rattle.abstract_value.specs.Constructors.{AreWithin, spread}
+use Rattle.abstract_value.specs.View.{abs, case_of, cases_of}
 use Rattle.abstract_value.specs.Ways.{merged_cases, merged_parts}
+use Rattle.abstract_value.proofs.Weights.{cases_weight, parts_weight, weight}
 use Rattle.abstract_value.proofs.merge.+merge.Given as goal
 
-abbrev pub invariant-merge_cases-loop-i : goal.invariant-merge_cases-loop-i
-invariant-merge_cases-loop-i g l =
+abbrev pub invariant-merge_each-loop-i : goal.invariant-merge_each-loop-i
+invariant-merge_each-loop-i g l =
     let b = g.B.Base.algebra in
     let cap = g.B.Base.CAP in
-    let xs = cases (map case_of (drop l.i l.xs)) in
-    let ys = cases (map case_of (drop l.i l.ys)) in
+    let xs = cases (map case_of (drop l.i (spread l.xs))) in
+    let ys = cases (map case_of (drop l.i (spread l.ys))) in
     record {
-      whole : cases_onto (map case_of l.out.items) (merged_cases b l.ctx cap l.way xs ys) ≡ merged_cases b l.ctx cap l.way (cases (map case_of l.xs)) (cases (map case_of l.ys));
+      whole : cases_onto (map case_of (spread l.out)) (merged_cases b l.ctx cap l.way xs ys) ≡ merged_cases b l.ctx cap l.way (cases_of l.xs) (cases_of l.ys);
+      within : AreWithin l.out;
       left : CasesFit b l.ctx cap xs;
       right : CasesFit b l.ctx cap ys;
     }
@@ -30,13 +33,16 @@ invariant-merge_parts-loop-i g l =
     }
 
 abbrev pub decreases-merge : goal.decreases-merge
-decreases-merge g l = 4 * goal.size-merge g l
+decreases-merge g l = 8 * weight (abs l.x.now)
 
 abbrev pub decreases-merge_cases : goal.decreases-merge_cases
-decreases-merge_cases g l = 4 * goal.size-merge_cases g l + 3
+decreases-merge_cases g l = 8 * cases_weight (cases_of l.xs.now) + 5
 
-abbrev pub decreases-merge_parts : goal.decreases-merge_parts
-decreases-merge_parts g l = 4 * goal.size-merge_parts g l + 1
+abbrev pub decreases-merge_each : goal.decreases-merge_each
+decreases-merge_each g l = 8 * cases_weight (cases_of l.xs.now) + 4
 
 abbrev pub decreases-merge_case : goal.decreases-merge_case
-decreases-merge_case g l = 4 * goal.size-merge_case g l + 2
+decreases-merge_case g l = 8 * cases_weight (cases_of l.xs.now) + 3
+
+abbrev pub decreases-merge_parts : goal.decreases-merge_parts
+decreases-merge_parts g l = 8 * parts_weight (parts (map abs l.xs.now)) + 1

@@ -6,9 +6,9 @@ use Rattle.semantics_values.specs.Values.{vals}
 use Rattle.semantics_values.specs.Views.{val}
 use Rattle.semantics_values.specs.declared.value.Value.{size-Value}
 use Rattle.semantics_values.specs.declared.value.Value.TheViews.{sized-Made}
-use Rattle.abstract_value_laws.specs.Abs.{cases, made}
+use Rattle.abstract_value_laws.specs.Abs.{made}
 use Rattle.abstract_value_laws.specs.OfValues.{case_count, of_value, of_values, one_case}
-use Rattle.abstract_value.specs.View.{case_of}
+use Rattle.abstract_value.specs.View.{cases_of}
 use Rattle.abstract_value.proofs.Falling.{part_falls}
 use Rattle.abstract_value.proofs.OfValues.{made_fits_of, map_fits_of, map_is, val_Made, values_fit_here, values_pushed, word_fits_of, word_is}
 use Rattle.abstract_value.proofs.Views.{abs_Data}
@@ -31,7 +31,7 @@ of_value-returns-in_ok-one_case-in-Made g t c =
     let env = environment_of (specification c.args.spec.now) in
     let r = c.in_ok-one_case-in-Made.field-0 in
     let ps = vals (map val c.in-Made.parts.items) in
-    let here : cases (map case_of r.items) ≡ one_case (case_count env c.in-Made.ty) c.in-Made.case (of_values b ctx cap env ps) = search rules in
+    let here : cases_of r ≡ one_case (case_count env c.in-Made.ty) c.in-Made.case (of_values b ctx cap env ps) = search rules in
     abs_Data c.in-Made.ty r ∙ ap (λ z. made c.in-Made.ty z) here ∙ ap (λ z. of_value b ctx cap env z) (sym (ap val c.in-Made.is ∙ val_Made c.in-Made.ty c.in-Made.case c.in-Made.parts))
 
 pub of_values-loop-value-preserved : goal.of_values-loop-value-preserved

@@ -4,15 +4,17 @@ use Rattle.spec_ir.specs.Views.{specification}
 use Rattle.semantics_values.specs.Types.{environment_of}
 use Rattle.abstract_value_laws.specs.Abs.{cases, parts}
 use Rattle.abstract_value_laws.specs.Types.{have_cases, have_types}
-use Rattle.abstract_value.specs.View.{abs, case_of}
+use Rattle.abstract_value.specs.Constructors.{spread}
+use Rattle.abstract_value.specs.View.{abs, case_of, cases_of}
+use Rattle.abstract_value.proofs.Weights.{cases_weight, parts_weight, weight}
 use Rattle.abstract_value.proofs.typed.+has_type.Given as goal
 
-abbrev pub invariant-have_cases-loop-i : goal.invariant-have_cases-loop-i
-invariant-have_cases-loop-i g l =
+abbrev pub invariant-has_each-loop-i : goal.invariant-has_each-loop-i
+invariant-has_each-loop-i g l =
     let env = environment_of (specification l.spec) in
     record {
-      lengths : length l.values ≡ length l.declared;
-      whole : have_cases env (cases (map case_of (drop l.i l.values))) (map view.case_of (drop l.i l.declared)) ≡ have_cases env (cases (map case_of l.values)) (map view.case_of l.declared);
+      lengths : length (spread l.values) ≡ length l.declared;
+      whole : have_cases env (cases (map case_of (drop l.i (spread l.values)))) (map view.case_of (drop l.i l.declared)) ≡ have_cases env (cases_of l.values) (map view.case_of l.declared);
     }
 
 abbrev pub invariant-have_types-loop-i : goal.invariant-have_types-loop-i
@@ -24,16 +26,19 @@ invariant-have_types-loop-i g l =
     }
 
 abbrev pub decreases-has_type : goal.decreases-has_type
-decreases-has_type g l = 5 * goal.size-has_type g l
+decreases-has_type g l = 8 * weight (abs l.v.now)
 
 abbrev pub decreases-is_data : goal.decreases-is_data
-decreases-is_data g l = 5 * goal.size-is_data g l + 4
+decreases-is_data g l = 8 * cases_weight (cases_of l.values.now) + 6
 
 abbrev pub decreases-have_cases : goal.decreases-have_cases
-decreases-have_cases g l = 5 * goal.size-have_cases g l + 3
+decreases-have_cases g l = 8 * cases_weight (cases_of l.values.now) + 5
+
+abbrev pub decreases-has_each : goal.decreases-has_each
+decreases-has_each g l = 8 * cases_weight (cases_of l.values.now) + 4
 
 abbrev pub decreases-has_case : goal.decreases-has_case
-decreases-has_case g l = 5 * goal.size-has_case g l + 2
+decreases-has_case g l = 8 * cases_weight (cases_of l.values.now) + 3
 
 abbrev pub decreases-have_types : goal.decreases-have_types
-decreases-have_types g l = 5 * goal.size-have_types g l + 1
+decreases-have_types g l = 8 * parts_weight (parts (map abs l.values.now)) + 1

@@ -1,6 +1,5 @@
-use Rattle.std.specs.BTreeMap.{get}
-use Rattle.std.specs.Ordering.{nat_cmp}
 use Rattle.fixpoint_theory.specs.Views.{listings}
+use Rattle.fixpoint_open_tables.specs.Endings.{ends_in}
 use Rattle.analysis_transfer.specs.Analysis.{calls_of, problem}
 use Rattle.analysis_transfer.specs.Instance.{is_analysed}
 use Rattle.analysis_transfer_laws.proofs.OpenRuns.{open_is_true}
@@ -17,5 +16,5 @@ returns-clause-runs g c =
     from_both c.analyse.result
     (λ r closed sound. open_is_true base g.met.D.B.Base.laws cap elements meaning (problem it) (calls_of base cap meaning (problem it))
     (is_analysed base g.met.D.B.Base.laws cap elements meaning (g.D.Domain.is_for it.domain.now) it (g.met.D.Domain.laws it.domain.now (problem it).spec c.requires.ready.made) c.requires.ready)
-    (listings g.D.Domain.view r.report.table) (get nat_cmp r.endings) closed sound)
+    (listings g.D.Domain.view r.report.table) (ends_in r.endings) closed sound)
     c.analyse.ensures.closed c.analyse.ensures.sound

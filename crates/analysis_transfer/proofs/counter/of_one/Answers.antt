@@ -1,6 +1,19 @@
-use Rattle.std.proofs.Common.{sym}
-use Rattle.analysis_transfer.proofs.Counters.{not_one}
+use Rattle.std.proofs.Common.{◌≡◌, None, Some, get_or, option_map, ap, sym, ◌∙◌}
+use Rattle.abstract_value.specs.Constructors.{spread}
+use Rattle.analysis_transfer.proofs.Counters.{none_is, not_one, one_is}
 use Rattle.analysis_transfer.proofs.counter.of_one.Goals as goal
 
-pub returns-then-values-ne1 : goal.returns-then-values-ne1
-returns-then-values-ne1 g c = sym (not_one c.args.values.now c.if-values-ne1.true)
+pub returns-then-len-ne1 : goal.returns-then-len-ne1
+returns-then-len-ne1 g c = sym (not_one (spread c.args.values.now) (λ e. c.if-len-ne1.true (c.len.ensures ∙ e)))
+
+pub returns-in-Some : goal.returns-in-Some
+returns-in-Some g c =
+    let cs = spread c.args.values.now in
+    let found : get_or cs 0 None ≡ Some c.in-Some.fields.now = sym c.fields.ensures ∙ ap (λ o. option_map (λ f. f.now) o) c.in-Some.is in
+    c.first_word.ensures ∙ one_is cs c.in-Some.fields.now (sym c.len.ensures ∙ c.if-len-ne1.false) found
+
+pub returns-in-None : goal.returns-in-None
+returns-in-None g c =
+    let cs = spread c.args.values.now in
+    let none : get_or cs 0 None ≡ None = sym c.fields.ensures ∙ ap (λ o. option_map (λ f. f.now) o) c.in-None.is in
+    none_is cs (sym c.len.ensures ∙ c.if-len-ne1.false) none

@@ -21,9 +21,9 @@ unreachable-requires-in-OutOfFuel-2 c =
     let m = c.in-Some.machine in
     let d = c.args.turns in
     let start = state c.args.start in
-    let deep = subst (IsRun (after spec m code d c.args.bound start)) c.in-OutOfFuel.is c.in_ok-end.ensures in
+    let deep = subst (IsRun (after spec m code d c.args.bound start)) c.in-OutOfFuel.is c.in_ok-end.ensures.end in
     let end = before_deep spec m code d c.args.bound c.in-OutOfFuel.done start deep.0 in
-    let again = subst (IsRun (after spec m code d c.in-OutOfFuel.done start)) c.in-OutOfFuel-2.is c.in_ok-before-in-OutOfFuel.ensures in
+    let again = subst (IsRun (after spec m code d c.in-OutOfFuel.done start)) c.in-OutOfFuel-2.is c.in_ok-before-in-OutOfFuel.ensures.end in
     let stop : r.Stop.bound ≡ r.Stop.turns = ap (λ e. e.stop) (sym end) ∙ again.1 in
     cc
 
@@ -36,9 +36,9 @@ returns-in-Ended-2 c = λ machine is.
     let m = c.in-Some.machine in
     let run = after spec m code d c.args.bound start in
     let before = c.in-Ended-2.before in
-    let deep = subst (IsRun run) c.in-OutOfFuel.is c.in_ok-end.ensures in
+    let deep = subst (IsRun run) c.in-OutOfFuel.is c.in_ok-end.ensures.end in
     let end = before_deep spec m code d c.args.bound c.in-OutOfFuel.done start deep.0 in
-    let again = subst (IsRun (after spec m code d c.in-OutOfFuel.done start)) c.in-Ended-2.is c.in_ok-before-in-OutOfFuel.ensures in
+    let again = subst (IsRun (after spec m code d c.in-OutOfFuel.done start)) c.in-Ended-2.is c.in_ok-before-in-OutOfFuel.ensures.end in
     let count = deep.0 ∙ sym (again.done ∙ ap (λ e. e.done) end) in
     let last = subst (λ (s : State). IsSameState (state before.state) s) (ap (λ e. e.state) end) again.last in
     let whole = turns_end run before.state before.done deep.1 count last again.ascending in

@@ -13,15 +13,15 @@ use Rattle.eval_activation.proofs.activity.advance.Goals as goal
 
 pub give-requires-clause-fits : goal.give-requires-clause-fits
 give-requires-clause-fits g c =
-    taken_stands g.B.Base.algebra g.met.B.Base.laws g.B.Base.CAP c.args.setting.now g.K.Specified.spec g.K.Counted.rank (g.K.Known.calls c.args.setting.now.ctx.now) c.requires.setting c.args.fun c.requires.there c.args.activity.now (option_map yield c.args.given) c.requires.taken
+    taken_stands g.B.Base.algebra g.met.B.Base.laws g.B.Base.CAP c.args.setting.now g.K.Specified.spec (g.K.Known.calls c.args.setting.now.ctx.now) c.requires.setting c.args.fun c.requires.there c.args.activity.now (option_map yield c.args.given) c.requires.taken
 
 pub give-requires-clause-out_fits : goal.give-requires-clause-out_fits
 give-requires-clause-out_fits g c =
-    rw c.sides-out.ensures.out (taken_out g.B.Base.algebra g.met.B.Base.laws g.B.Base.CAP c.args.setting.now g.K.Specified.spec g.K.Counted.rank (g.K.Known.calls c.args.setting.now.ctx.now) c.requires.setting c.args.fun c.requires.there c.args.activity.now (option_map yield c.args.given) c.requires.taken)
+    rw c.sides-out.ensures.out (taken_out g.B.Base.algebra g.met.B.Base.laws g.B.Base.CAP c.args.setting.now g.K.Specified.spec (g.K.Known.calls c.args.setting.now.ctx.now) c.requires.setting c.args.fun c.requires.there c.args.activity.now (option_map yield c.args.given) c.requires.taken)
 
 pub give-requires-clause-next_fits : goal.give-requires-clause-next_fits
 give-requires-clause-next_fits g c =
-    rw c.sides-out.ensures.next (taken_next g.B.Base.algebra g.met.B.Base.laws g.B.Base.CAP c.args.setting.now g.K.Specified.spec g.K.Counted.rank (g.K.Known.calls c.args.setting.now.ctx.now) c.requires.setting c.args.fun c.requires.there c.args.activity.now (option_map yield c.args.given) c.requires.taken)
+    rw c.sides-out.ensures.next (taken_next g.B.Base.algebra g.met.B.Base.laws g.B.Base.CAP c.args.setting.now g.K.Specified.spec (g.K.Known.calls c.args.setting.now.ctx.now) c.requires.setting c.args.fun c.requires.there c.args.activity.now (option_map yield c.args.given) c.requires.taken)
 
 pub returns-in-Turn-clause-after : goal.returns-in-Turn-clause-after
 returns-in-Turn-clause-after g c args before after goes gave =
@@ -32,8 +32,8 @@ returns-in-Turn-clause-after g c args before after goes gave =
     let old = c.args.activity.now in
     let given = option_map yield c.args.given in
     let is : c.in_ok-give.field-0 ≡ k.Turn = search rules in
-    let ends : CanEnd (meaning b cap spec old) old.driver.left = taken_ends b g.met.B.Base.laws cap s spec g.K.Counted.rank (g.K.Known.calls c.args.setting.now.ctx.now) c.requires.setting c.args.fun c.requires.there old given c.requires.taken in
-    again b g.met.B.Base.laws cap s spec g.K.Counted.rank (g.K.Known.calls c.args.setting.now.ctx.now) c.requires.setting c.args.fun c.requires.there old (record { driver = c.give.new.self; turns = c.give.new.turn }) given (view.asked abs c.in_ok-give.field-0)
+    let ends : CanEnd (meaning b cap spec old) old.driver.left = taken_ends b g.met.B.Base.laws cap s spec (g.K.Known.calls c.args.setting.now.ctx.now) c.requires.setting c.args.fun c.requires.there old given c.requires.taken in
+    again b g.met.B.Base.laws cap s spec (g.K.Known.calls c.args.setting.now.ctx.now) c.requires.setting c.args.fun c.requires.there old (record { driver = c.give.new.self; turns = c.give.new.turn }) given (view.asked abs c.in_ok-give.field-0)
     (answered b cap spec old (record { driver = c.give.new.self; turns = c.give.new.turn }) (option_map abs c.sides-out.result.0) (option_map group_args c.sides-out.result.1) given (view.asked abs c.in_ok-give.field-0) c.sides-out.ensures.out c.sides-out.ensures.next c.in_ok-give.ensures.answer)
     args before after goes gave (ap (view.asked abs) is) (c.in_ok-give.ensures.running.1 is) (c.in_ok-give.ensures.fits is) (c.in_ok-give.ensures.can_end is ends) c.in_ok-give.ensures.kept
 
@@ -46,8 +46,8 @@ returns-in-Turn-clause-falls g c _ =
     let old = c.args.activity.now in
     let given = option_map yield c.args.given in
     let is : c.in_ok-give.field-0 ≡ k.Turn = search rules in
-    let ends : CanEnd (meaning b cap spec old) old.driver.left = taken_ends b g.met.B.Base.laws cap s spec g.K.Counted.rank (g.K.Known.calls c.args.setting.now.ctx.now) c.requires.setting c.args.fun c.requires.there old given c.requires.taken in
-    taken_falls b g.met.B.Base.laws cap s spec g.K.Counted.rank (g.K.Known.calls c.args.setting.now.ctx.now) c.requires.setting c.args.fun c.requires.there old given c.requires.taken (record { driver = c.give.new.self; turns = c.give.new.turn })
+    let ends : CanEnd (meaning b cap spec old) old.driver.left = taken_ends b g.met.B.Base.laws cap s spec (g.K.Known.calls c.args.setting.now.ctx.now) c.requires.setting c.args.fun c.requires.there old given c.requires.taken in
+    taken_falls b g.met.B.Base.laws cap s spec (g.K.Known.calls c.args.setting.now.ctx.now) c.requires.setting c.args.fun c.requires.there old given c.requires.taken (record { driver = c.give.new.self; turns = c.give.new.turn })
     c.in_ok-give.ensures.kept (c.in_ok-give.ensures.fits is) (c.in_ok-give.ensures.falls is ends)
 
 pub returns-in-Out-clause-after : goal.returns-in-Out-clause-after
@@ -61,7 +61,7 @@ returns-in-Out-clause-after g c args before after goes gave =
     let new : Activity g.row.B.Denot g.row.K.Denot g.row.B-Word.Denot g.row.B-Note.Denot g.row.B-Ctx.Denot = record { driver = c.give.new.self; turns = c.give.new.turn } in
     let is : c.in_ok-give.field-0 ≡ k.Out c.in-Out.leaves = search rules in
     let answer = subst (λ z. Answers (meaning b cap spec old).moves (standing old) (option_map abs c.sides-out.result.0) (option_map group_args c.sides-out.result.1) (view.asked abs z) (standing new)) is c.in_ok-give.ensures.answer in
-    left_after b g.met.B.Base.laws cap s spec g.K.Counted.rank (g.K.Known.calls c.args.setting.now.ctx.now) c.requires.setting c.args.fun c.requires.there old (record { driver = c.give.new.self; turns = c.give.new.turn }) given (k.Out (option_map abs c.in-Out.leaves))
+    left_after b g.met.B.Base.laws cap s spec (g.K.Known.calls c.args.setting.now.ctx.now) c.requires.setting c.args.fun c.requires.there old (record { driver = c.give.new.self; turns = c.give.new.turn }) given (k.Out (option_map abs c.in-Out.leaves))
     (answered b cap spec old (record { driver = c.give.new.self; turns = c.give.new.turn }) (option_map abs c.sides-out.result.0) (option_map group_args c.sides-out.result.1) given (k.Out (option_map abs c.in-Out.leaves)) c.sides-out.ensures.out c.sides-out.ensures.next answer)
     args before after goes gave
 
@@ -76,6 +76,6 @@ returns-in-OutOfFuel-clause-after g c args before after goes gave =
     let new : Activity g.row.B.Denot g.row.K.Denot g.row.B-Word.Denot g.row.B-Note.Denot g.row.B-Ctx.Denot = record { driver = c.give.new.self; turns = c.give.new.turn } in
     let is : c.in_ok-give.field-0 ≡ k.OutOfFuel = search rules in
     let answer = subst (λ z. Answers (meaning b cap spec old).moves (standing old) (option_map abs c.sides-out.result.0) (option_map group_args c.sides-out.result.1) (view.asked abs z) (standing new)) is c.in_ok-give.ensures.answer in
-    left_after b g.met.B.Base.laws cap s spec g.K.Counted.rank (g.K.Known.calls c.args.setting.now.ctx.now) c.requires.setting c.args.fun c.requires.there old (record { driver = c.give.new.self; turns = c.give.new.turn }) given k.OutOfFuel
+    left_after b g.met.B.Base.laws cap s spec (g.K.Known.calls c.args.setting.now.ctx.now) c.requires.setting c.args.fun c.requires.there old (record { driver = c.give.new.self; turns = c.give.new.turn }) given k.OutOfFuel
     (answered b cap spec old (record { driver = c.give.new.self; turns = c.give.new.turn }) (option_map abs c.sides-out.result.0) (option_map group_args c.sides-out.result.1) given k.OutOfFuel c.sides-out.ensures.out c.sides-out.ensures.next answer)
     args before after goes gave

@@ -1,4 +1,4 @@
-use Rattle.eval_activation.proofs.Ordered.{may_evaluate}
+use Rattle.eval_activation.proofs.Readiness.{may_evaluate}
 use Rattle.eval_activation.proofs.laws.may_be_evaluated.Goals as goal
 
 pub returns : goal.returns

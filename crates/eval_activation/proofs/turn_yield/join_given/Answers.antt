@@ -27,7 +27,7 @@ returns-in_ok-joined_next-in-Some-Some-clause-fits g c =
     let y = c.in-Some-Some.y in
     let left : YieldFits b cap s c.args.group (yield x) = search rules in
     let right : YieldFits b cap s c.args.group (yield y) = search rules in
-    let both = yields_join b g.met.B.Base.laws cap s g.K.Specified.spec g.K.Counted.rank (g.K.Known.calls c.args.setting.now.ctx.now) c.requires.setting c.args.group (yield x) (yield y) left right in
+    let both = yields_join b g.met.B.Base.laws cap s g.K.Specified.spec (g.K.Known.calls c.args.setting.now.ctx.now) c.requires.setting c.args.group (yield x) (yield y) left right in
     let out : option_map abs c.in_ok-joined_out-in-Some-Some.field-0 ≡ join_some (join_of b s.ctx.now cap) (option_map abs x.out) (option_map abs y.out) = search rules in
     let next : option_map group_args c.in_ok-joined_next-in-Some-Some.field-0 ≡ join_some (merge_each (merge_all (join_of b s.ctx.now cap))) (option_map group_args x.next) (option_map group_args y.next) = search rules in
     subst (λ z. YieldFits b cap s c.args.group (record { out = z; next = option_map group_args c.in_ok-joined_next-in-Some-Some.field-0 })) (sym out)

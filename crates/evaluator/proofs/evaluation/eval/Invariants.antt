@@ -1,6 +1,5 @@
 use Rattle.std.proofs.Common.{length}
 use Rattle.spec_ir.specs.Views.{specification}
-use Rattle.abstract_semantics.specs.GroupRanks.{rank_of}
 use Rattle.eval_memo.specs.Memos.{entries}
 use Rattle.evaluator.proofs.evaluation.eval.Given as goal
 
@@ -8,7 +7,7 @@ abbrev pub ghosts-evaluate_known-K-Specified : goal.ghosts-evaluate_known-K-Spec
 ghosts-evaluate_known-K-Specified g a = record { spec = specification a.setting.now.spec.now }
 
 abbrev pub ghosts-evaluate_known-K-Counted : goal.ghosts-evaluate_known-K-Counted
-ghosts-evaluate_known-K-Counted g a = record { rank = rank_of (specification a.setting.now.spec.now); before = length (entries a.memo.now); ticked = a.steps.now }
+ghosts-evaluate_known-K-Counted g a = record { before = length (entries a.memo.now); ticked = a.steps.now }
 
 abbrev pub ghosts-evaluate_known-K-Placed : goal.ghosts-evaluate_known-K-Placed
 ghosts-evaluate_known-K-Placed g a = record { at = a.setting.now.at; policy = a.setting.now.policy }

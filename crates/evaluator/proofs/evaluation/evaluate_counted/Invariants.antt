@@ -1,6 +1,5 @@
 use Rattle.std.proofs.Common.{length}
 use Rattle.spec_ir.specs.Views.{specification}
-use Rattle.abstract_semantics.specs.GroupRanks.{rank_of}
 use Rattle.eval_memo.specs.Memos.{entries}
 use Rattle.evaluator.proofs.evaluation.evaluate_counted.Given as goal
 
@@ -8,7 +7,7 @@ abbrev pub ghosts-evaluate_unkept-K-Specified : goal.ghosts-evaluate_unkept-K-Sp
 ghosts-evaluate_unkept-K-Specified g a = record { spec = specification a.setting.now.spec.now }
 
 abbrev pub ghosts-evaluate_unkept-K-Counted : goal.ghosts-evaluate_unkept-K-Counted
-ghosts-evaluate_unkept-K-Counted g a = record { rank = rank_of (specification a.setting.now.spec.now); before = length (entries a.memo.now); ticked = a.steps.now }
+ghosts-evaluate_unkept-K-Counted g a = record { before = length (entries a.memo.now); ticked = a.steps.now }
 
 abbrev pub ghosts-evaluate_unkept-K-Placed : goal.ghosts-evaluate_unkept-K-Placed
 ghosts-evaluate_unkept-K-Placed g a = record { at = a.setting.now.at; policy = a.setting.now.policy }

@@ -1,4 +1,4 @@
-use Rattle.std.proofs.Common.{◌≡◌, ◌∙◌, ◌≤◌, ◌+◌, ℕ, [], ◌∷◌, ◌++◌, map, Some, length, nat_cmp, option_map, ap, sym, subst, refl, arith, length-append, append-nil}
+use Rattle.std.proofs.Common.{◌≡◌, ◌∙◌, ℕ, [], ◌∷◌, ◌++◌, map, Some, nat_cmp, option_map, ap, sym, arith, length-append, append-nil}
 use Rattle.std.specs.BTreeMap.{get}
 use Rattle.std.specs.Map.Iter.{deref_pair}
 use Rattle.std.proofs.lemmas.List.{map-append}
@@ -49,7 +49,7 @@ loop-at-preserved g c =
     let listed = ap (λ y. ending_at A c.in-Some.at.now (option_map (listing view) y)) found in
     let pushed = map-append deref_pair c.loop-at.yielded ((c.in-Some.at, c.in-Some.block) ∷ []) in
     record {
-      made = λ a. put_more f (map deref_pair c.loop-at.yielded) (c.in-Some.at.now, c.in-Some.block.now) c.loop-at.found c.add_ending.new.found c.in_ok-ending.ending c.in_ok-add_ending.ensures (c.in_ok-ending.ensures.value ∙ sym listed) c.loop-at.invariant.made a
+      made = λ a. put_more f (map deref_pair c.loop-at.yielded) (c.in-Some.at.now, c.in-Some.block.now) c.loop-at.found c.add_ending.new.endings c.in_ok-ending.ending c.in_ok-add_ending.ensures (c.in_ok-ending.ensures.value ∙ sym listed) c.loop-at.invariant.made a
           ∙ ap (λ es. so_far f es a) (sym pushed);
       steps = let so = c.loop-at.invariant.steps in let one = c.in_ok-ending.ensures.most in
           let longer = length-append c.loop-at.yielded ((c.in-Some.at, c.in-Some.block) ∷ []) in omega (arith, so, one, longer);

@@ -1,34 +1,36 @@
-use Rattle.std.proofs.Common.{◌≡◌, map}
-use Rattle.std.specs.Prelude.{◌&&◌, IsTrue}
 use Rattle.support_command_line.specs.Bases.{base_text}
 use Rattle.spec_ir.specs.Views.{specification}
 use Rattle.program_domain_tasks.specs.Read.{task_of}
-use Rattle.abstract_value_laws.specs.Abs.{parts}
-use Rattle.abstract_value.specs.View.{abs}
 use Rattle.domain_cells.specs.Views.{context_of, states_of}
-use Rattle.domain_laws.specs.Calls as cell
-use Rattle.domain_product_laws.specs.Domain.{may_pair}
-use Rattle.analysis_query_laws.specs.Pairs.{pairs_tell}
+use Rattle.domain_product_states.specs.Views.{seen}
 use Rattle.program_common.specs.Outcomes.{answer_of}
-use Rattle.program_base_tasks.proofs.Ties.{both_for, cells_tie, cells_told, gives_comes, own_cells, own_pair, pair_tie, work_comes}
+use Rattle.program_base_tasks.proofs.Sides.{IsMadeFor, both_cells, both_tie, may_both, own_by, told_by}
+use Rattle.program_base_tasks.proofs.Ties.{gives_comes, work_comes}
 use Rattle.program_base_tasks.proofs.named.over_both.Goals as goal
+
+pub in_domain-requires-clause-may : goal.in_domain-requires-clause-may
+in_domain-requires-clause-may g c = may_both g.A.Base.algebra.joins g.B.Base.algebra.joins g.A.Base.algebra.words.looks g.B.Base.algebra.words.looks c.requires.may_A c.requires.may_B
 
 pub returns-clause-gives : goal.returns-clause-gives
 returns-clause-gives g c =
     let s = c.args.it.now in
     let spec = specification s.spec.now in
-    gives_comes (λ d. IsTrue (cell.is_for g.A.Base.algebra (states_of d.first) spec && (cell.is_for g.B.Base.algebra (states_of d.second) spec && may_pair g.A.Base.algebra g.B.Base.algebra)) × ((context_of d.first ≡ g.A.NamedBase.shared) × (context_of d.second ≡ g.B.NamedBase.shared)))
-    (λ d. own_pair (own_cells (λ x. parts (map abs x.items)) g.A.Base.algebra g.A.Base.CAP g.A.NamedBase.named g.A.BaseText.texts g.A.CellBase.readings (context_of d.first) (states_of d.first)) (own_cells (λ x. parts (map abs x.items)) g.B.Base.algebra g.B.Base.CAP g.B.NamedBase.named g.B.BaseText.texts g.B.CellBase.readings (context_of d.second) (states_of d.second)))
-    (λ d. pairs_tell (cells_told (λ x. parts (map abs x.items)) g.A.Base.algebra g.A.Base.CAP g.A.NamedBase.named g.A.BaseText.texts g.A.CellBase.readings (context_of d.first)) (cells_told (λ x. parts (map abs x.items)) g.B.Base.algebra g.B.Base.CAP g.B.NamedBase.named g.B.BaseText.texts g.B.CellBase.readings (context_of d.second))) _
-    (λ d made. let both = both_for (cell.is_for g.A.Base.algebra (states_of d.first) spec) (cell.is_for g.B.Base.algebra (states_of d.second) spec) g.A.Base.algebra g.B.Base.algebra made.0 in pair_tie _ _ _ _ _ _ (cells_tie (λ x. parts (map abs x.items)) g.A.Base.algebra g.A.Base.CAP g.A.NamedBase.named g.A.BaseText.texts g.A.CellBase.readings (context_of d.first) g.A.NamedBase.shared (states_of d.first) spec made.1.0 both.0) (cells_tie (λ x. parts (map abs x.items)) g.B.Base.algebra g.B.Base.CAP g.B.NamedBase.named g.B.BaseText.texts g.B.CellBase.readings (context_of d.second) g.B.NamedBase.shared (states_of d.second) spec made.1.1 both.1))
+    let A = g.A.Base.algebra in
+    let B = g.B.Base.algebra in
+    gives_comes (λ d. IsMadeFor A B g.A.NamedBase.shared g.B.NamedBase.shared (context_of d.states) (states_of d.states) spec)
+    (λ d. own_by (λ x. seen x) (both_cells A B g.A.Base.CAP g.B.Base.CAP g.A.NamedBase.named g.B.NamedBase.named g.A.BaseText.texts g.B.BaseText.texts g.A.CellBase.readings g.B.CellBase.readings (context_of d.states) (states_of d.states)))
+    (λ d. told_by (λ x. seen x) (both_cells A B g.A.Base.CAP g.B.Base.CAP g.A.NamedBase.named g.B.NamedBase.named g.A.BaseText.texts g.B.BaseText.texts g.A.CellBase.readings g.B.CellBase.readings (context_of d.states) (states_of d.states))) _
+    (λ d made. both_tie A B g.A.Base.CAP g.B.Base.CAP g.A.NamedBase.named g.B.NamedBase.named g.A.BaseText.texts g.B.BaseText.texts g.A.CellBase.readings g.B.CellBase.readings (λ x. seen x) (context_of d.states) (states_of d.states) g.A.NamedBase.shared g.B.NamedBase.shared spec made)
     s.image.now (base_text c.args.base) (task_of spec s.image.now s.task) answer_of c.in_domain.result c.in_domain.ensures.gives
 
 pub returns-clause-work : goal.returns-clause-work
 returns-clause-work g c =
     let s = c.args.it.now in
     let spec = specification s.spec.now in
-    work_comes (λ d. IsTrue (cell.is_for g.A.Base.algebra (states_of d.first) spec && (cell.is_for g.B.Base.algebra (states_of d.second) spec && may_pair g.A.Base.algebra g.B.Base.algebra)) × ((context_of d.first ≡ g.A.NamedBase.shared) × (context_of d.second ≡ g.B.NamedBase.shared)))
-    (λ d. own_pair (own_cells (λ x. parts (map abs x.items)) g.A.Base.algebra g.A.Base.CAP g.A.NamedBase.named g.A.BaseText.texts g.A.CellBase.readings (context_of d.first) (states_of d.first)) (own_cells (λ x. parts (map abs x.items)) g.B.Base.algebra g.B.Base.CAP g.B.NamedBase.named g.B.BaseText.texts g.B.CellBase.readings (context_of d.second) (states_of d.second)))
-    (λ d. pairs_tell (cells_told (λ x. parts (map abs x.items)) g.A.Base.algebra g.A.Base.CAP g.A.NamedBase.named g.A.BaseText.texts g.A.CellBase.readings (context_of d.first)) (cells_told (λ x. parts (map abs x.items)) g.B.Base.algebra g.B.Base.CAP g.B.NamedBase.named g.B.BaseText.texts g.B.CellBase.readings (context_of d.second))) _
-    (λ d made. let both = both_for (cell.is_for g.A.Base.algebra (states_of d.first) spec) (cell.is_for g.B.Base.algebra (states_of d.second) spec) g.A.Base.algebra g.B.Base.algebra made.0 in pair_tie _ _ _ _ _ _ (cells_tie (λ x. parts (map abs x.items)) g.A.Base.algebra g.A.Base.CAP g.A.NamedBase.named g.A.BaseText.texts g.A.CellBase.readings (context_of d.first) g.A.NamedBase.shared (states_of d.first) spec made.1.0 both.0) (cells_tie (λ x. parts (map abs x.items)) g.B.Base.algebra g.B.Base.CAP g.B.NamedBase.named g.B.BaseText.texts g.B.CellBase.readings (context_of d.second) g.B.NamedBase.shared (states_of d.second) spec made.1.1 both.1))
+    let A = g.A.Base.algebra in
+    let B = g.B.Base.algebra in
+    work_comes (λ d. IsMadeFor A B g.A.NamedBase.shared g.B.NamedBase.shared (context_of d.states) (states_of d.states) spec)
+    (λ d. own_by (λ x. seen x) (both_cells A B g.A.Base.CAP g.B.Base.CAP g.A.NamedBase.named g.B.NamedBase.named g.A.BaseText.texts g.B.BaseText.texts g.A.CellBase.readings g.B.CellBase.readings (context_of d.states) (states_of d.states)))
+    (λ d. told_by (λ x. seen x) (both_cells A B g.A.Base.CAP g.B.Base.CAP g.A.NamedBase.named g.B.NamedBase.named g.A.BaseText.texts g.B.BaseText.texts g.A.CellBase.readings g.B.CellBase.readings (context_of d.states) (states_of d.states))) _
+    (λ d made. both_tie A B g.A.Base.CAP g.B.Base.CAP g.A.NamedBase.named g.B.NamedBase.named g.A.BaseText.texts g.B.BaseText.texts g.A.CellBase.readings g.B.CellBase.readings (λ x. seen x) (context_of d.states) (states_of d.states) g.A.NamedBase.shared g.B.NamedBase.shared spec made)
     s.image.now (base_text c.args.base) (task_of spec s.image.now s.task) answer_of c.in_domain.result c.in_domain.ensures.gives c.args.steps.now c.in_domain.new.steps c.in_domain.ensures.work

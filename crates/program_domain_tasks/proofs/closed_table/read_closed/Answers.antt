@@ -1,5 +1,4 @@
-use Rattle.std.specs.BTreeMap.{get}
-use Rattle.std.specs.Ordering.{nat_cmp}
+use Rattle.fixpoint_open_tables.specs.Endings.{ends_in}
 use Rattle.support_command_line.specs.Bases.{base_text}
 use Rattle.spec_ir.specs.Views.{specification}
 use Rattle.program_domain_tasks.specs.Own.{left_open}
@@ -14,4 +13,4 @@ returns-in_err-table-clause-refused g c =
 
 pub returns-in-Some-clause-refused : goal.returns-in-Some-clause-refused
 returns-in-Some-clause-refused g c =
-    left_open c.in_ok-table.field-0.table (λ a. get nat_cmp c.in_ok-table.field-0.endings a) c.in_ok-table.ensures.table c.in-Some.ensures.some
+    left_open c.in_ok-table.field-0.table (ends_in c.in_ok-table.field-0.endings) c.in_ok-table.ensures.table c.in-Some.ensures.some

@@ -1,5 +1,4 @@
-use Rattle.std.specs.BTreeMap.{get}
-use Rattle.std.specs.Ordering.{nat_cmp}
+use Rattle.fixpoint_open_tables.specs.Endings.{ends_in}
 use Rattle.support_command_line.specs.Bases.{base_text}
 use Rattle.spec_ir.specs.Views.{specification}
 use Rattle.text_table_reader.specs.Tables.{IsErrorIn}
@@ -24,4 +23,4 @@ pub returns : goal.returns
 returns g c =
     let s = c.args.it.now in
     own_rewritten (record { base = g.D.B.Base.algebra; cap = g.D.B.Base.CAP; elements = g.D.Domain.elements c.args.domain.now; meaning = g.D.Domain.meaning c.args.domain.now; view = g.D.Domain.view; IsText = g.D.WriteElement.IsText; Reads = g.D.ReadElement.Reads c.args.domain.now; word_in = g.D.ReadElement.word_in c.args.domain.now; word_text = g.D.WriteElement.word_text }) s.image.now (base_text c.args.base) c.args.bytes.now
-    (specification s.spec.now) c.in_ok-table.field-0.table (λ a. get nat_cmp c.in_ok-table.field-0.endings a) (answer_of c.in_ok-open_table_answer.field-0) c.in_ok-table.ensures.table c.in_ok-open_table_answer.ensures
+    (specification s.spec.now) c.in_ok-table.field-0.table (ends_in c.in_ok-table.field-0.endings) (answer_of c.in_ok-open_table_answer.field-0) c.in_ok-table.ensures.table c.in_ok-open_table_answer.ensures

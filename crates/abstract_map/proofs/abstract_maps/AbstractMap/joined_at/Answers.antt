@@ -1,11 +1,11 @@
 use Rattle.std.proofs.Common.{map, sym, ap, subst, cond, ◌∙◌}
 use Rattle.word_operations.specs.Width.{IsWidth}
-use Rattle.base_trait.specs.Lists.{Each}
-use Rattle.abstract_map_laws.specs.Calls.{update_of}
+use Rattle.base_trait.specs.Lists.{Each, IsAscending}
+use Rattle.abstract_map_laws.specs.Maps.{Fits}
 use Rattle.abstract_map_laws.specs.Cells.{CellFits, join_cells}
 use Rattle.abstract_map_laws.specs.Keys.{has_key, some}
 use Rattle.abstract_map_laws.proofs.Fitting.{room, update_fits}
-use Rattle.abstract_map.proofs.Whole.{joined_is, made_fits, made_ok}
+use Rattle.abstract_map.proofs.Whole.{joined_is}
 use Rattle.abstract_map.proofs.abstract_maps.AbstractMap.joined_at.Goals as goal
 
 pub joined_if-requires-clause-width : goal.joined_if-requires-clause-width
@@ -47,6 +47,9 @@ joined_named-requires-clause-new g c =
     let width = ap (λ m. m.width) c.self.view_is in
     subst (λ w. CellFits B ctx w c.args.cell.now) (sym width) c.requires.cell
 
+pub joined_named-requires-clause-order : goal.joined_named-requires-clause-order
+joined_named-requires-clause-order g c = subst (λ l. IsAscending (map (λ e. e.0) l)) (sym c.cells.ensures.value) c.requires.map.order
+
 pub returns-in-Ok : goal.returns-in-Ok
 returns-in-Ok g c =
     let B = g.B.Base.algebra in
@@ -58,11 +61,10 @@ returns-in-Ok g c =
     let x = c.args.cell.now in
     let w = c.self.inside.width in
     let rest = c.in_ok-rest-2.rest in
-    let cells = c.in-Ok.cells.items in
+    let cells = c.in-Ok.cells in
     let same = joined_is B ctx cap _ m ks all x c.in_ok-rest.rest rest cells c.self.view_is c.requires.map.order c.in_ok-rest.ensures.value c.in_ok-rest-2.ensures.value
     (c.in-Ok.ensures.value ∙ ap (λ l. map (λ e. (e.0, cond (has_key ks e.0) (join_cells B ctx w e.1 x) e.1)) l) (c.cells.ensures.value ∙ sym (ap (λ t. t.cells) c.self.view_is))) in
     record {
-      value = made_ok w rest cells (update_of B ctx cap m (some ks all) x) c.of_parts.result same c.of_parts.ensures.value;
-      fits = made_fits w rest cells (update_of B ctx cap m (some ks all) x) c.of_parts.result B ctx cap same
-          (update_fits B g.met.B.Base.laws ctx cap m (some ks all) x (room B cap g.met.B.Base.capacity) tt c.requires.map c.requires.cell) c.of_parts.ensures.value;
+      value = same;
+      fits = subst (λ t. Fits B ctx cap t) (sym same) (update_fits B g.met.B.Base.laws ctx cap m (some ks all) x (room B cap g.met.B.Base.capacity) tt c.requires.map c.requires.cell);
     }

@@ -1,0 +1,4 @@
+mod AtFork
+mod Parting
+mod Beside
+mod Walking

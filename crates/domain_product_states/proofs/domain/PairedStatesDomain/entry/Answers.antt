@@ -1,0 +1,19 @@
+use Rattle.std.proofs.Common.{map}
+use Rattle.spec_ir.specs.Views.{specification}
+use Rattle.abstract_value_laws.specs.Abs.{parts}
+use Rattle.abstract_value.specs.View.{abs}
+use Rattle.domain_cells.specs.Views.{context_of, states_of}
+use Rattle.domain_product_states.proofs.Made.{entry_is, parts_fit}
+use Rattle.domain_product_states.proofs.domain.PairedStatesDomain.entry.Goals as goal
+
+pub returns-clause-value : goal.returns-clause-value
+returns-clause-value g c =
+    let states = c.args.self.now.states in
+    entry_is g.A.Base.algebra g.B.Base.algebra g.A.Base.CAP g.B.Base.CAP g.met.A.Base.capacity g.met.B.Base.capacity (context_of states) (states_of states) (specification c.args.spec.now) c.requires.made c.args.e.now.lines.items
+    (parts (map abs c.in_ok-values.values.items)) c.in_ok-values.ensures.value
+
+pub returns-clause-fits : goal.returns-clause-fits
+returns-clause-fits g c =
+    let states = c.args.self.now.states in
+    parts_fit g.A.Base.algebra g.B.Base.algebra g.A.Base.CAP g.B.Base.CAP g.met.A.Base.capacity g.met.B.Base.capacity (context_of states) (states_of states) (specification c.args.spec.now) c.requires.made
+    (parts (map abs c.in_ok-values.values.items)) c.in_ok-values.ensures.fits

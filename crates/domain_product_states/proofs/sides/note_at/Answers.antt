@@ -1,0 +1,5 @@
+use Rattle.std.proofs.Common.{sym, ap}
+use Rattle.domain_product_states.proofs.sides.note_at.Goals as goal
+
+pub returns : goal.returns
+returns g c = sym (ap (λ x. x.note) c.cell_of.ensures)

@@ -1,0 +1,5 @@
+pub mod Alike
+pub mod Instance
+pub mod Leaves
+pub mod Parts
+pub mod Views

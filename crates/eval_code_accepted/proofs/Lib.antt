@@ -1,0 +1,5 @@
+pub mod Lengths
+pub mod Taken
+pub mod Scoped
+pub mod Bodies
+pub mod Asking

@@ -1,0 +1,4 @@
+mod Asking
+mod Counting
+mod Slots
+mod Writing

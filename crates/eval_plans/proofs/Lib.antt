@@ -1,0 +1,4 @@
+pub mod Planned
+pub mod Planning
+pub mod Giving
+pub mod Fitting

@@ -1,2 +1,0 @@
-pub mod CoreForms
-pub mod OperandsFit
