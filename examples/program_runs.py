@@ -1,5 +1,5 @@
 #!/usr/bin/env python3
-"""Runs and analyses the programs of examples/programs: program_runs.py [--transfers] PROGRAM [NAME..]
+"""Runs and analyses the programs of examples/programs: program_runs.py [--cases N] [--transfers] PROGRAM [NAME..]
 
 The run of each from its entry has to end in its state, byte for byte. Prints a row for each, as the table of docs/PERFORMANCE.md: the steps of the
 run, and what comes of its analysis over each base. The status is 1 where a run ends otherwise, or a table is not accepted by `check`.
@@ -13,7 +13,8 @@ run, and what comes of its analysis over each base. The status is 1 where a run 
 | `k of N` | there is none: with `--open` it has N blocks, and k of them are left open |
 | `k of N, j of M w` | the second is that with `--widen 64` and `--open`, where it is another |
 
-With --transfers each table has behind it, in parentheses, how many transfers its analysis makes. gdb counts the calls of TRANSFER.
+With --cases N elements are split (`--cases` of `analyse` and `check`), and each table has behind it, in brackets, how many of its blocks differ
+from those without. With --transfers each table has behind it, in parentheses, how many transfers its analysis makes. gdb counts the calls of TRANSFER.
 """
 import glob
 import os
@@ -44,11 +45,17 @@ class Example:
             return it.read()
 
 
+def blocks_of(text):
+    """The blocks of a table by their addresses, each with its lines."""
+    return {it.split(b"\n")[0]: it for it in text.split(b"\nat ")[1:]}
+
+
 class Runs:
     """Runs of the program, with how many went wrong."""
 
-    def __init__(self, program, folder, is_counting):
+    def __init__(self, program, folder, cases, is_counting):
         self.program, self.table, self.is_counting = os.path.abspath(program), f"{folder}/table", is_counting
+        self.split = ("--cases", cases) if cases else ()
         self.wrong = 0
 
     def answer(self, command, example, *options, table=()):
@@ -82,6 +89,12 @@ class Runs:
             self.goes_wrong(example, f"its run ends with status {status}, and in another state")
         return text.split(b"\n")[0].split()[-1].decode()
 
+    def changed(self, example, text, options):
+        """How many blocks of a table differ from those of the table without cases, in brackets."""
+        without = [it for it in options if it not in self.split]
+        plain = blocks_of(self.answer("analyse", example, *without)[1])
+        return f" [{sum(plain.get(at) != lines for at, lines in blocks_of(text).items())}]"
+
     def table_of(self, example, *options):
         """What a cell says of the table of an analysis; nothing, where there is no table."""
         status, text = self.answer("analyse", example, *options)
@@ -94,23 +107,27 @@ class Runs:
         lines = text.split(b"\n")
         blocks, left_open = (sum(line.startswith(marks) for line in lines) for marks in ((b"at ",), (b"open ", b"undecodable ")))
         told = f"{left_open} of {blocks}" if left_open else str(blocks)
-        return told + (" w" if "--widen" in options else "") + (self.transfers(example, options) if self.is_counting else "")
+        told += " w" if "--widen" in options else ""
+        told += self.changed(example, text, options) if self.split else ""
+        return told + (self.transfers(example, options) if self.is_counting else "")
 
     def cell(self, example, base):
-        options = ("--base", base)
+        options = ("--base", base, *self.split)
         told = self.table_of(example, *options) or self.table_of(example, *options, *WIDE)
         if told:
             return told
         first, second = self.table_of(example, *options, "--open"), self.table_of(example, *options, *WIDE, "--open")
-        return first if first.split(" (")[0] + " w" == second.split(" (")[0] else f"{first}, {second}"
+        counts = [re.sub(" [(\\[].*", "", it) for it in (first, second)]
+        return first if counts[0] + " w" == counts[1] else f"{first}, {second}"
 
 
 def main(words):
+    cases, words = (words[1], words[2:]) if words[0] == "--cases" else ("", words)
     is_counting = words[0] == "--transfers"
     program, *names = words[1:] if is_counting else words
     paths = sorted(it[: -len(".code")] for it in glob.glob(f"{HERE}/programs/*.code"))
     with tempfile.TemporaryDirectory() as folder:
-        runs = Runs(program, folder, is_counting)
+        runs = Runs(program, folder, cases, is_counting)
         for example in map(Example, paths):
             if not names or example.name in names:
                 steps = runs.steps(example)

@@ -204,7 +204,7 @@ class Checked(Model):
             if block["uses"] != ({} if ending and ending[0] == "undecodable" else self.uses(at, element)):
                 return 1, f"rejected use {at:08x}"
             for to in inside:
-                if to not in blocks or not self.absorbs(blocks[to]["cells"], behind):
+                if to not in blocks or not self.absorbs(blocks[to]["cells"], self.arriving(behind, to)):
                     return 1, f"rejected open {at:08x} {to:08x}"
         return 0, "accepted"
 

@@ -230,6 +230,10 @@ class Model:
         targets = [at for at in shortest if all(part.has(x, at) for part, x in zip(self.parts, counter))]
         return (targets, element) if len(targets) <= self.limit else ("open", counter)
 
+    def arriving(self, behind, to):
+        """What comes to a target of what a transfer gives behind the instruction."""
+        return behind
+
     # ---- the whole
     def analyse(self, entry_at, entry, is_open):
         """Returns the status and the lines behind the head of a table, or of the refusal."""
@@ -254,7 +258,7 @@ class Model:
             if targets == "open" and not is_open:
                 return 10, [f"targets {at:08x} {self.text(behind)}"]
             for to in targets if isinstance(targets, list) else []:
-                comes(to, behind)
+                comes(to, self.arriving(behind, to))
         return 0, [line for at in sorted(found) for line in self.block(at, found[at][0])]
 
     def text(self, x):

@@ -26,6 +26,9 @@ ANY = [(0, "any")]
 class Subject:
     """A code with an entry over a base, and its table as an analysis that is left open writes it."""
 
+    # the name of the text of the machine
+    machine = "MINI"
+
     def __init__(self, name, code, cells, base, limit=64, pc=START, widen=4):
         self.name = f"{name}_over_{base.replace('+', '_and_')}"
         self.code, self.cells, self.base, self.limit, self.pc = code, cells, base, limit, pc
@@ -39,7 +42,7 @@ class Subject:
         return f"{command} --at {START:08x} --base {self.base}" + (f" --limit {limit}" if limit != 64 else "") + (" --open" if is_open else "")
 
     def case(self, name, words, status, wanted, lines=None, claims=None, entry=True, head=None):
-        print(f"\ncase {name}_{self.name}\nwords {words}\ninput s\nuse MINI\ninput c\nhex " + "".join(f"{word:08x}" for word in self.code))
+        print(f"\ncase {name}_{self.name}\nwords {words}\ninput s\nuse {self.machine}\ninput c\nhex " + "".join(f"{word:08x}" for word in self.code))
         if entry:
             print("input e\n" + "\n".join([f"| pc {self.pc:x}", *(f"| r[{key}] {text}" for key, text in self.cells)]))
         print("input t\n" + "\n".join("| " + line for line in (head or self.head) + (self.lines if lines is None else lines)))

@@ -67,10 +67,12 @@ impl<V: Drop> Branch<V> {
     pub(crate) fn leaf(alloc: Global, key: u64, value: V) -> Result<Branch<V>, NoMemory>
         ensures { IfOk result (λ r. r ≡ (key, value) ∷ []) }
     {
-        let value = Rc::new(alloc, value)?;
-        Ok(Branch {
-            node: Node::Leaf(key, value),
-        })
+        match Rc::new(alloc, value) {
+            Ok(value) => Ok(Branch {
+                node: Node::Leaf(key, value),
+            }),
+            Err(_) => Err(NoMemory),
+        }
     }
 
     /// The map of two sides.
@@ -97,10 +99,12 @@ impl<V: Drop> Branch<V> {
             left,
             right,
         };
-        let fork = Rc::new(alloc, fork)?;
-        Ok(Branch {
-            node: Node::Fork(fork),
-        })
+        match Rc::new(alloc, fork) {
+            Ok(fork) => Ok(Branch {
+                node: Node::Fork(fork),
+            }),
+            Err(_) => Err(NoMemory),
+        }
     }
 
     /// The map of all entries of two maps, those of the first with lesser keys.
@@ -181,12 +185,21 @@ impl<V: Drop> Branch<V> {
     pub fn copy(&self) -> Result<Branch<V>, NoMemory>
         ensures { IfOk result (λ r. r ≡ self.now) }
     {
-        let node = match &self.node {
-            Node::Empty => Node::Empty,
-            Node::Leaf(key, value) => Node::Leaf(*key, value.clone()?),
-            Node::Fork(fork) => Node::Fork(fork.clone()?),
-        };
-        Ok(Branch { node })
+        match &self.node {
+            Node::Empty => Ok(Branch::new()),
+            Node::Leaf(key, value) => match value.clone() {
+                Ok(value) => Ok(Branch {
+                    node: Node::Leaf(*key, value),
+                }),
+                Err(error) => Err(error),
+            },
+            Node::Fork(fork) => match fork.clone() {
+                Ok(fork) => Ok(Branch {
+                    node: Node::Fork(fork),
+                }),
+                Err(error) => Err(error),
+            },
+        }
     }
 
     /// The map with a value put at a key. Nodes off the path to the key are shared.

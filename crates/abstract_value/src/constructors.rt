@@ -1,10 +1,11 @@
 //! The constructors of a datatype, of which some are present, with their fields.
 
-ghost use Rattle.std.specs.Prelude.{◌≡◌, ◌<◌, ◌++◌, ◌∷◌, [], map, length, get_or, None, option_map, IfOk, IfSome, IsOkAnd};
+ghost use Rattle.std.specs.Prelude.{◌≡◌, ◌<◌, ◌++◌, ◌∷◌, [], map, length, get_or, None, option_map, IfOk, IfSome, IsOkAnd, OnOk};
 ghost use Rattle.abstract_value.specs.Constructors.{AreOnly, AreWithin, entry, fields_in, IsOnly, listed, only, spread};
 
 use std::alloc::{AllocError as NoMemory, Global};
 use std::rc::Rc;
+use support_lists::pushed;
 
 /// A constructor that is present.
 #[derive(Drop)]
@@ -176,17 +177,19 @@ impl<T: Drop> Constructors<T> {
             return Err(NoMemory);
         }
         match next {
-            Some(fields) => Ok(Constructors {
-                count: count + 1,
-                present: and_one(
-                    alloc,
-                    present,
-                    Constructor {
-                        number: count,
-                        fields,
-                    },
-                )?,
-            }),
+            Some(fields) => {
+                let next = Constructor {
+                    number: count,
+                    fields,
+                };
+                match and_one(alloc, present, next) {
+                    Ok(present) => Ok(Constructors {
+                        count: count + 1,
+                        present,
+                    }),
+                    Err(error) => Err(error),
+                }
+            }
             None => Ok(Constructors {
                 count: count + 1,
                 present,
@@ -198,10 +201,23 @@ impl<T: Drop> Constructors<T> {
     pub fn copy(&self, alloc: Global) -> Result<Constructors<T>, NoMemory>
         ensures { IfOk result (λ r. spread r ≡ spread self.now) }
     {
-        Ok(Constructors {
-            count: self.count,
-            present: copy_present(alloc, &self.present)?,
-        })
+        match copy_present(alloc, &self.present) {
+            Ok(present) => Ok(Constructors {
+                count: self.count,
+                present,
+            }),
+            Err(error) => Err(error),
+        }
+    }
+}
+
+/// Puts an item behind a list. After an error the list is open.
+pub fn put<T: Drop>(list: &mut Vec<T>, item: T) -> Result<(), NoMemory>
+    ensures items { OnOk result (list.new.items ≡ list.old.items ++ item ∷ []) }
+{
+    match list.push(item) {
+        Ok(()) => Ok(()),
+        Err(_failed) => Err(NoMemory),
     }
 }
 
@@ -231,23 +247,29 @@ fn and_one<T: Drop>(
     ensures { IfOk result (λ r. listed r ≡ listed present ++ entry next ∷ []) }
 {
     match present {
-        Present::One(first) => Ok(Present::Several(vec![in alloc; first, next]?)),
+        Present::One(first) => several(pushed(pushed(Vec::new(alloc), Ok(first))?, Ok(next))),
         Present::Several(list) => behind(list, next),
     }
 }
 
 /// A list and one more.
-fn behind<T: Drop>(
-    mut list: Vec<Constructor<T>>,
-    next: Constructor<T>,
-) -> Result<Present<T>, NoMemory>
+fn behind<T: Drop>(list: Vec<Constructor<T>>, next: Constructor<T>) -> Result<Present<T>, NoMemory>
     ensures { IfOk result (λ r. listed r ≡ map entry list.items ++ entry next ∷ []) }
 {
     if list.is_empty() {
         return Ok(Present::One(next));
     }
-    list.push(next)?;
-    Ok(Present::Several(list))
+    several(pushed(list, Ok(next)))
+}
+
+/// Several, where they were made.
+fn several<T: Drop>(list: Result<Vec<Constructor<T>>, NoMemory>) -> Result<Present<T>, NoMemory>
+    ensures { IfOk result (λ r. IsOkAnd list (λ l. listed r ≡ map entry l.items)) }
+{
+    match list {
+        Ok(list) => Ok(Present::Several(list)),
+        Err(error) => Err(error),
+    }
 }
 
 /// The same once more.
@@ -255,8 +277,11 @@ fn copy_present<T: Drop>(alloc: Global, present: &Present<T>) -> Result<Present<
     ensures { IfOk result (λ r. listed r ≡ listed present.now) }
 {
     match present {
-        Present::One(one) => Ok(Present::One(copy_one(one)?)),
-        Present::Several(several) => Ok(Present::Several(copy_several(alloc, several)?)),
+        Present::One(one) => match copy_one(one) {
+            Ok(one) => Ok(Present::One(one)),
+            Err(error) => Err(error),
+        },
+        Present::Several(list) => several(copy_several(alloc, list)),
     }
 }
 
@@ -279,7 +304,7 @@ fn copy_several<T: Drop>(
 {
     let mut out = Vec::with_capacity(alloc, several.len())?;
     for one in several {
-        out.push(copy_one(one)?)?;
+        out = pushed(out, copy_one(one))?;
     }
     Ok(out)
 }

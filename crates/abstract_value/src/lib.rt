@@ -38,7 +38,7 @@ mod typed;
 mod value;
 mod way;
 
-pub use constructors::{Constructors, both_alone, share, shared_list};
+pub use constructors::{Constructors, both_alone, put, share, shared_list};
 pub use of_value::{case_count, one_case};
 pub use value::AbstractValue;
 pub use way::Way;

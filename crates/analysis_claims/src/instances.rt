@@ -11,7 +11,7 @@ use crate::claim_elem::ClaimElement;
 use crate::pair_cells::{either_differs, either_within};
 use crate::sums::{column_of, meets_all};
 use abstract_value::AbstractValue;
-use base_trait::Base;
+use base_cuts::CutBase;
 use domain_affine::AffineDomain;
 use domain_cells::StateDomain;
 use domain_product::PairDomain;
@@ -23,7 +23,7 @@ use std::alloc::{AllocError as NoMemory, Global};
 use support_modular_rows::{Form, Rows};
 
 /// Cells tell of single cells.
-impl<B: Base> ClaimElement for StateDomain<B> {
+impl<B: CutBase> ClaimElement for StateDomain<B> {
     ghost use Rattle.domain_cells.specs.Views.{context_of};
     ghost use Rattle.analysis_query_laws.specs.Cells.{cells_tell};
     ghost use Rattle.analysis_claims.specs.Seen.{plain_values, seen_by};
@@ -210,7 +210,7 @@ impl<A: ClaimElement, B: ClaimElement> ClaimElement for PairDomain<A, B> {
 }
 
 /// Pairs of cells tell of single cells what either part does.
-impl<A: Base, B: Base> ClaimElement for PairedStates<A, B> {
+impl<A: CutBase, B: CutBase> ClaimElement for PairedStates<A, B> {
     ghost use Rattle.domain_cells.specs.Views.{context_of, states_of};
     ghost use Rattle.analysis_query_laws.specs.Cells.{cells_tell};
     ghost use Rattle.analysis_query_laws.specs.Pairs.{pairs_tell};

@@ -10,6 +10,8 @@
 //! - each step leads to an address that the block of its instruction lists, as next or as an exit;
 //! - the block's use list holds every definition that the step's reads see, where the base tells definitions.
 //!
+//! Elements are not split here, whatever number of cases the analysis has: the program runs `analysis_cuts`, which at 0 is this, and tests run both.
+//!
 //! # An example
 //!
 //! A machine has a counter and a word `x`. At 4096 stands an instruction that sets `x` to 5, at 4100 one that adds 1 to it, and the entry

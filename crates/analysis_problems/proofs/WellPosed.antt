@@ -50,7 +50,7 @@ below_end order a (s ∷ segments) each there = by (has_word s a) refl (λ k. be
     by false e later = later (rw e at there)
 
 pub read_problems_are_well_posed : AddressesAreThoseOfWords → ReadProblemsAreWellPosed
-read_problems_are_well_posed those_of_words spec m image bytes e limit joins accepted machine ok read =
+read_problems_are_well_posed those_of_words spec m image bytes e limit joins cases accepted machine ok read =
     let words = those_of_words image ok in
     let four = four_bytes_each image.segments in
     let size = ok.segments.size in

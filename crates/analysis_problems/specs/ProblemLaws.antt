@@ -9,7 +9,7 @@ use Rattle.state_text.specs.Reading.{Entry, read}
 use Rattle.analysis_transfer_laws.specs.Problem.{IsWellFormedProblem}
 use Rattle.analysis_problems.specs.Problems.{problem_of}
 
--- The machine of an accepted specification, an image without faults and an entry that is read are a well-posed problem, under any limit and with any number of joins.
+-- The machine of an accepted specification, an image without faults and an entry that is read are a well-posed problem, under any limit, with any number of joins and however often elements are split.
 abbrev pub ReadProblemsAreWellPosed : Type 0
-ReadProblemsAreWellPosed = (spec : Spec) (m : Machine) (image : Image) (bytes : List ℕ) (e : Entry) (limit joins : ℕ)
-    → IsAccepted spec → spec.machine ≡ Some m → IsImage image → read spec bytes ≡ Ok e → IsWellFormedProblem (problem_of spec m image e limit joins)
+ReadProblemsAreWellPosed = (spec : Spec) (m : Machine) (image : Image) (bytes : List ℕ) (e : Entry) (limit joins cases : ℕ)
+    → IsAccepted spec → spec.machine ≡ Some m → IsImage image → read spec bytes ≡ Ok e → IsWellFormedProblem (problem_of spec m image e limit joins cases)

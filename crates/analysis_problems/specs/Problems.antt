@@ -7,7 +7,7 @@ use Rattle.state_text.specs.Reading.{Entry}
 use Rattle.analysis_transfer_laws.specs.Problem.{Problem}
 
 -- The machine with its specification, the words of the image at their addresses, the entry, how many targets an instruction may have,
--- and how many changes of an element join.
-abbrev pub problem_of : Spec → Machine → Image → Entry → ℕ → ℕ → Problem
-problem_of spec m image e limit joins =
-    record { spec = spec; machine = m; addresses = addresses image.segments; word_at = code_at image; pc = e.pc; lines = e.lines; limit = limit; joins = joins }
+-- how many changes of an element join, and how often over an element is split.
+abbrev pub problem_of : Spec → Machine → Image → Entry → ℕ → ℕ → ℕ → Problem
+problem_of spec m image e limit joins cases =
+    record { spec = spec; machine = m; addresses = addresses image.segments; word_at = code_at image; pc = e.pc; lines = e.lines; limit = limit; joins = joins; cases = cases }

@@ -1,4 +1,5 @@
 pub mod Affine
+pub mod Cases
 pub mod Cells
 pub mod Evaluated
 pub mod Forms
@@ -6,6 +7,7 @@ pub mod Maps
 pub mod Merged
 pub mod Notes
 pub mod Pairs
+pub mod Pieces
 pub mod Plays
 pub mod Reading
 pub mod Shown

@@ -1,9 +1,10 @@
 -- Elements that worklist states reach keep what the entry, transfers, joins and widenings keep.
-use Rattle.std.proofs.Common.{◌≡◌, ℕ, List, Some, None, IsTrue, subst}
+use Rattle.std.proofs.Common.{◌≡◌, ℕ, List, [], ◌∷◌, Some, None, IsTrue, subst}
+use Rattle.base_trait.specs.Lists.{Each}
 use Rattle.fixpoint_theory.specs.Analysis.{Analysis, AnalysisLaws}
 use Rattle.fixpoint_theory.specs.Code.{is_code}
 use Rattle.fixpoint_theory.specs.Elements.{Elements, ElementLaws}
-use Rattle.fixpoint_theory.specs.Outcome.{IfPost, Outcome, moves, too_many, undecodable}
+use Rattle.fixpoint_theory.specs.Outcome.{IfPost, Outcome, moves, sends, too_many, undecodable}
 use Rattle.fixpoint_theory.specs.WorklistState.{IsFine, Reached, begin, worklist_state}
 use Rattle.fixpoint_theory.proofs.Closing.{begin_fine, legal_fine}
 
@@ -46,11 +47,16 @@ module _ {E W S : Type 0} (A : Analysis E W S) (laws : AnalysisLaws A) (K : E �
   abbrev narrow : Analysis E W S
   narrow = record A { elements = narrowed A.elements K }
 
+  both_each : (arrivals : List (ℕ × E)) → Each (λ a. A.elements.fits a.1) arrivals → Each (λ a. K a.1) arrivals → Each (λ a. A.elements.fits a.1 × K a.1) arrivals
+  both_each [] h k = tt
+  both_each (a ∷ rest) h k = ((h.0, k.0), both_each rest h.1 k.1)
+
   both_post : (given : Outcome E W) → IfPost A.elements.fits given → IfPost K given → IfPost (λ x. A.elements.fits x × K x) given
   both_post (undecodable word) h k = tt
   both_post (too_many shown uses) h k = tt
   both_post (moves targets None uses) h k = tt
   both_post (moves targets (Some x) uses) h k = (h, k)
+  both_post (sends arrivals uses) h k = both_each arrivals h k
 
   narrow_laws : AnalysisLaws narrow
   narrow_laws = record {

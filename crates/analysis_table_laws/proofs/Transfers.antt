@@ -13,7 +13,7 @@ use Rattle.abstract_semantics.specs.Answers.{Answer}
 use Rattle.fixpoint_theory.proofs.Bounded.{each_weaker}
 use Rattle.fixpoint_theory.specs.Code.{is_code}
 use Rattle.fixpoint_theory.specs.Elements.{Elements}
-use Rattle.fixpoint_theory.specs.Outcome.{IfPost, IfUses, Outcome, moves, too_many, undecodable}
+use Rattle.fixpoint_theory.specs.Outcome.{IfPost, IfUses, Outcome, addresses, moves, sends, too_many, undecodable}
 use Rattle.domain_laws.specs.Domain.{Meaning}
 use Rattle.domain_laws.specs.States.{StateType, state_type}
 use Rattle.domain_laws.specs.Values.{IsStateForm, IsStateValue}
@@ -37,6 +37,7 @@ abbrev pub IfTargets : {E W : Type 0} → (List ℕ → Type 0) → Outcome E W 
 IfTargets P (undecodable code_word) = Unit {0}
 IfTargets P (too_many shown uses) = Unit {0}
 IfTargets P (moves targets post uses) = P targets
+IfTargets P (sends arrivals uses) = P (addresses arrivals)
 
 pub record IsOutcome {E W : Type 0} (p : Problem) (K : E → Type 0) (given : Outcome E W) : Type 0 where
   pub targets : IfTargets (Each (λ to. to < 2 ^ 32)) given

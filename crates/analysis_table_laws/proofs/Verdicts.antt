@@ -2,12 +2,14 @@
 use Rattle.std.proofs.Common.{◌≡◌, ◌∙◌, ℕ, List, [], ◌∷◌, Option, Some, None, ap, refl}
 use Rattle.std.specs.Prelude.{◌&&◌, ◌==◌, not, IfSome, if◌then◌else◌}
 use Rattle.base_trait.specs.Identity.{same_list}
+use Rattle.base_trait.specs.Lists.{Each}
 use Rattle.fixpoint_theory.specs.Analysis.{Analysis, AnalysisLaws}
 use Rattle.fixpoint_theory.specs.Code.{inside, is_code, outside}
-use Rattle.fixpoint_theory.specs.Outcome.{IfPost, Outcome, SameOutcome, SamePost, moves, too_many, undecodable}
+use Rattle.fixpoint_theory.specs.Outcome.{AreSameArrivals, IfPost, Outcome, SameOutcome, SamePost, addresses, moves, sends, too_many, undecodable}
 use Rattle.fixpoint_theory.specs.Table.{AreSameBlocks, AreSameTables, IsSameBlock, Listing, Listings, TableFits}
-use Rattle.fixpoint_theory.specs.Verdicts.{accepted_or, does_absorb, fault_at, fault_of, first_fault, first_open, is_open, lists_targets, open_at, open_from, or_else, same_use, verdict_of}
+use Rattle.fixpoint_theory.specs.Verdicts.{accepted_or, does_absorb, fault_at, fault_of, first_fault, first_open, first_open_sent, is_open, lists_targets, open_at, open_from, or_else, same_use, verdict_of}
 use Rattle.fixpoint_theory.specs.declared.verdict.Verdict.TheVariants.{Entry, Targets, TooManyTargets, Undecodable, Use}
+use Rattle.fixpoint_theory.proofs.Tables.{same_addresses}
 use Rattle.analysis_table_laws.specs.Laws.{SameTablesSameVerdict}
 
 module _ {E W S : Type 0} (A : Analysis E W S) (laws : AnalysisLaws A) (t u : Listings E) (fits_t : TableFits A t) (fits_u : TableFits A u) (same : AreSameTables A t u) where
@@ -36,6 +38,16 @@ module _ {E W S : Type 0} (A : Analysis E W S) (laws : AnalysisLaws A) (t u : Li
   open_from_same at None (Some y) fx fy sxy targets = absurd sxy
   open_from_same at (Some x) None fx fy sxy targets = absurd sxy
 
+  first_sent_same : (xs ys : List (ℕ × E)) → Each (λ a. A.elements.fits a.1) xs → Each (λ a. A.elements.fits a.1) ys → AreSameArrivals A.elements xs ys
+      → first_open_sent A t xs ≡ first_open_sent A u ys
+  first_sent_same [] [] fx fy sxy = refl
+  first_sent_same [] (y ∷ ys) fx fy sxy = absurd sxy
+  first_sent_same (x ∷ xs) [] fx fy sxy = absurd sxy
+  first_sent_same (x ∷ xs) (y ∷ ys) fx fy sxy =
+      ap (λ b. if b then Some x.0 else first_open_sent A t xs) (open_same x.1 y.1 fx.0 fy.0 sxy.1 x.0)
+      ∙ ap (λ to. if is_open A u y.1 to then Some to else first_open_sent A t xs) sxy.0
+      ∙ ap (λ o. if is_open A u y.1 y.0 then Some y.0 else o) (first_sent_same xs ys fx.1 fy.1 sxy.2)
+
   -- ---- the fault of a block
   lists_same : (b c : Listing E) → IsSameBlock A b c → (targets : List ℕ) → lists_targets A b targets ≡ lists_targets A c targets
   lists_same b c blocks targets =
@@ -52,6 +64,18 @@ module _ {E W S : Type 0} (A : Analysis E W S) (laws : AnalysisLaws A) (t u : Li
       ∙ ap (λ o. if not (lists_targets A c ts) then Some (Targets at) else (if not (same_list same_use c.uses us) then Some (Use at) else o)) (open_from_same at x y fits fits_other outcomes.1 ts)
       ∙ ap (λ ts. fault_of A u at c (moves ts y us)) outcomes.0
       ∙ ap (λ us. fault_of A u at c (moves ts' y us)) outcomes.2
+  fault_same at b c blocks (sends xs us) (sends ys us') fits fits_other outcomes =
+      ap (λ l. if not l then Some (Targets at) else (if not (same_list same_use b.uses us) then Some (Use at) else open_at A t at (first_open_sent A t xs))) (lists_same b c blocks (addresses xs))
+      ∙ ap (λ vs. if not (lists_targets A c (addresses xs)) then Some (Targets at) else (if not (same_list same_use vs us) then Some (Use at) else open_at A t at (first_open_sent A t xs))) blocks.uses
+      ∙ ap (λ o. if not (lists_targets A c (addresses xs)) then Some (Targets at) else (if not (same_list same_use c.uses us) then Some (Use at) else open_at A t at o)) (first_sent_same xs ys fits fits_other outcomes.0)
+      ∙ ap (λ ts. if not (lists_targets A c ts) then Some (Targets at) else (if not (same_list same_use c.uses us) then Some (Use at) else open_at A u at (first_open_sent A u ys))) (same_addresses A laws xs ys outcomes.0)
+      ∙ ap (λ us. fault_of A u at c (sends ys us)) outcomes.1
+  fault_same at b c blocks (undecodable v) (sends ys us') fits fits_other outcomes = absurd outcomes
+  fault_same at b c blocks (too_many x us) (sends ys us') fits fits_other outcomes = absurd outcomes
+  fault_same at b c blocks (moves ts x us) (sends ys us') fits fits_other outcomes = absurd outcomes
+  fault_same at b c blocks (sends xs us) (undecodable w) fits fits_other outcomes = absurd outcomes
+  fault_same at b c blocks (sends xs us) (too_many y us') fits fits_other outcomes = absurd outcomes
+  fault_same at b c blocks (sends xs us) (moves ts y us') fits fits_other outcomes = absurd outcomes
   fault_same at b c blocks (undecodable v) (too_many y us') fits fits_other outcomes = absurd outcomes
   fault_same at b c blocks (undecodable v) (moves ts' y us') fits fits_other outcomes = absurd outcomes
   fault_same at b c blocks (too_many x us) (undecodable w) fits fits_other outcomes = absurd outcomes

@@ -7,7 +7,7 @@ use Rattle.abstract_value_laws.specs.Abs.{Abs}
 use Rattle.abstract_semantics.specs.Answers.{Answer}
 use Rattle.fixpoint_theory.specs.Code.{is_code}
 use Rattle.fixpoint_theory.specs.Elements.{Elements}
-use Rattle.fixpoint_theory.specs.Outcome.{Outcome, moves, too_many, undecodable}
+use Rattle.fixpoint_theory.specs.Outcome.{Outcome, moves, sends, too_many, undecodable}
 use Rattle.fixpoint_theory.specs.Pairs.{paired as paired_elements}
 use Rattle.fixpoint_theory.specs.WorklistState.{worklist_state}
 use Rattle.fixpoint_theory.specs.Table.{IsTableOf, Listings, TableFits}
@@ -51,6 +51,7 @@ abbrev pub IfShown : {E W : Type 0} → (W → Type 0) → Outcome E W → Type 
 IfShown P (undecodable code_word) = Unit {0}
 IfShown P (too_many shown uses) = P shown
 IfShown P (moves targets post uses) = Unit {0}
+IfShown P (sends arrivals uses) = Unit {0}
 
 -- Words that transfers show are of 32 bits, as counters are.
 abbrev pub ShownWordsFit : {E W N C : Type 0} → Algebra W N C → ℕ → Elements E State → Meaning E W N C → Type 0

@@ -5,7 +5,7 @@ use Rattle.base_trait.specs.Uses.{Seen}
 use Rattle.semantics_values.specs.States.{State}
 use Rattle.abstract_value_laws.specs.Abs.{Abs}
 use Rattle.fixpoint_theory.specs.Elements.{Elements}
-use Rattle.fixpoint_theory.specs.Outcome.{IfPost, IsDecoded, Outcome, SameOutcome, moves, too_many, undecodable}
+use Rattle.fixpoint_theory.specs.Outcome.{IfPost, IsDecoded, Outcome, SameOutcome, moves, sends, too_many, undecodable}
 use Rattle.fixpoint_theory.specs.Views.{outcome}
 use Rattle.fixpoint_theory.specs.declared.transfer.Transferred.{Transferred}
 use Rattle.domain_laws.specs.Domain.{Meaning}
@@ -50,6 +50,8 @@ decoded_too D (undecodable v) (too_many w us) same has = same
 decoded_too D (undecodable v) (moves ts x us) same has = same
 decoded_too D (too_many v us) told same has = tt
 decoded_too D (moves ts x us) told same has = tt
+decoded_too D (sends xs us) told same has = tt
+decoded_too D (undecodable v) (sends ys us) same has = same
 
 -- where there is one, nothing is owed of a word without
 pub never_undecodable : {X E S W F : Type 0} (D : Elements E S) (view : X → E) (result : Result (Transferred X W) F) (o : Outcome E W) (P : Type 0) → IsDecoded o

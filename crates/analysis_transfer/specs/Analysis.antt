@@ -19,9 +19,9 @@ use Rattle.analysis_problems.specs.Problems.{problem_of}
 use Rattle.analysis_transfer.specs.declared.analysis.ImageAnalysis.{ImageAnalysis}
 
 module _ {D B E W N C : Type 0} (it : ImageAnalysis D B E W N C) where
-  -- the machine with its code, the entry, how many targets an instruction may have, and how many changes of an element join
+  -- the machine with its code, the entry, how many targets an instruction may have, how many changes of an element join, and how often over an element is split
   abbrev pub problem : Problem
-  problem = problem_of (specification it.spec.now) it.machine it.image.now (entry_of it.entry.now) it.limit it.joins
+  problem = problem_of (specification it.spec.now) it.machine it.image.now (entry_of it.entry.now) it.limit it.joins it.cases
 
   -- The base joins, the domain is for the specification, and the problem is well posed. Code, decoder and fields of states are the
   -- specification's.

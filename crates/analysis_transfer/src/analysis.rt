@@ -14,7 +14,7 @@ use std::sync::ledger::Ledger;
 use support_step_counter::Steps;
 
 /// What is analysed, and in which domain: the machine of a specification with its code, an image with its decoder, an entry, how
-/// many targets an instruction may have, and how many changes of an element join.
+/// many targets an instruction may have, how many changes of an element join, and how often over elements are split.
 #[derive(Drop)]
 pub struct ImageAnalysis<'a, D: Domain> {
     pub domain: &'a D,
@@ -30,6 +30,8 @@ pub struct ImageAnalysis<'a, D: Domain> {
     pub limit: u32,
     /// How many changes of an element join before later ones widen.
     pub joins: u32,
+    /// How often over an element is split before its transfer, by who splits elements: the transfers here split none.
+    pub cases: u32,
 }
 
 impl<'a, D: Domain> Analyser for ImageAnalysis<'a, D> {

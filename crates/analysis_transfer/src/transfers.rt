@@ -20,7 +20,7 @@ ghost use Rattle.analysis_transfer.specs.Outcomes.{IsCountedState, IsOutcome};
 use crate::analysis::ImageAnalysis;
 use crate::counter::counter_of;
 use crate::targets::targets;
-use abstract_value::AbstractValue;
+use abstract_value::{AbstractValue, put};
 use analysis_uses::merged_uses;
 use base_trait::{Base, JOINED_TURNS, Log, UNROLLED_TURNS, Use};
 use domain_trait::Domain;
@@ -33,7 +33,7 @@ use support_tail_fixpoint::Policy;
 
 impl<'a, D: Domain> ImageAnalysis<'a, D> {
     /// The word at a code address.
-    pub(crate) fn word_at(&self, at: u32) -> u32
+    pub fn word_at(&self, at: u32) -> u32
         requires ready { IsReady self.now D.B.algebra (D.is_for self.now.domain.now) }
         requires code { IsTrue (is_code (problem self.now).addresses at) }
         ensures { (problem self.now).word_at at ≡ Some result }
@@ -96,8 +96,11 @@ impl<'a, D: Domain> ImageAnalysis<'a, D> {
             (D.view x.now) (val instruction.now)) }
     {
         let mut args = Vec::with_capacity(alloc, 2)?;
-        args.push(AbstractValue::of_value(alloc, ctx, self.spec, instruction)?)?;
-        args.push(self.domain.open(alloc, self.spec, x, at)?)?;
+        put(
+            &mut args,
+            AbstractValue::of_value(alloc, ctx, self.spec, instruction)?,
+        )?;
+        put(&mut args, self.domain.open(alloc, self.spec, x, at)?)?;
         Ok(args)
     }
 

@@ -1,5 +1,5 @@
 -- Runs in the words of the meaning are those of the machine, and what a table that is left open says of them.
-use Rattle.std.proofs.Common.{◌≡◌, ◌∙◌, ℕ, ◌<◌, zero, suc, Bool, true, List, Option, Some, None, ◌⊎◌, refl, sym, ap, subst, IsTrue}
+use Rattle.std.proofs.Common.{◌≡◌, ◌∙◌, ℕ, zero, suc, Bool, true, List, Option, Some, None, ◌⊎◌, refl, sym, ap, subst, IsTrue}
 use Rattle.std.specs.Prelude.{IsSome, IsSomeAnd}
 use Rattle.base_trait.specs.Algebra.{Algebra}
 use Rattle.base_trait.specs.Laws.{Laws}
@@ -21,7 +21,7 @@ use Rattle.support_tail_fixpoint.specs.Answer.{fails, gives}
 use Rattle.abstract_semantics.specs.Answers.{Answer}
 use Rattle.fixpoint_theory.specs.Analysis.{Analysis}
 use Rattle.fixpoint_theory.specs.Elements.{Elements}
-use Rattle.fixpoint_theory.specs.Outcome.{Outcome, moves, too_many, undecodable}
+use Rattle.fixpoint_theory.specs.Outcome.{Outcome, moves, sends, too_many, undecodable}
 use Rattle.fixpoint_theory.specs.Runs as m
 use Rattle.fixpoint_theory.specs.Runs.{After, at, no_decoding, stopped}
 use Rattle.fixpoint_theory.specs.Table.{Listing, Listings, Tells}
@@ -29,12 +29,11 @@ use Rattle.domain_laws.specs.Domain.{Meaning}
 use Rattle.domain_laws.specs.States.{IsState, number_in}
 use Rattle.fixpoint_open_tables.specs.Endings.{Endings, IsClosedButOpen, IsDecodable, IsNowhereOpen, ending_at}
 use Rattle.fixpoint_open_tables.specs.LeftOpen.{ending_of, left_open}
-use Rattle.fixpoint_open_tables.specs.declared.ending.Ending.{Ending}
 use Rattle.fixpoint_open_tables.specs.Runs.{IsSoundUntilOpen, IsUntilOpen}
 use Rattle.analysis_transfer_laws.specs.Analysis.{analysis_of, machine_of, step_of}
 use Rattle.analysis_transfer_laws.specs.Laws.{IsAnalysed}
 use Rattle.analysis_transfer_laws.specs.Problem.{Problem}
-use Rattle.analysis_transfer_laws.specs.Transfer.{arguments, counter_of, executed, fetched, moved, moved_to, outcome_of}
+use Rattle.analysis_transfer_laws.specs.Transfer.{arguments, counter_of, executed, fetched, moved, moved_to, outcome_of, transfer_of}
 use Rattle.analysis_transfer_laws.specs.Runs.{Begins, IsListed, IsTrueOfRuns, run_of}
 use Rattle.analysis_transfer_laws.proofs.Runs.{listed_by}
 use Rattle.analysis_transfer_laws.proofs.Sound.{transfers_are_sound}
@@ -101,9 +100,11 @@ listed_next A p t a to None same tells is h = h
 listed_next A p t a to (Some b) same tells is h = listed_by A p b (A.transfer a b.elem) to same (tells b is) h
 
 module _ {E W N C : Type 0} (B : Algebra W N C) (laws : Laws W N C B) (cap : ℕ) (D : Elements E State) (M : Meaning E W N C) (p : Problem) (calls : ℕ → ℕ → List (Abs W N) → Answer (Abs W N))
-    (analysed : IsAnalysed B cap D M p calls) where
+    (analysed : IsAnalysed B cap D M p calls) (transfer : ℕ → E → Outcome E W)
+    (bare : (a : ℕ) (x : E) (w : ℕ) → transfer a x ≡ undecodable w → (y : E) × (v : ℕ) × (transfer_of B cap M p calls a y ≡ undecodable v)) where
+  -- the analysis by any transfers that have no decoding only where the instruction has none
   abbrev A : Analysis E W State
-  A = analysis_of B cap D M p calls
+  A = record (analysis_of B cap D M p calls) { transfer = transfer }
 
   never_wrong : (d n : ℕ) (first : State) → Begins p first → (run_of p d n first).stop ≡ r.Stop.wrong → ⊥
   never_wrong d n first begins is =
@@ -126,15 +127,15 @@ module _ {E W N C : Type 0} (B : Algebra W N C) (laws : Laws W N C B) (cap : ℕ
       moved_never (Some counter) e = members_never counter.1 (B.words.members M.context counter.0 counter.1 p.limit) e
 
   no_step : (d : ℕ) (s next : State) (reads : List Read) (x : E) (w : ℕ) → A.transfer s.pc x ≡ undecodable w → r.step p.spec p.machine p.word_at d s ≡ r.steps_to next reads → ⊥
-  no_step d s next reads x w e steps = by_word (p.word_at s.pc) e steps
+  no_step d s next reads x w e steps = let found = bare s.pc x w e in by_word found.0 found.1 (p.word_at s.pc) found.2 steps
     where
-      by_row : (code_word : ℕ) (i : Option Val) → executed B cap M p calls s.pc x code_word i ≡ undecodable w → r.executed p.spec p.machine p.word_at d s code_word i ≡ r.steps_to next reads → ⊥
-      by_row code_word None e steps = cc
-      by_row code_word (Some instruction) e steps = never_undecodable x (calls s.pc p.machine.interp (arguments B cap M p s.pc x instruction)) w e
+      by_row : (y : E) (v : ℕ) (code_word : ℕ) (i : Option Val) → executed B cap M p calls s.pc y code_word i ≡ undecodable v → r.executed p.spec p.machine p.word_at d s code_word i ≡ r.steps_to next reads → ⊥
+      by_row y v code_word None e steps = cc
+      by_row y v code_word (Some instruction) e steps = never_undecodable y (calls s.pc p.machine.interp (arguments B cap M p s.pc y instruction)) v e
 
-      by_word : (o : Option ℕ) → fetched B cap M p calls s.pc x o ≡ undecodable w → r.fetched p.spec p.machine p.word_at d s o ≡ r.steps_to next reads → ⊥
-      by_word None e steps = cc
-      by_word (Some code_word) e steps = by_row code_word (decoded p.machine.instr p.spec.rows code_word) e steps
+      by_word : (y : E) (v : ℕ) (o : Option ℕ) → fetched B cap M p calls s.pc y o ≡ undecodable v → r.fetched p.spec p.machine p.word_at d s o ≡ r.steps_to next reads → ⊥
+      by_word y v None e steps = cc
+      by_word y v (Some code_word) e steps = by_row y v code_word (decoded p.machine.instr p.spec.rows code_word) e steps
 
   with_decoding : (d : ℕ) (s next : State) (reads : List Read) (o : Option (Listing E)) → r.step p.spec p.machine p.word_at d s ≡ r.steps_to next reads → IsDecodable (ending_at A s.pc o)
   with_decoding d s next reads None steps = tt
@@ -144,9 +145,10 @@ module _ {E W N C : Type 0} (B : Algebra W N C) (laws : Laws W N C B) (cap : ℕ
       by_outcome (undecodable w) is = absurd (no_step d s next reads b.elem w is steps)
       by_outcome (too_many shown uses) is = tt
       by_outcome (moves targets post uses) is = tt
+      by_outcome (sends arrivals uses) is = tt
 
-  pub open_is_true : (t : Listings E) (ends : Endings W) → IsClosedButOpen A t ends → IsSoundUntilOpen A (machine_of p) t ends → IsTrueUntilOpen B D p t ends
-  open_is_true t ends closed sound = record {
+  pub open_true_of_runs : (t : Listings E) (ends : Endings W) → IsClosedButOpen A t ends → IsSoundUntilOpen A (machine_of p) t ends → IsTrueUntilOpen B D p t ends
+  open_true_of_runs t ends closed sound = record {
     holds = λ d n first begins is before code. element_holds D p (run_of p d n first).state (t (run_of p d n first).state.pc)
         (sound.holds d n first (run_of p d n first).state begins (run_is p d n first r.Stop.bound is) (until p d ends n first before) code);
     decodes = λ d n code_word first begins is before.
@@ -161,6 +163,11 @@ module _ {E W N C : Type 0} (B : Algebra W N C) (laws : Laws W N C B) (cap : ℕ
         (sound.covers d n first (run_of p d n first).state next reads begins (run_is p d n first r.Stop.bound is) (until p d ends n first before)
         (subst (λ e. IsDecodable e) (sym (closed.endings (run_of p d n first).state.pc)) (with_decoding d (run_of p d n first).state next reads (t (run_of p d n first).state.pc) steps)) (ap step_of steps));
   }
+
+-- by the transfers of the instructions themselves
+pub open_is_true : {E W N C : Type 0} (B : Algebra W N C) → Laws W N C B → (cap : ℕ) (D : Elements E State) (M : Meaning E W N C) (p : Problem) (calls : ℕ → ℕ → List (Abs W N) → Answer (Abs W N)) → IsAnalysed B cap D M p calls
+    → (t : Listings E) (ends : Endings W) → IsClosedButOpen (analysis_of B cap D M p calls) t ends → IsSoundUntilOpen (analysis_of B cap D M p calls) (machine_of p) t ends → IsTrueUntilOpen B D p t ends
+open_is_true B laws cap D M p calls analysed t ends closed sound = open_true_of_runs B laws cap D M p calls analysed (transfer_of B cap M p calls) (λ a x w e. (x, w, e)) t ends closed sound
 
 -- ---- where no address is open
 

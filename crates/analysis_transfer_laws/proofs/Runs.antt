@@ -12,16 +12,19 @@ use Rattle.semantics.specs.Runs.{Ended, Stepped}
 use Rattle.fixpoint_theory.specs.Analysis.{Analysis}
 use Rattle.fixpoint_theory.specs.Code.{is_code}
 use Rattle.fixpoint_theory.specs.Elements.{Elements}
-use Rattle.fixpoint_theory.specs.Outcome.{Outcome, moves, too_many, undecodable}
+use Rattle.fixpoint_theory.specs.Outcome.{Outcome, addresses, moves, sends, too_many, undecodable}
 use Rattle.fixpoint_theory.specs.Runs as m
-use Rattle.fixpoint_theory.specs.Runs.{After, at, no_decoding, stopped}
+use Rattle.fixpoint_theory.specs.Runs.{After, IsSoundTable, at, no_decoding, stopped}
 use Rattle.fixpoint_theory.specs.Table.{Listing, Listings, Tells}
+use Rattle.abstract_value_laws.specs.Abs.{Abs}
+use Rattle.abstract_semantics.specs.Answers.{Answer}
 use Rattle.domain_laws.specs.Domain.{Meaning}
 use Rattle.domain_laws.specs.States.{IsState}
 use Rattle.analysis_transfer_laws.specs.Analysis.{analysis_of, machine_of, step_of}
 use Rattle.analysis_transfer_laws.specs.Laws.{ClosedTablesAreTrue}
 use Rattle.analysis_transfer_laws.specs.Problem.{Problem}
-use Rattle.analysis_transfer_laws.specs.Runs.{IsListed, run_of}
+use Rattle.analysis_transfer_laws.specs.Runs.{IsListed, IsTrueOfRuns, run_of}
+use Rattle.analysis_transfer_laws.specs.Transfer.{transfer_of}
 use Rattle.analysis_transfer_laws.proofs.Sound.{closed_tables_hold}
 
 -- how a run of the machine ends where that of the meaning ends so
@@ -80,6 +83,12 @@ listed_by A p b (moves targets post uses) to same tells (inl h) =
 listed_by A p b (moves targets post uses) to same tells (inr h) =
     let out = passes (λ a. not (is_code A.code a)) targets to (subst (IsAmong to) tells.1 h) in
     record { next = λ c. absurd (not_both (is_code A.code to) (subst (λ code. IsTrue (is_code code to)) (sym same) c) out); exits = λ o. h }
+listed_by A p b (sends arrivals uses) to same tells (inl h) =
+    let code = passes (is_code A.code) (addresses arrivals) to (subst (IsAmong to) tells.0 h) in
+    record { next = λ c. h; exits = λ out. absurd (no_other (is_code A.code to) code (subst (λ code. is_code code to ≡ false) (sym same) out)) }
+listed_by A p b (sends arrivals uses) to same tells (inr h) =
+    let out = passes (λ a. not (is_code A.code a)) (addresses arrivals) to (subst (IsAmong to) tells.1 h) in
+    record { next = λ c. absurd (not_both (is_code A.code to) (subst (λ code. IsTrue (is_code code to)) (sym same) c) out); exits = λ o. h }
 
 module _ {E W N C : Type 0} (B : Algebra W N C) (laws : Laws W N C B) (cap : ℕ) (D : Elements E State) (M : Meaning E W N C) where
   own : (p : Problem) (s : State) (o : Option (Listing E)) → IsSomeAnd o (λ b. IsState p.spec s × D.holds b.elem s) → IsSomeAnd o (λ b. D.holds b.elem s)
@@ -93,10 +102,12 @@ module _ {E W N C : Type 0} (B : Algebra W N C) (laws : Laws W N C B) (cap : ℕ
   led p A t a to reads None same tells is h = h
   led p A t a to reads (Some b) same tells is h = (listed_by A p b (A.transfer a b.elem) to same (tells b is) h.0, h.1)
 
-  pub closed_tables_are_true : ClosedTablesAreTrue B cap D M
-  closed_tables_are_true p calls t h fits closed =
-      let sound = closed_tables_hold B laws cap D M p calls t h fits closed in
-      let A = analysis_of B cap D M p calls in
+  -- what a table lists that is sound, and tells the outcomes of these transfers, is true of every run
+  pub true_of_runs : (p : Problem) (calls : ℕ → ℕ → List (Abs W N) → Answer (Abs W N)) (transfer : ℕ → E → Outcome E W) (t : Listings E)
+      → IsSoundTable (record (analysis_of B cap D M p calls) { transfer = transfer }) (machine_of p) t
+      → ((a : ℕ) (b : Listing E) → t a ≡ Some b → Tells (record (analysis_of B cap D M p calls) { transfer = transfer }) b (transfer a b.elem)) → IsTrueOfRuns B D p t
+  true_of_runs p calls transfer t sound tells =
+      let A = record (analysis_of B cap D M p calls) { transfer = transfer } in
       record {
         holds = λ d n first begins is code. own p (run_of p d n first).state (t (run_of p d n first).state.pc)
             (sound.holds d n first (run_of p d n first).state begins (ends p d n first r.Stop.bound is) code);
@@ -104,6 +115,10 @@ module _ {E W N C : Type 0} (B : Algebra W N C) (laws : Laws W N C B) (cap : ℕ
         typed = λ d n first begins is. sound.decodes d n first (run_of p d n first).state 0 (run_of p d n first).done begins (ends p d n first r.Stop.wrong is);
         leads = λ d n first next reads begins is steps.
             let pc = (run_of p d n first).state.pc in
-            led p A t pc next.pc reads (t pc) refl (λ b listed. closed.tells pc b listed) refl
+            led p A t pc next.pc reads (t pc) refl (λ b listed. tells pc b listed) refl
             (sound.leads d n first (run_of p d n first).state next reads begins (ends p d n first r.Stop.bound is) (ap step_of steps));
       }
+
+  pub closed_tables_are_true : ClosedTablesAreTrue B cap D M
+  closed_tables_are_true p calls t h fits closed =
+      true_of_runs p calls (transfer_of B cap M p calls) t (closed_tables_hold B laws cap D M p calls t h fits closed) closed.tells

@@ -32,7 +32,7 @@ use Rattle.abstract_semantics.proofs.SoundCalls.{calls_are_sound}
 use Rattle.fixpoint_theory.specs.Analysis.{Analysis}
 use Rattle.fixpoint_theory.specs.Code.{is_code}
 use Rattle.fixpoint_theory.specs.Elements.{Elements}
-use Rattle.fixpoint_theory.specs.Outcome.{Outcome, moves, too_many, undecodable}
+use Rattle.fixpoint_theory.specs.Outcome.{Outcome, moves, sends, too_many, undecodable}
 use Rattle.fixpoint_theory.specs.Runs.{Describes, Machine, deep, goes, left, stops}
 use Rattle.fixpoint_theory.proofs.Soundness.{closed_tables_are_sound}
 use Rattle.domain_laws.specs.Domain.{Meaning}
@@ -53,6 +53,7 @@ deep_described : {E W S : Type 0} (A : Analysis E W S) (M : Machine S) (given : 
 deep_described A M (undecodable code_word) = tt
 deep_described A M (too_many shown uses) = tt
 deep_described A M (moves targets post uses) = tt
+deep_described A M (sends arrivals uses) = tt
 
 each_covered : (log : List Seen) (reads : List Read) → Covered log reads → Each (AreCovering log) reads
 each_covered log [] h = tt

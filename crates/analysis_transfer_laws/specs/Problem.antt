@@ -8,8 +8,8 @@ use Rattle.fixpoint_theory.specs.Code.{IsImage, is_code}
 use Rattle.domain_laws.specs.Entries.{LinesFit}
 use Rattle.domain_laws.specs.States.{state_type}
 
--- A machine with its specification, code, an entry, how many targets an instruction may have, and how many changes of an element join before
--- later ones widen.
+-- A machine with its specification, code, an entry, how many targets an instruction may have, how many changes of an element join before
+-- later ones widen, and how often over an element is split before its transfer.
 pub record Problem : Type 0 where
   pub spec : Spec
   pub machine : Machine
@@ -21,6 +21,7 @@ pub record Problem : Type 0 where
   pub lines : List Line
   pub limit : ℕ
   pub joins : ℕ
+  pub cases : ℕ
 
 -- The specification is accepted, and the machine is its own. The addresses are those of an image (ascending, and not too many), have 32 bits,
 -- and are those at which a code word stands. The counter has 32 bits, and the lines of the entry fit.

@@ -9,7 +9,7 @@ use base_trait::Context;
 use domain_affine_base::{Affine, Tracked};
 use domain_affine_elements as elements;
 use domain_cells::{fields_of, state_number};
-use domain_laws::Field;
+use domain_laws::{CellRange, Field};
 use domain_trait::Domain;
 use semantics_values::{Entry, KeyAt};
 use spec_ir::Spec;
@@ -76,7 +76,8 @@ impl AffineDomain {
 impl Domain for AffineDomain {
     ghost use Rattle.support_modular_rows.specs.Submodule.{Submodule};
     ghost use Rattle.domain_affine_laws.specs.Calls.{affine_calls, affine_elements, is_for};
-    ghost use Rattle.domain_affine.specs.Instance.{has_the_laws};
+    ghost use Rattle.fixpoint_cases.specs.Pieces.{whole_piece};
+    ghost use Rattle.domain_affine.specs.Instance.{has_the_laws, relations_stay};
 
     type B = Affine;
 
@@ -90,7 +91,11 @@ impl Domain for AffineDomain {
 
     ghost meaning = { λ it. affine_calls it };
 
+    ghost pieces = { λ it. whole_piece };
+
     ghost is_for = { λ it spec. is_for it spec };
+
+    ghost cut_laws = { λ it spec made. relations_stay it };
 
     ghost laws = { λ it spec made. has_the_laws it spec made };
 
@@ -144,5 +149,16 @@ impl Domain for AffineDomain {
 
     fn copy(&self, alloc: Global, x: &Rows) -> Result<Rows, NoMemory> {
         elements::copy(alloc, cell_count(&self.tracked), x)
+    }
+
+    /// The element: relations stay as they are.
+    fn piece(
+        &self,
+        alloc: Global,
+        _spec: &Spec,
+        _cut: CellRange,
+        x: &Rows,
+    ) -> Result<Option<Rows>, NoMemory> {
+        Ok(Some(elements::copy(alloc, cell_count(&self.tracked), x)?))
     }
 }

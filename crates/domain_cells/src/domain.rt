@@ -5,8 +5,10 @@ use crate::fields::{fields_of, state_number};
 use crate::states::{close_state, open_state};
 use crate::values::{copies, join_values, rank_of_values, values_absorb, widen_values};
 use abstract_value::AbstractValue;
+use base_cuts::CutBase;
 use base_trait::Base;
-use domain_laws::Field;
+use domain_cuts::cell_piece;
+use domain_laws::{CellRange, Field};
 use domain_trait::Domain;
 use semantics_values::Entry;
 use spec_ir::Spec;
@@ -46,6 +48,13 @@ impl<B: Base> StateDomain<B> {
         })
     }
 
+    /// The fields behind the counter.
+    pub fn fields(&self) -> &[Field]
+        ensures { result.now ≡ (states_of self.now).fields }
+    {
+        &self.fields
+    }
+
     /// What its words share.
     pub fn shared(&self) -> &B::Ctx
         ensures { result.now ≡ context_of self.now }
@@ -54,14 +63,15 @@ impl<B: Base> StateDomain<B> {
     }
 }
 
-impl<B: Base> Domain for StateDomain<B> {
+impl<B: CutBase> Domain for StateDomain<B> {
     ghost use Rattle.std.specs.Prelude.{map};
     ghost use Rattle.abstract_value_laws.specs.Abs.{Parts, parts};
     ghost use Rattle.domain_laws.specs.Calls.{cell_calls, is_for};
     ghost use Rattle.domain_laws.specs.Cells.{cells};
     ghost use Rattle.abstract_value.specs.View.{abs};
     ghost use Rattle.domain_cells.specs.Views.{context_of, states_of};
-    ghost use Rattle.domain_cells.specs.Instance.{cells_keep_the_laws};
+    ghost use Rattle.domain_cell_pieces.specs.Pieces.{cell_piece};
+    ghost use Rattle.domain_cells.specs.Instance.{cells_are_cut, cells_keep_the_laws};
 
     type B = B;
 
@@ -75,7 +85,11 @@ impl<B: Base> Domain for StateDomain<B> {
 
     ghost meaning = { λ it. cell_calls B.algebra (context_of it) B.CAP (states_of it) };
 
+    ghost pieces = { λ it. cell_piece B.algebra B.cuts (context_of it) B.CAP (states_of it).fields };
+
     ghost is_for = { λ it spec. is_for B.algebra (states_of it) spec };
+
+    ghost cut_laws = { λ it spec made. cells_are_cut B.algebra B.laws B.cuts B.cut_laws (context_of it) B.CAP (states_of it) spec made };
 
     ghost laws = { λ it spec made. cells_keep_the_laws B.algebra B.laws (context_of it) B.CAP (states_of it) spec made };
 
@@ -144,5 +158,15 @@ impl<B: Base> Domain for StateDomain<B> {
         x: &Vec<AbstractValue<B>>,
     ) -> Result<Vec<AbstractValue<B>>, NoMemory> {
         copies(alloc, &self.ctx, x)
+    }
+
+    fn piece(
+        &self,
+        alloc: Global,
+        _spec: &Spec,
+        cut: CellRange,
+        x: &Vec<AbstractValue<B>>,
+    ) -> Result<Option<Vec<AbstractValue<B>>>, NoMemory> {
+        cell_piece(alloc, &self.ctx, &self.fields, cut, x)
     }
 }

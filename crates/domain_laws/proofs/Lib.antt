@@ -8,4 +8,5 @@ pub mod Keys
 pub mod Lines
 pub mod Maps
 pub mod Opened
+pub mod Pieces
 pub mod Stamps

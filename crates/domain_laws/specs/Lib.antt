@@ -5,5 +5,6 @@ pub mod Entries
 pub mod Entry
 pub mod Laws
 pub mod Lines
+pub mod Pieces
 pub mod States
 pub mod Values

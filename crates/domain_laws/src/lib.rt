@@ -22,6 +22,9 @@
 //! a cell that is there, and gives numbers of its width (specs/Entries). A state value is made by the one constructor of
 //! states, and its maps list keys of their types alone (specs/Values).
 //!
+//! *Pieces* (specs/Pieces). What is left of an element where a cell lies between two numbers holds of each state of the element in which the
+//! number of the cell does. So pieces between numbers that follow each other cover the element.
+//!
 //! # Elements of cells
 //!
 //! As plain data they are an abstract value for each field of a state but the counter. They are a domain, over
@@ -43,7 +46,9 @@
 //! *What is proved*: all laws of a domain, for each specification that the elements are for (specs/Laws).
 #![tactic(auto)]
 
+mod cell_range;
 mod field;
 pub mod laws;
 
+pub use cell_range::CellRange;
 pub use field::Field;

@@ -8,7 +8,11 @@ use Rattle.spec_ir.specs.Specification.{Spec}
 use Rattle.semantics_values.specs.States.{State}
 use Rattle.fixpoint_theory.specs.Elements.{Elements}
 use Rattle.fixpoint_theory.specs.Pairs.{paired as paired_elements}
+use Rattle.semantics_values.specs.declared.entry.KeyAt.{KeyAt}
+use Rattle.fixpoint_cases.specs.Pieces.{Piece, pair_piece}
 use Rattle.domain_laws.specs.Domain.{DomainLaws, Meaning}
+use Rattle.domain_laws.specs.Pieces.{AreCut}
+use Rattle.domain_laws.proofs.Pieces.{pairs_cut}
 use Rattle.domain_product_laws.specs.Domain.{may_pair, pair_meaning}
 use Rattle.domain_product_laws.proofs.Domain as proofs
 
@@ -22,3 +26,12 @@ module _ {E F V W M N C D : Type 0} (A : Algebra V M C) (B : Algebra W N D) (a :
       let one = and_parts p (q && may_pair A B) made in
       let two = and_parts q (may_pair A B) one.1 in
       proofs.pairs_are_domains A B a b m n first second P Q spec e d two.1 (left one.0) (right two.0)
+
+module _ {E F V W M N C D : Type 0} (A : Algebra V M C) (B : Algebra W N D) where
+  -- pieces of both parts, of a specification that p and q say that both are for
+  pub pairs_are_cut : (P : Elements E State) (Q : Elements F State) (left : Piece (ℕ × KeyAt) E) (right : Piece (ℕ × KeyAt) F) (p q : Bool) → IsTrue (p && (q && may_pair A B))
+      → (IsTrue p → AreCut P left) → (IsTrue q → AreCut Q right) → AreCut (paired_elements P Q) (pair_piece left right)
+  pairs_are_cut P Q left right p q made cut_left cut_right =
+      let one = and_parts p (q && may_pair A B) made in
+      let two = and_parts q (may_pair A B) one.1 in
+      pairs_cut P Q left right (cut_left one.0) (cut_right two.0)

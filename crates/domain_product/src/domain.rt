@@ -1,9 +1,10 @@
 //! The domain of pairs.
 
-use crate::sides::{closed_first, closed_second, pair_results};
+use crate::sides::{both_there, closed_first, closed_second, pair_results};
 use abstract_value::AbstractValue;
 use base_product::{Pair, Paired};
 use base_trait::Base;
+use domain_laws::CellRange;
 use domain_trait::Domain;
 use semantics_values::Entry;
 use spec_ir::Spec;
@@ -21,8 +22,9 @@ pub struct PairDomain<A: Domain, B: Domain> {
 impl<A: Domain, B: Domain> Domain for PairDomain<A, B> {
     ghost use Rattle.std.specs.Prelude.{◌&&◌, max};
     ghost use Rattle.fixpoint_theory.specs.Pairs.{paired as paired_elements};
+    ghost use Rattle.fixpoint_cases.specs.Pieces.{pair_piece};
     ghost use Rattle.domain_product_laws.specs.Domain.{may_pair, pair_meaning};
-    ghost use Rattle.domain_product.specs.Instance.{pairs_are_domains};
+    ghost use Rattle.domain_product.specs.Instance.{pairs_are_cut, pairs_are_domains};
 
     type B = Paired<A::B, B::B>;
 
@@ -36,7 +38,12 @@ impl<A: Domain, B: Domain> Domain for PairDomain<A, B> {
 
     ghost meaning = { λ it. pair_meaning A.B.algebra B.B.algebra (max A.B.CAP B.B.CAP) (A.meaning it.first) (B.meaning it.second) };
 
+    ghost pieces = { λ it. pair_piece (A.pieces it.first) (B.pieces it.second) };
+
     ghost is_for = { λ it spec. A.is_for it.first spec && (B.is_for it.second spec && may_pair A.B.algebra B.B.algebra) };
+
+    ghost cut_laws = { λ it spec made. pairs_are_cut A.B.algebra B.B.algebra (A.elements it.first) (B.elements it.second) (A.pieces it.first) (B.pieces it.second)
+        (A.is_for it.first spec) (B.is_for it.second spec) made (A.cut_laws it.first spec) (B.cut_laws it.second spec) };
 
     ghost laws = { λ it spec made. pairs_are_domains A.B.algebra B.B.algebra A.B.laws B.B.laws A.B.CAP B.B.CAP A.B.capacity B.B.capacity
         (A.meaning it.first) (B.meaning it.second) (A.elements it.first) (B.elements it.second) spec (A.is_for it.first spec) (B.is_for it.second spec) made (A.laws it.first spec) (B.laws it.second spec) };
@@ -130,5 +137,18 @@ impl<A: Domain, B: Domain> Domain for PairDomain<A, B> {
             self.first.copy(alloc, &x.0)?,
             self.second.copy(alloc, &x.1)?,
         ))
+    }
+
+    /// What is left of both parts, where something is of each.
+    fn piece(
+        &self,
+        alloc: Global,
+        spec: &Spec,
+        cut: CellRange,
+        x: &(A::Element, B::Element),
+    ) -> Result<Option<(A::Element, B::Element)>, NoMemory> {
+        let first = self.first.piece(alloc, spec, cut, &x.0)?;
+        let second = self.second.piece(alloc, spec, cut, &x.1)?;
+        Ok(both_there(first, second))
     }
 }

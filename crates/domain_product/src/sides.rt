@@ -5,6 +5,7 @@ ghost use Rattle.spec_ir.specs.Views.{specification};
 ghost use Rattle.domain_laws.specs.States.{state_type};
 ghost use Rattle.domain_laws.specs.Values.{IsStateValue};
 ghost use Rattle.abstract_value_laws.specs.Fits.{Fits};
+ghost use Rattle.fixpoint_cases.specs.Pieces.{both_there};
 ghost use Rattle.domain_product_laws.specs.Calls.{first_value, second_value, zip_value};
 ghost use Rattle.domain_product_laws.proofs.Values.{Meet};
 ghost use Rattle.abstract_value.specs.View.{abs};
@@ -98,4 +99,14 @@ pub(crate) fn closed_second<B: Base, D: Domain>(
     let closed = domain.close(alloc, spec, before, &part);
     drop(part);
     closed
+}
+
+/// Both, if both are there.
+pub(crate) fn both_there<X: Drop, Y: Drop>(first: Option<X>, second: Option<Y>) -> Option<(X, Y)>
+    ensures { result ≡ both_there first second }
+{
+    match (first, second) {
+        (Some(x), Some(y)) => Some((x, y)),
+        _ => None,
+    }
 }

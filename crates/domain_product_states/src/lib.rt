@@ -15,6 +15,7 @@ mod both;
 mod domain;
 mod opened;
 mod parts;
+mod pieces;
 mod sides;
 mod together;
 

@@ -11,8 +11,8 @@ ghost use Rattle.domain_cells.specs.Views.{context_of, states_of};
 ghost use Rattle.domain_product_states.specs.Parts.{both_parts, pair_of_cells};
 
 use abstract_value::AbstractValue;
+use base_cuts::CutBase;
 use base_product::Paired;
-use base_trait::Base;
 use domain_cells::StateDomain;
 use domain_product_values::zip_values;
 use domain_trait::Domain;
@@ -20,7 +20,7 @@ use spec_ir::Spec;
 use std::alloc::{AllocError as NoMemory, Global};
 
 /// The state value of values over the pair: no part is taken out.
-pub(crate) fn opened_together<A: Base, B: Base>(
+pub(crate) fn opened_together<A: CutBase, B: CutBase>(
     states: &StateDomain<Paired<A, B>>,
     alloc: Global,
     spec: &Spec,
@@ -36,7 +36,7 @@ pub(crate) fn opened_together<A: Base, B: Base>(
 }
 
 /// The state value of two parts, put side by side.
-pub(crate) fn opened_apart<A: Base, B: Base>(
+pub(crate) fn opened_apart<A: CutBase, B: CutBase>(
     states: &StateDomain<Paired<A, B>>,
     alloc: Global,
     spec: &Spec,

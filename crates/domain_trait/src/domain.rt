@@ -1,18 +1,23 @@
 //! The trait of domains.
 
-ghost use Rattle.std.specs.Prelude.{◌≡◌, ◌-◌, ◌^◌, Bool, min, IfOk, IsTrue};
+ghost use Rattle.std.specs.Prelude.{◌≡◌, ℕ, ◌-◌, ◌^◌, Bool, min, option_map, IfOk, IfSome, IsTrue};
 ghost use Rattle.spec_ir.specs.Specification as plain;
 ghost use Rattle.spec_ir.specs.Views.{specification};
 ghost use Rattle.semantics_values.specs.States.{State};
+ghost use Rattle.semantics_values.specs.declared.entry.KeyAt.{KeyAt};
 ghost use Rattle.fixpoint_theory.specs.Elements.{Elements};
+ghost use Rattle.fixpoint_cases.specs.Pieces.{Piece};
+ghost use Rattle.fixpoint_cases.specs.Same.{IsSamePiece};
 ghost use Rattle.domain_laws.specs.Domain.{DomainLaws, Meaning};
 ghost use Rattle.domain_laws.specs.Entries.{LinesFit};
+ghost use Rattle.domain_laws.specs.Pieces.{AreCut};
 ghost use Rattle.domain_laws.specs.States.{state_type};
 ghost use Rattle.domain_laws.specs.Values.{IsStateValue};
 ghost use Rattle.abstract_value.specs.View.{abs};
 
 use abstract_value::AbstractValue;
 use base_trait::Base;
+use domain_laws::CellRange;
 use semantics_values::Entry;
 use spec_ir::Spec;
 use std::alloc::{AllocError as NoMemory, Global};
@@ -38,6 +43,9 @@ pub trait Domain {
 
     /// What evaluation needs of them.
     ghost meaning: { Self → Meaning Plain Self.B.Word Self.B.Note Self.B.Ctx };
+
+    /// What is left of elements where a cell lies between two numbers.
+    ghost pieces: { Self → Piece (ℕ × KeyAt) Plain };
 
     /// Whether the domain is for a specification.
     ghost is_for: { Self → plain.Spec → Bool };
@@ -120,6 +128,23 @@ pub trait Domain {
         requires fits { (elements self.now).fits (view x.now) }
         ensures value { IfOk result (λ r. (elements self.now).same (view r) (view x.now)) }
         ensures fits { IfOk result (λ r. (elements self.now).fits (view r)) };
+
+    /// What is left of an element where a cell lies between two numbers, or none where nothing is. It holds of each state of the element in which
+    /// the cell does, and maybe of others: where the cell cannot be cut it is the element once more.
+    fn piece(
+        &self,
+        alloc: Global,
+        spec: &Spec,
+        cut: CellRange,
+        x: &Self::Element,
+    ) -> Result<Option<Self::Element>, NoMemory>
+        requires made { IsTrue (is_for self.now (specification spec.now)) }
+        requires fits { (elements self.now).fits (view x.now) }
+        ensures value { IfOk result (λ r. IsSamePiece (elements self.now) (option_map view r) (pieces self.now (cut.place, cut.key) cut.low cut.high (view x.now))) }
+        ensures fits { IfOk result (λ r. IfSome r (λ y. (elements self.now).fits (view y))) };
+
+    /// What every user may rest on of pieces, with a specification that the domain is for.
+    ghost cut_laws: { (it : Self) (spec : plain.Spec) → IsTrue (is_for it spec) → AreCut (elements it) (pieces it) };
 
     /// What every user may rest on, with a specification that the domain is for.
     ghost laws: { (it : Self) (spec : plain.Spec) → IsTrue (is_for it spec) → DomainLaws Self.B.algebra Self.B.CAP spec (elements it) (meaning it) };

@@ -15,7 +15,7 @@ ghost use Rattle.eval_activation.specs.Views.{group_args, yield};
 
 use abstract_value::{AbstractValue, Way};
 use base_trait::Base;
-use eval_group_turns::merge_groups;
+use eval_group_turns::{merge_groups, only};
 use eval_memo::{Known, Setting, are_arguments};
 use std::alloc::{AllocError as NoMemory, Global};
 
@@ -83,11 +83,7 @@ pub fn call_in_group<B: Base>(
     if !are_arguments(setting.spec, fun, &args) {
         return Ok(None);
     }
-    let mut next: Vec<Option<Vec<AbstractValue<B>>>> = Vec::with_capacity(alloc, fun as usize + 1)?;
-    for _i in 0..fun {
-        next.push(None)?;
-    }
-    next.push(Some(args))?;
+    let next = only(alloc, fun, args)?;
     Ok(Some(TurnYield {
         out: None,
         next: Some(next),

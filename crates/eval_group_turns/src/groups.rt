@@ -11,7 +11,7 @@ ghost use Rattle.eval_group_turns.specs.Fitting.{EachFits, ListFits};
 ghost use Rattle.eval_group_turns.specs.Views.{all_abs, each_abs, group_args};
 
 use super::lists::{copy_list, lists_absorb, merge_lists};
-use abstract_value::{AbstractValue, Way};
+use abstract_value::{AbstractValue, Way, put};
 use base_trait::Base;
 use std::alloc::{AllocError as NoMemory, Global};
 
@@ -25,9 +25,9 @@ pub fn only<B: Base>(
 {
     let mut out = Vec::with_capacity(alloc, fun as usize + 1)?;
     for _function in 0..fun {
-        out.push(None)?;
+        put(&mut out, None)?;
     }
-    out.push(Some(args))?;
+    put(&mut out, Some(args))?;
     Ok(out)
 }
 
@@ -55,7 +55,7 @@ pub fn copy_groups<B: Base>(
 {
     let mut out = Vec::with_capacity(alloc, args.len())?;
     for xs in args {
-        out.push(copy_arguments(alloc, ctx, xs)?)?;
+        put(&mut out, copy_arguments(alloc, ctx, xs)?)?;
     }
     Ok(out)
 }
@@ -88,7 +88,10 @@ pub fn merge_groups<B: Base>(
 {
     let mut out = Vec::new(alloc);
     for i in 0..xs.len().max(ys.len()) {
-        out.push(merge_held(alloc, ctx, way, arguments_of(xs, i), arguments_of(ys, i))?)?;
+        put(
+            &mut out,
+            merge_held(alloc, ctx, way, arguments_of(xs, i), arguments_of(ys, i))?,
+        )?;
     }
     Ok(out)
 }

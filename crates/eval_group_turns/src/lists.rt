@@ -14,7 +14,7 @@ ghost use Rattle.abstract_semantics.specs.Terms.{merge_all, params_of};
 ghost use Rattle.eval_group_turns.specs.Fitting.{ListFits};
 ghost use Rattle.eval_group_turns.specs.Merging.{merged_with};
 
-use abstract_value::{AbstractValue, Way};
+use abstract_value::{AbstractValue, Way, put};
 use base_trait::Base;
 use spec_ir::{Spec, Ty};
 use std::alloc::{AllocError as NoMemory, Global};
@@ -61,7 +61,7 @@ pub fn copy_list<B: Base>(
 {
     let mut out = Vec::with_capacity(alloc, xs.len())?;
     for x in xs {
-        out.push(x.copy(alloc, ctx)?)?;
+        put(&mut out, x.copy(alloc, ctx)?)?;
     }
     Ok(out)
 }
@@ -80,7 +80,10 @@ pub(crate) fn merge_lists<B: Base>(
 {
     let mut out = Vec::with_capacity(alloc, xs.len())?;
     for i in 0..xs.len() {
-        out.push(merged_with(alloc, ctx, way, &xs[i], other_at(ys, i))?)?;
+        put(
+            &mut out,
+            merged_with(alloc, ctx, way, &xs[i], other_at(ys, i))?,
+        )?;
     }
     Ok(out)
 }

@@ -20,7 +20,7 @@ ghost use Rattle.eval_memo.specs.Settings.{spec_of};
 use crate::call::Call;
 use crate::memo::{Memo, Outcome, find, keep};
 use crate::setting::{Known, Setting};
-use abstract_value::AbstractValue;
+use abstract_value::{AbstractValue, put};
 use base_trait::{Base, Log, Stamp};
 use eval_code::Tail;
 use spec_ir::{Spec, Ty};
@@ -75,7 +75,7 @@ pub fn copy_all<B: Base>(
 {
     let mut out = Vec::with_capacity(alloc, xs.len())?;
     for x in xs {
-        out.push(x.copy(alloc, ctx)?)?;
+        put(&mut out, x.copy(alloc, ctx)?)?;
     }
     Ok(out)
 }

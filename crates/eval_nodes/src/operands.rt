@@ -5,7 +5,7 @@ ghost use Rattle.abstract_value_laws.specs.Fits.{Fits};
 ghost use Rattle.semantics_laws.specs.Places.{all_of};
 ghost use Rattle.abstract_value.specs.View.{abs};
 
-use abstract_value::AbstractValue;
+use abstract_value::{AbstractValue, put};
 use base_trait::Base;
 use std::alloc::{AllocError as NoMemory, Global};
 
@@ -43,7 +43,7 @@ pub fn copies<B: Base>(
             drop(out);
             return Ok(None);
         };
-        out.push(v.copy(alloc, ctx)?)?;
+        put(&mut out, v.copy(alloc, ctx)?)?;
     }
     Ok(Some(out))
 }

@@ -8,7 +8,7 @@ ghost use Rattle.abstract_value.specs.View.{abs, cases_if, cases_of};
 ghost use Rattle.abstract_semantics.specs.Choices as of;
 
 use super::items::item_at;
-use abstract_value::{AbstractValue, Constructors};
+use abstract_value::{AbstractValue, Constructors, put};
 use base_trait::{Base, Tri};
 use spec_match_compiler::Path;
 use std::alloc::{AllocError as NoMemory, Global};
@@ -73,7 +73,7 @@ pub fn abs_named<B: Base>(
     let mut named = Vec::with_capacity(alloc, binds.len())?;
     for bind in binds {
         match abs_at(x, &bind.1) {
-            Some(v) => named.push(v.copy(alloc, ctx)?)?,
+            Some(v) => put(&mut named, v.copy(alloc, ctx)?)?,
             None => return Ok(None),
         }
     }

@@ -10,7 +10,7 @@ ghost use Rattle.eval_plans.specs.Plans as of;
 ghost use Rattle.eval_plans.specs.Views.{plan};
 
 use crate::plan::Plan;
-use abstract_value::{AbstractValue, Constructors};
+use abstract_value::{AbstractValue, Constructors, put};
 use base_trait::{Base, Tri};
 use eval_operations::{abs_named, cases_there, flag_there, word_there};
 use spec_match_compiler::{Decision, Path};
@@ -39,7 +39,13 @@ fn single_branch<B: Base>(alloc: Global, number: u32) -> Plan<B>
 fn both<B: Base>(alloc: Global, first: Plan<B>, second: Plan<B>) -> Result<Plan<B>, NoMemory>
     ensures { IfOk result (λ r. plan r ≡ of.both (plan first) (plan second)) }
 {
-    Ok(Plan::Both(Box::new(alloc, first)?, Box::new(alloc, second)?))
+    match Box::new(alloc, first) {
+        Ok(first) => match Box::new(alloc, second) {
+            Ok(second) => Ok(Plan::Both(first, second)),
+            Err(_failed) => Err(NoMemory),
+        },
+        Err(_failed) => Err(NoMemory),
+    }
 }
 
 /// One plan and then another, where the first may be none.
@@ -74,7 +80,7 @@ fn row_plan<B: Base>(
 fn with_plan<B: Base>(mut firsts: Vec<Plan<B>>, first: Plan<B>) -> Result<Vec<Plan<B>>, NoMemory>
     ensures { IfOk result (λ r. (q : of.Plan B.Word B.Note) → of.all_both (map plan r.items) q ≡ of.all_both (map plan firsts.items) (of.both (plan first) q)) }
 {
-    firsts.push(first)?;
+    put(&mut firsts, first)?;
     Ok(firsts)
 }
 

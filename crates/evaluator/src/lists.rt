@@ -2,13 +2,14 @@
 
 ghost use Rattle.std.specs.Prelude.{◌≡◌, ◌++◌, ◌∷◌, [], IfOk, OnOk};
 
+use abstract_value::put;
 use std::alloc::AllocError as NoMemory;
 
 /// The list with one item more.
 pub(crate) fn pushed<T: Drop>(mut list: Vec<T>, item: T) -> Result<Vec<T>, NoMemory>
     ensures { IfOk result (λ r. r.items ≡ list.items ++ item ∷ []) }
 {
-    list.push(item)?;
+    put(&mut list, item)?;
     Ok(list)
 }
 

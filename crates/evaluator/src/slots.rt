@@ -9,7 +9,7 @@ ghost use Rattle.eval_memo.specs.Ready.{YieldFits};
 ghost use Rattle.eval_memo.specs.Settings.{group_of, spec_of};
 ghost use Rattle.evaluator.specs.Arms as of;
 
-use abstract_value::AbstractValue;
+use abstract_value::{AbstractValue, put};
 use base_trait::Base;
 use eval_activation::{TurnYield, call_in_group};
 use eval_memo::Setting;
@@ -30,7 +30,7 @@ pub(crate) fn frame_of<B: Base>(
 {
     let mut frame = Vec::with_capacity(alloc, args.len().max(ROOM))?;
     for arg in args {
-        frame.push(arg.copy(alloc, ctx)?)?;
+        put(&mut frame, arg.copy(alloc, ctx)?)?;
     }
     Ok(frame)
 }
@@ -83,6 +83,5 @@ pub(crate) fn push_value<B: Base>(
 ) -> Result<(), NoMemory>
     ensures { OnOk result (frame.new.items ≡ frame.old.items ++ v ∷ []) }
 {
-    frame.push(v)?;
-    Ok(())
+    put(frame, v)
 }

@@ -2,7 +2,7 @@
 use Rattle.std.proofs.Common.{◌≡◌, ◌∙◌, ℕ, Option, None, Some, ap, refl, sym, subst}
 use Rattle.std.specs.Prelude.{IsSome, IsSomeAnd}
 use Rattle.fixpoint_theory.specs.Analysis.{Analysis}
-use Rattle.fixpoint_theory.specs.Outcome.{Outcome, moves, too_many, undecodable}
+use Rattle.fixpoint_theory.specs.Outcome.{Outcome, moves, sends, too_many, undecodable}
 use Rattle.fixpoint_theory.specs.Runs.{Machine}
 use Rattle.fixpoint_theory.specs.Table.{IsClosed, Listing, Listings, Reaches, Tells}
 use Rattle.fixpoint_open_tables.specs.declared.ending.Ending.{Ending}
@@ -16,26 +16,31 @@ module _ {E W S : Type 0} (A : Analysis E W S) where
   tells_shut b (undecodable word) none tells = cc
   tells_shut b (too_many shown uses) none tells = cc
   tells_shut b (moves targets post uses) none tells = tells
+  tells_shut b (sends arrivals uses) none tells = tells
 
   reaches_shut : (t : Listings E) (o : Outcome E W) → ending_of o ≡ None → Reaches (left_open A) t (opened o) → Reaches A t o
   reaches_shut t (undecodable word) none reaches = cc
   reaches_shut t (too_many shown uses) none reaches = cc
   reaches_shut t (moves targets post uses) none reaches = reaches
+  reaches_shut t (sends arrivals uses) none reaches = reaches
 
   tells_open : (b : Listing E) (o : Outcome E W) → Tells A b o → Tells (left_open A) b (opened o)
   tells_open b (undecodable word) tells = absurd tells
   tells_open b (too_many shown uses) tells = absurd tells
   tells_open b (moves targets post uses) tells = tells
+  tells_open b (sends arrivals uses) tells = tells
 
   reaches_open : (t : Listings E) (o : Outcome E W) → Reaches A t o → Reaches (left_open A) t (opened o)
   reaches_open t (undecodable word) reaches = absurd reaches
   reaches_open t (too_many shown uses) reaches = absurd reaches
   reaches_open t (moves targets post uses) reaches = reaches
+  reaches_open t (sends arrivals uses) reaches = reaches
 
   told_shut : (b : Listing E) (o : Outcome E W) → Tells A b o → ending_of o ≡ None
   told_shut b (undecodable word) tells = absurd tells
   told_shut b (too_many shown uses) tells = absurd tells
   told_shut b (moves targets post uses) tells = refl
+  told_shut b (sends arrivals uses) tells = refl
 
   closed_shut : (t : Listings E) (ends : Endings W) → IsNowhereOpen ends → IsClosedButOpen A t ends → IsClosed A t
   closed_shut t ends shut closed = record {

@@ -6,9 +6,9 @@ use Rattle.base_trait.specs.Uses.{Read}
 use Rattle.base_trait.specs.declared.uses.Stamp.TheVariants.{At}
 use Rattle.fixpoint_theory.specs.Analysis.{Analysis, AnalysisLaws}
 use Rattle.fixpoint_theory.specs.Code.{is_code}
-use Rattle.fixpoint_theory.specs.Outcome.{AreOfStamps, HasTargets, IfPost, IfUses, Outcome, SameOutcome, moves, too_many, undecodable}
-use Rattle.fixpoint_theory.specs.Runs.{AreSeen, Describes, IsSound, IsSoundTable, Machine, Step, Stop, after, at, deep, goes, goes_on, left, no_decoding, run_from, stopped, stops}
-use Rattle.fixpoint_theory.specs.Table.{IsClosed, Listing, Listings, Reaches, TableFits, Tells}
+use Rattle.fixpoint_theory.specs.Outcome.{AreOfStamps, HasTargets, IfPost, IfUses, Outcome, SameOutcome, moves, too_many, undecodable, sends}
+use Rattle.fixpoint_theory.specs.Runs.{AreSeen, Describes, IsSound, IsSoundTable, Machine, Step, Stop, after, at, deep, goes, goes_on, left, no_decoding, run_from, stopped, stops, After}
+use Rattle.fixpoint_theory.specs.Table.{IsClosed, Listing, Listings, Reaches, TableFits, Tells, IsAbsorbed}
 use Rattle.fixpoint_theory.proofs.Growth.{by_bool}
 use Rattle.fixpoint_theory.proofs.Soundness.{closed_tables_are_sound}
 use Rattle.fixpoint_open_tables.specs.Endings.{Endings, IsClosedButOpen, IsDecodable, ending_at, endings_of}
@@ -32,6 +32,7 @@ picked_by_ending : {E W : Type 0} (o : Outcome E W) → pick (is_some (ending_of
 picked_by_ending (undecodable word) = refl
 picked_by_ending (too_many shown uses) = refl
 picked_by_ending (moves targets post uses) = refl
+picked_by_ending (sends arrivals uses) = refl
 
 module _ {E W S : Type 0} (A : Analysis E W S) (chosen : ℕ → Bool) where
   abbrev partly : Analysis E W S
@@ -64,11 +65,13 @@ module _ {E W S : Type 0} (A : Analysis E W S) (chosen : ℕ → Bool) where
   tells_too b (undecodable word) h = h
   tells_too b (too_many shown uses) h = h
   tells_too b (moves targets post uses) h = h
+  tells_too b (sends arrivals uses) h = h
 
   reaches_too : (t : Listings E) (o : Outcome E W) → Reaches (left_open A) t o → Reaches partly t o
   reaches_too t (undecodable word) h = h
   reaches_too t (too_many shown uses) h = h
   reaches_too t (moves targets post uses) h = h
+  reaches_too t (sends arrivals uses) h = h
 
 -- ---- the machine that has no turn left at those addresses
 module _ {E W S : Type 0} (A : Analysis E W S) (M : Machine S) (chosen : ℕ → Bool) where
@@ -83,6 +86,10 @@ module _ {E W S : Type 0} (A : Analysis E W S) (M : Machine S) (chosen : ℕ →
   describes_too (moves targets post uses) (stops left) h = absurd h
   describes_too (moves targets post uses) (stops (no_decoding word)) h = absurd h
   describes_too (moves targets post uses) (goes next reads) h = h
+  describes_too (sends arrivals uses) (stops deep) h = tt
+  describes_too (sends arrivals uses) (stops left) h = absurd h
+  describes_too (sends arrivals uses) (stops (no_decoding word)) h = absurd h
+  describes_too (sends arrivals uses) (goes next reads) h = h
 
   paused_sound : ((a : ℕ) → is_code A.code a ≡ false → chosen a ≡ false) → IsSound A M → IsSound (partly A chosen) paused
   paused_sound inside sound = record {
@@ -194,6 +201,7 @@ module _ {E W S : Type 0} (A : Analysis E W S) (M : Machine S) (laws : AnalysisL
     uses_cover b (undecodable word) next reads decodable tells describes = absurd decodable
     uses_cover b (too_many shown uses) next reads decodable tells describes = subst (λ us. AreSeen A M us reads) (sym tells.2) describes
     uses_cover b (moves targets post uses) next reads decodable tells describes = subst (λ us. AreSeen A M us reads) (sym tells.2) describes.2
+    uses_cover b (sends arrivals uses) next reads decodable tells describes = subst (λ us. AreSeen A M us reads) (sym tells.2) describes.1
 
     covered : (next : S) (reads : List Read) → IsDecodable (ends (M.counter s)) → M.step d s ≡ goes next reads → IsSomeAnd (t (M.counter s)) (λ b. AreSeen A M b.uses reads)
     covered next reads decodable steps = from (t (M.counter s)) refl (held code)

@@ -1,7 +1,7 @@
 -- What an analysis that is left open answers.
 use Rattle.std.proofs.Common.{ℕ, subst}
 use Rattle.fixpoint_theory.specs.Analysis.{Analysis}
-use Rattle.fixpoint_theory.specs.Outcome.{Moves, Outcome, moves, too_many, undecodable}
+use Rattle.fixpoint_theory.specs.Outcome.{Moves, Outcome, moves, sends, too_many, undecodable}
 use Rattle.fixpoint_theory.specs.WorklistState.{IsStopped, WorklistState}
 use Rattle.fixpoint_theory.specs.Table.{FitsImage, Listings}
 use Rattle.fixpoint_open_tables.specs.LeftOpen.{left_open, opened}
@@ -11,6 +11,7 @@ module _ {E W S : Type 0} (A : Analysis E W S) where
   opened_moves (undecodable word) = tt
   opened_moves (too_many shown uses) = tt
   opened_moves (moves targets post uses) = tt
+  opened_moves (sends arrivals uses) = tt
 
   -- no transfer stops the analysis
   pub never_stops : (p : WorklistState E) (a : ℕ) (given : Outcome E W) → IsStopped (left_open A) p a given → ⊥

@@ -4,7 +4,7 @@ use Rattle.base_trait.specs.Uses.{Seen}
 use Rattle.fixpoint_theory.specs.Analysis.{Analysis, AnalysisLaws}
 use Rattle.fixpoint_theory.specs.Code.{is_code}
 use Rattle.fixpoint_theory.specs.Elements.{Elements}
-use Rattle.fixpoint_theory.specs.Outcome.{AreOfStamps, HasTargets, IfPost, IfUses, Outcome, SameOutcome, moves, too_many, undecodable}
+use Rattle.fixpoint_theory.specs.Outcome.{AreOfStamps, HasTargets, IfPost, IfUses, Outcome, SameOutcome, moves, sends, too_many, undecodable}
 use Rattle.fixpoint_theory.specs.Runs.{Describes, IsSound, Machine, deep, left, stops}
 use Rattle.base_trait.specs.declared.uses.Stamp.TheVariants.{At}
 use Rattle.std.proofs.Common.{ap, subst, sym}
@@ -15,16 +15,19 @@ module _ {E W : Type 0} where
   opened_post P (undecodable word) h = tt
   opened_post P (too_many shown uses) h = tt
   opened_post P (moves targets post uses) h = h
+  opened_post P (sends arrivals uses) h = h
 
   pub opened_targets : (o : Outcome E W) → HasTargets o → HasTargets (opened o)
   opened_targets (undecodable word) h = refl
   opened_targets (too_many shown uses) h = refl
   opened_targets (moves targets post uses) h = h
+  opened_targets (sends arrivals uses) h = h
 
   pub opened_uses : (P : List Seen → Type 0) (o : Outcome E W) → P [] → IfUses P o → IfUses P (opened o)
   opened_uses P (undecodable word) none h = none
   opened_uses P (too_many shown uses) none h = h
   opened_uses P (moves targets post uses) none h = h
+  opened_uses P (sends arrivals uses) none h = h
 
   pub opened_same : {S : Type 0} (D : Elements E S) (x y : Outcome E W) → SameOutcome D x y → SameOutcome D (opened x) (opened y)
   opened_same D (undecodable v) (undecodable w) same = (refl, tt, refl)
@@ -36,12 +39,20 @@ module _ {E W : Type 0} where
   opened_same D (moves ts x us) (undecodable w) same = absurd same
   opened_same D (moves ts x us) (too_many y us') same = absurd same
   opened_same D (moves ts x us) (moves ts' y us') same = same
+  opened_same D (undecodable v) (sends ys us') same = absurd same
+  opened_same D (too_many x us) (sends ys us') same = absurd same
+  opened_same D (moves ts x us) (sends ys us') same = absurd same
+  opened_same D (sends xs us) (undecodable w) same = absurd same
+  opened_same D (sends xs us) (too_many y us') same = absurd same
+  opened_same D (sends xs us) (moves ts' y us') same = absurd same
+  opened_same D (sends xs us) (sends ys us') same = same
 
 -- Of a step without a turn left nothing is said.
 pub deep_described : {E W S : Type 0} (A : Analysis E W S) (M : Machine S) (o : Outcome E W) → Describes A M o (stops deep)
 deep_described A M (undecodable word) = tt
 deep_described A M (too_many shown uses) = tt
 deep_described A M (moves targets post uses) = tt
+deep_described A M (sends arrivals uses) = tt
 
 module _ {E W S : Type 0} (A : Analysis E W S) where
   -- What is left open keeps the laws.

@@ -34,6 +34,10 @@ fn ending_at<A: Analyser, L: Ledger>(
 {
     let made = match analyser.transfer(alloc, at, elem, steps)? {
         Transferred::Undecodable { word } => return Ok(Some(Ending::Undecodable { word })),
+        Transferred::Sent {
+            arrivals: _arrivals,
+            uses: _uses,
+        } => return Ok(None),
         Transferred::Made(made) => made,
     };
     let Transfer {

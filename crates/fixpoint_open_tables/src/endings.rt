@@ -1,6 +1,6 @@
 //! Endings of blocks, by their addresses.
 
-ghost use Rattle.std.specs.Prelude.{◌≡◌, ◌<◌, ℕ, [], None, Some, IfNone, IfSome, IsSome, OnOk, option_copied};
+ghost use Rattle.std.specs.Prelude.{◌≡◌, ◌<◌, ◌++◌, ◌∷◌, ℕ, [], None, Some, IfNone, IfSome, IsSome, OnOk, is_ok, if◌then◌else◌, option_copied};
 ghost use Rattle.fixpoint_open_tables.specs.Endings.{ends_in};
 ghost use Rattle.fixpoint_open_tables.specs.Gathering.{IsPut};
 
@@ -78,8 +78,18 @@ impl<W> Endings<W> {
         ensures { OnOk result (IsPut self.old self.new at (Some ending)) }
     {
         let place = self.listed.len();
-        self.listed.push(ending)?;
+        put(&mut self.listed, ending)?;
         self.places.insert(at, place)?;
         Ok(())
+    }
+}
+
+/// Puts an item behind a list, which is as it was where there is no room.
+fn put<T: Drop>(list: &mut Vec<T>, item: T) -> Result<(), NoMemory>
+    ensures items { list.new.items ≡ (if is_ok result then list.old.items ++ item ∷ [] else list.old.items) }
+{
+    match list.push(item) {
+        Ok(()) => Ok(()),
+        Err(_failed) => Err(NoMemory),
     }
 }

@@ -108,6 +108,9 @@ impl<'a, A: Analyser> Analyser for LeftOpen<'a, A> {
                 steps.tick();
                 return Ok(without_targets::<A>(alloc, Vec::new(alloc)));
             }
+            Transferred::Sent { arrivals, uses } => {
+                return Ok(Transferred::Sent { arrivals, uses });
+            }
             Transferred::Made(made) => made,
         };
         match targets {

@@ -1,13 +1,14 @@
 //! Addresses at which no element absorbs another.
 
-ghost use Rattle.std.specs.Prelude.{◌≡◌, ℕ, List};
+ghost use Rattle.std.specs.Prelude.{◌≡◌, ℕ, List, map};
+ghost use Rattle.base_trait.specs.Lists.{Each};
 ghost use Rattle.fixpoint_theory.specs.Analysis.{Analysis};
 ghost use Rattle.fixpoint_theory.specs.Elements.{Elements};
 ghost use Rattle.fixpoint_theory.specs.Table.{TableFits};
-ghost use Rattle.fixpoint_theory.specs.Verdicts.{does_absorb, first_open, is_open};
-ghost use Rattle.fixpoint_theory.specs.Views.{listings};
+ghost use Rattle.fixpoint_theory.specs.Verdicts.{does_absorb, first_open, first_open_sent, is_open};
+ghost use Rattle.fixpoint_theory.specs.Views.{arriving, listings};
 
-use fixpoint_theory::{Analyser, Table};
+use fixpoint_theory::{Analyser, Arrival, Table};
 
 /// Whether an address is listed with an element that absorbs this one.
 fn is_absorbed<A: Analyser>(
@@ -57,6 +58,25 @@ pub(crate) fn first_open<A: Analyser>(
     for to in targets {
         if is_open(analyser, table, x, *to) {
             return Some(*to);
+        }
+    }
+    None
+}
+
+/// The first address at which what cases send is open.
+pub(crate) fn first_open_sent<A: Analyser>(
+    analyser: &A,
+    table: &Table<A::Element>,
+    arrivals: &[Arrival<A::Element>],
+) -> Option<u32>
+    requires ready { A.IsReady analyser.now }
+    requires table { TableFits (A.analysis analyser.now) (listings A.view table.now) }
+    requires fits { Each (λ a. (A.analysis analyser.now).elements.fits a.1) (map (arriving A.view) arrivals.now) }
+    ensures { result ≡ first_open_sent (A.analysis analyser.now) (listings A.view table.now) (map (arriving A.view) arrivals.now) }
+{
+    for sent in arrivals {
+        if is_open(analyser, table, &sent.elem, sent.to) {
+            return Some(sent.to);
         }
     }
     None

@@ -10,7 +10,7 @@ use Rattle.base_trait.proofs.Tests.{or_left, or_right, or_sorted}
 use Rattle.fixpoint_theory.specs.Analysis.{Analysis, AnalysisLaws, IsOf, height_of}
 use Rattle.fixpoint_theory.specs.Code.{is_code, stamps_of}
 use Rattle.fixpoint_theory.specs.Elements.{BoundsHold, ElementLaws, Elements, SameElementsHold}
-use Rattle.fixpoint_theory.specs.Outcome.{IfPost, Outcome, moves, too_many, undecodable}
+use Rattle.fixpoint_theory.specs.Outcome.{IfPost, Outcome, moves, sends, too_many, undecodable}
 
 -- ---- code addresses
 pub code_among : (code : List ℕ) (at : ℕ) → IsTrue (is_code code at) → IsAmong at code
@@ -100,12 +100,18 @@ module _ {E W S : Type 0} (A : Analysis E W S) (laws : AnalysisLaws A) where
   pub entry_of : IsOf A A.entry
   entry_of = (laws.entry_fits, lists_on (A.elements.listed A.entry) (Entry ∷ []) (stamps_of A.code) laws.entry_lists (inl refl, tt))
 
+  sent_of : (stamps : List Stamp) (arrivals : List (ℕ × E)) → AreAmong stamps (stamps_of A.code) → Each (λ a. A.elements.fits a.1) arrivals
+      → Each (λ a. AreAmong (A.elements.listed a.1) stamps) arrivals → Each (λ a. IsOf A a.1) arrivals
+  sent_of stamps [] k fits lists = tt
+  sent_of stamps (a ∷ rest) k fits lists = ((fits.0, lists_on (A.elements.listed a.1) stamps (stamps_of A.code) lists.0 k), sent_of stamps rest k fits.1 lists.1)
+
   post_of : (stamps : List Stamp) (given : Outcome E W) → AreAmong stamps (stamps_of A.code) → IfPost A.elements.fits given
       → IfPost (λ post. AreAmong (A.elements.listed post) stamps) given → IfPost (IsOf A) given
   post_of stamps (undecodable word) k fits lists = tt
   post_of stamps (too_many shown uses) k fits lists = tt
   post_of stamps (moves targets None uses) k fits lists = tt
   post_of stamps (moves targets (Some x) uses) k fits lists = (fits, lists_on (A.elements.listed x) stamps (stamps_of A.code) lists k)
+  post_of stamps (sends arrivals uses) k fits lists = sent_of stamps arrivals k fits lists
 
   -- the stamps of an element, and of the instruction at an address
   pub stamps_at : (at : ℕ) (x : E) → IsTrue (is_code A.code at) → IsOf A x → AreAmong (At at ∷ A.elements.listed x) (stamps_of A.code)

@@ -4,10 +4,10 @@ use Rattle.std.specs.Prelude.{fold, IfSome}
 use Rattle.base_trait.specs.Lists.{Each}
 use Rattle.fixpoint_theory.specs.Analysis.{Analysis, AnalysisLaws, IsOf}
 use Rattle.fixpoint_theory.specs.Code.{is_code}
-use Rattle.fixpoint_theory.specs.Outcome.{IfPost, Moves, Outcome, moves, too_many, undecodable}
+use Rattle.fixpoint_theory.specs.Outcome.{IfPost, Moves, Outcome, moves, sends, too_many, undecodable}
 use Rattle.fixpoint_theory.specs.WorklistState.{AllFine, IsFine, IsLegalFrom, WorklistState, Reached, begin, changed, done, nowhere, sent, transferred, transferred_from}
 use Rattle.fixpoint_theory.proofs.Bounded.{absorbs_itself, absorbs_on, each_weaker, entry_of, transfer_of}
-use Rattle.fixpoint_theory.proofs.Growth.{AllGrown, IsGrown, IsMet, all_fine, all_grown, all_met, arrive_fine, arrive_grown, by_change, grown_itself}
+use Rattle.fixpoint_theory.proofs.Growth.{AllGrown, IsGrown, IsMet, all_fine, all_grown, all_met, arrive_fine, arrive_grown, by_change, grown_itself, sent_fine as each_fine, sent_grown as each_grown, sent_met as each_met}
 
 module _ {E W S : Type 0} (A : Analysis E W S) (laws : AnalysisLaws A) where
   -- what a transfer gives is met at each target
@@ -15,6 +15,7 @@ module _ {E W S : Type 0} (A : Analysis E W S) (laws : AnalysisLaws A) where
   IsAnswered p (undecodable word) = ⊥
   IsAnswered p (too_many shown uses) = ⊥
   IsAnswered p (moves targets post uses) = IfSome post (λ x. Each (λ to. IsTrue (is_code A.code to) → IsMet A laws x (p to)) targets)
+  IsAnswered p (sends arrivals uses) = Each (λ a. IsTrue (is_code A.code a.0) → IsMet A laws a.1 (p a.0)) arrivals
 
   -- the transfers of all elements that are not pending are answered
   abbrev pub IsSettled : WorklistState E → Type 0
@@ -49,6 +50,14 @@ module _ {E W S : Type 0} (A : Analysis E W S) (laws : AnalysisLaws A) where
   met_above a new (Some r) None fits fx fy g met = absurd g
   met_above a new (Some r) (Some s) fits fx fy g met = absorbs_on A laws s.elem r.elem new fy.1 fx.1 fits g met
 
+  each_above : (p q : WorklistState E) (arrivals : List (ℕ × E)) → Each (λ a. IsOf A a.1) arrivals → AllFine A p → AllFine A q → AllAbove p q
+      → Each (λ a. IsTrue (is_code A.code a.0) → IsMet A laws a.1 (p a.0)) arrivals → Each (λ a. IsTrue (is_code A.code a.0) → IsMet A laws a.1 (q a.0)) arrivals
+  each_above p q [] fits fp fq above met = tt
+  each_above p q (a ∷ rest) fits fp fq above met = (
+    λ code. met_above a.0 a.1 (p a.0) (q a.0) fits.0 (fp a.0) (fq a.0) (above a.0) (met.0 code),
+    each_above p q rest fits.1 fp fq above met.1,
+  )
+
   answered_above : (p q : WorklistState E) (given : Outcome E W) → IfPost (IsOf A) given → AllFine A p → AllFine A q → AllAbove p q → IsAnswered p given → IsAnswered q given
   answered_above p q (undecodable word) fits fp fq above answered = answered
   answered_above p q (too_many shown uses) fits fp fq above answered = answered
@@ -57,6 +66,7 @@ module _ {E W S : Type 0} (A : Analysis E W S) (laws : AnalysisLaws A) where
       each_weaker (λ to. IsTrue (is_code A.code to) → IsMet A laws x (p to)) (λ to. IsTrue (is_code A.code to) → IsMet A laws x (q to))
       (λ to met code. met_above to x (p to) (q to) fits (fp to) (fq to) (above to) (met code))
       targets answered
+  answered_above p q (sends arrivals uses) fits fp fq above answered = each_above p q arrivals fits fp fq above answered
 
   -- ---- a transfer
   done_fine : (a : ℕ) (x : Option (Reached E)) → IsFine A a x → IsFine A a (done x)
@@ -79,18 +89,21 @@ module _ {E W S : Type 0} (A : Analysis E W S) (laws : AnalysisLaws A) where
   sent_fine (too_many shown uses) p fits fine = fine
   sent_fine (moves targets None uses) p fits fine = fine
   sent_fine (moves targets (Some x) uses) p fits fine = all_fine A laws x targets p fits fine
+  sent_fine (sends arrivals uses) p fits fine = each_fine A laws arrivals p fits fine
 
   sent_grown : (given : Outcome E W) (p : WorklistState E) → IfPost (IsOf A) given → AllFine A p → AllGrown A laws p (sent A given p)
   sent_grown (undecodable word) p fits fine a = grown_itself A laws a (p a) (fine a)
   sent_grown (too_many shown uses) p fits fine a = grown_itself A laws a (p a) (fine a)
   sent_grown (moves targets None uses) p fits fine a = grown_itself A laws a (p a) (fine a)
   sent_grown (moves targets (Some x) uses) p fits fine a = all_grown A laws x targets p fits fine a
+  sent_grown (sends arrivals uses) p fits fine a = each_grown A laws arrivals p fits fine a
 
   sent_answers : (given : Outcome E W) (p : WorklistState E) → Moves given → IfPost (IsOf A) given → AllFine A p → IsAnswered (sent A given p) given
   sent_answers (undecodable word) p has fits fine = has
   sent_answers (too_many shown uses) p has fits fine = has
   sent_answers (moves targets None uses) p has fits fine = tt
   sent_answers (moves targets (Some x) uses) p has fits fine = all_met A laws x targets p fits fine
+  sent_answers (sends arrivals uses) p has fits fine = each_met A laws arrivals p fits fine
 
   -- What stands still after arrivals stood there before.
   still : (p q : WorklistState E) (a : ℕ) (x y : Option (Reached E)) (s : Reached E) → IsGrown A laws x y → y ≡ Some s → s.pending ≡ false → x ≡ Some s

@@ -5,7 +5,7 @@ use Rattle.base_trait.specs.Lists.{IsAmong, IsAscendingFrom}
 use Rattle.base_trait.proofs.Lists.{ascending_above}
 use Rattle.fixpoint_theory.specs.Analysis.{Analysis, AnalysisLaws, IsOf}
 use Rattle.fixpoint_theory.specs.Code.{is_code}
-use Rattle.fixpoint_theory.specs.Outcome.{Moves, Outcome, moves, too_many, undecodable}
+use Rattle.fixpoint_theory.specs.Outcome.{Moves, Outcome, moves, sends, too_many, undecodable}
 use Rattle.fixpoint_theory.specs.WorklistState.{AllFine, IsFine, IsAtEnd, IsComplete, IsLeastPending, IsLegalFrom, WorklistState, Reached, begin, transferred}
 use Rattle.fixpoint_theory.specs.Laws.{LegalTracesEnd}
 use Rattle.fixpoint_theory.proofs.Bounded.{code_among}
@@ -57,6 +57,7 @@ moves_or_not : {E W : Type 0} (given : Outcome E W) → Moves given ⊎ (Moves g
 moves_or_not (undecodable word) = inr (λ h. h)
 moves_or_not (too_many w uses) = inr (λ h. h)
 moves_or_not (moves targets post uses) = inl tt
+moves_or_not (sends arrivals uses) = inl tt
 
 module _ {E W S : Type 0} (A : Analysis E W S) (laws : AnalysisLaws A) where
   -- nothing is pending, or there is a least pending address

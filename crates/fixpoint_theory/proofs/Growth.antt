@@ -6,7 +6,7 @@ use Rattle.base_trait.specs.Lists.{Each}
 use Rattle.fixpoint_theory.specs.Analysis.{Analysis, AnalysisLaws, IsOf}
 use Rattle.fixpoint_theory.specs.Code.{is_code}
 use Rattle.fixpoint_theory.proofs.Bounded.{absorbs_itself, absorbs_on, join_absorbs, join_of, widen_absorbs, widen_of}
-use Rattle.fixpoint_theory.specs.WorklistState.{AllFine, IsFine, WorklistState, Reached, arrive, arrival, arrived, changed, grown}
+use Rattle.fixpoint_theory.specs.WorklistState.{AllFine, IsFine, WorklistState, Reached, arrive, arrive_as_sent, arrival, arrived, changed, grown}
 
 -- at a test whose value is told
 pub by_bool : (b : Bool) (P : Bool → Type 0) → (b ≡ true → P true) → (b ≡ false → P false) → P b
@@ -141,4 +141,33 @@ module _ {E W S : Type 0} (A : Analysis E W S) (laws : AnalysisLaws A) where
             (all_grown new rest (arrive A new p to) fits next to)
             (arrive_met new p to fits fine code),
         all_met new rest (arrive A new p to) fits next,
+      )
+
+  -- ---- arrivals of what cases send
+  pub sent_fine : (arrivals : List (ℕ × E)) (p : WorklistState E) → Each (λ a. IsOf A a.1) arrivals → AllFine A p → AllFine A (arrive_as_sent A arrivals p)
+  sent_fine [] p fits fine = fine
+  sent_fine (a ∷ rest) p fits fine = sent_fine rest (arrive A a.1 p a.0) fits.1 (arrive_fine a.1 p a.0 fits.0 fine)
+
+  pub sent_grown : (arrivals : List (ℕ × E)) (p : WorklistState E) → Each (λ a. IsOf A a.1) arrivals → AllFine A p → AllGrown p (arrive_as_sent A arrivals p)
+  sent_grown [] p fits fine a = grown_itself a (p a) (fine a)
+  sent_grown (x ∷ rest) p fits fine a =
+      let q = arrive A x.1 p x.0 in
+      let next = arrive_fine x.1 p x.0 fits.0 fine in
+      grown_on a (p a) (q a) (arrive_as_sent A rest q a)
+      (fine a) (next a) (sent_fine rest q fits.1 next a)
+      (arrive_grown x.1 p x.0 fits.0 fine a)
+      (sent_grown rest q fits.1 next a)
+
+  pub sent_met : (arrivals : List (ℕ × E)) (p : WorklistState E) → Each (λ a. IsOf A a.1) arrivals → AllFine A p
+      → Each (λ a. IsTrue (is_code A.code a.0) → IsMet a.1 (arrive_as_sent A arrivals p a.0)) arrivals
+  sent_met [] p fits fine = tt
+  sent_met (x ∷ rest) p fits fine =
+      let to = x.0 in
+      let r = arrive A x.1 p to in
+      let next = arrive_fine x.1 p to fits.0 fine in
+      let q = arrive_as_sent A rest r in (
+        λ code. stays_met to x.1 (r to) (q to) fits.0 (next to) (sent_fine rest r fits.1 next to)
+            (sent_grown rest r fits.1 next to)
+            (arrive_met x.1 p to fits.0 fine code),
+        sent_met rest r fits.1 next,
       )

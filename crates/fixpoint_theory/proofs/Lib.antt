@@ -3,6 +3,7 @@ pub mod Closing
 pub mod Ending
 pub mod Growth
 pub mod Kept
+pub mod Lists
 pub mod One
 pub mod Pairs
 pub mod Potential

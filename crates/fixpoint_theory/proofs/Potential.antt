@@ -2,11 +2,11 @@
 use Rattle.std.proofs.Common.{◌≡◌, ℕ, ◌+◌, ◌-◌, ◌*◌, ◌<◌, ◌≤◌, true, false, List, [], ◌∷◌, Option, None, Some, IsTrue, nat_lt, if◌then◌else◌, length, arith, refl, sym, subst, inl, inr}
 use Rattle.std.specs.Prelude.{fold}
 use Rattle.std.proofs.lemmas.Bool.Decides.{nat_tests}
-use Rattle.base_trait.specs.Lists.{IsAmong}
+use Rattle.base_trait.specs.Lists.{Each, IsAmong}
 use Rattle.fixpoint_theory.specs.Analysis.{Analysis, AnalysisLaws, IsOf, height_of}
 use Rattle.fixpoint_theory.specs.Code.{is_code}
-use Rattle.fixpoint_theory.specs.Outcome.{IfPost, Outcome, moves, too_many, undecodable}
-use Rattle.fixpoint_theory.specs.WorklistState.{AllFine, IsFine, IsLegalFrom, WorklistState, Reached, arrive, arrival, arrived, begin, changed, done, grown, sent, transferred, transferred_from}
+use Rattle.fixpoint_theory.specs.Outcome.{IfPost, Outcome, moves, sends, too_many, undecodable}
+use Rattle.fixpoint_theory.specs.WorklistState.{AllFine, IsFine, IsLegalFrom, WorklistState, Reached, arrive, arrive_as_sent, arrival, arrived, begin, changed, done, grown, sent, transferred, transferred_from}
 use Rattle.fixpoint_theory.specs.Laws.{LegalTracesAreShort}
 use Rattle.fixpoint_theory.proofs.Bounded.{code_among, join_of, rank_height, rank_of, transfer_of, widen_falls}
 use Rattle.fixpoint_theory.proofs.Growth.{arrive_fine, by_bool, by_change}
@@ -77,11 +77,19 @@ module _ {E W S : Type 0} (A : Analysis E W S) (laws : AnalysisLaws A) where
       let more = all_left new rest (arrive A new p to) fits (arrive_fine A laws new p to fits fine) a in
       omega (arith, one, more)
 
+  each_left : (arrivals : List (ℕ × E)) (p : WorklistState E) → Each (λ a. IsOf A a.1) arrivals → AllFine A p → (a : ℕ) → left_at (arrive_as_sent A arrivals p a) ≤ left_at (p a)
+  each_left [] p fits fine a = omega arith
+  each_left (x ∷ rest) p fits fine a =
+      let one = arrive_left x.1 p x.0 fits.0 fine a in
+      let more = each_left rest (arrive A x.1 p x.0) fits.1 (arrive_fine A laws x.1 p x.0 fits.0 fine) a in
+      omega (arith, one, more)
+
   sent_left : (given : Outcome E W) (p : WorklistState E) → IfPost (IsOf A) given → AllFine A p → (a : ℕ) → left_at (sent A given p a) ≤ left_at (p a)
   sent_left (undecodable word) p fits fine a = omega arith
   sent_left (too_many shown uses) p fits fine a = omega arith
   sent_left (moves targets None uses) p fits fine a = omega arith
   sent_left (moves targets (Some x) uses) p fits fine a = all_left x targets p fits fine a
+  sent_left (sends arrivals uses) p fits fine a = each_left arrivals p fits fine a
 
   done_left : (x : Option (Reached E)) → left_at (done x) ≤ left_at x
   done_left None = omega arith

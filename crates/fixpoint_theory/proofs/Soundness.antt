@@ -1,12 +1,12 @@
 -- What a closed table says holds of every run.
 use Rattle.std.proofs.Common.{◌≡◌, ◌∙◌, ℕ, zero, suc, Bool, true, cond, List, [], ◌∷◌, Option, None, Some, IsTrue, inl, inr, ap, refl, sym, subst}
 use Rattle.std.specs.Prelude.{IsSomeAnd, IfSome, filter, not, ◌⊎◌}
-use Rattle.base_trait.specs.Lists.{IsAmong}
-use Rattle.base_trait.proofs.Lists.{each_at}
+use Rattle.base_trait.specs.Lists.{Each, IsAmong}
+use Rattle.base_trait.proofs.Lists.{among_map, each_at}
 use Rattle.base_trait.specs.Uses.{Read, Seen}
 use Rattle.fixpoint_theory.specs.Analysis.{Analysis, AnalysisLaws}
 use Rattle.fixpoint_theory.specs.Code.{inside, is_code, outside}
-use Rattle.fixpoint_theory.specs.Outcome.{IfPost, Outcome, moves, too_many, undecodable}
+use Rattle.fixpoint_theory.specs.Outcome.{IfPost, Outcome, addresses, moves, sends, too_many, undecodable}
 use Rattle.fixpoint_theory.specs.Runs.{AreSeen, Describes, IsSound, Machine, Step, at, goes, goes_on, left, no_decoding, run_from, stopped, stops}
 use Rattle.fixpoint_theory.specs.Table.{IsAbsorbed, IsClosed, Listing, Listings, Reaches, TableFits, Tells}
 use Rattle.fixpoint_theory.specs.Laws.{ClosedTablesAreSound}
@@ -59,6 +59,13 @@ module _ {E W S : Type 0} (A : Analysis E W S) (M : Machine S) (laws : AnalysisL
       held to x next (t to) refl post holds
       (each_at (λ to. IsTrue (is_code A.code to) → IsAbsorbed A t x to) targets to reaches has code)
 
+  arrival_holds : (arrivals : List (ℕ × E)) (uses : List Seen) (x : E) (next : S) → Each (λ a. A.elements.fits a.1) arrivals → Reaches A t (sends arrivals uses)
+      → IsAmong (M.counter next, x) arrivals → A.elements.holds x next → IsTrue (is_code A.code (M.counter next)) → IsHeld (M.counter next) next
+  arrival_holds arrivals uses x next post reaches has holds code =
+      let to = M.counter next in
+      held to x next (t to) refl (each_at (λ a. A.elements.fits a.1) arrivals (to, x) post has) holds
+      (each_at (λ a. IsTrue (is_code A.code a.0) → IsAbsorbed A t a.1 a.0) arrivals (to, x) reaches has code)
+
   step_leads : (b : Listing E) (given : Outcome E W) (next : S) (reads : List Read) → IfPost A.elements.fits given → Tells A b given → Reaches A t given
       → Describes A M given (goes next reads) → Leads b next reads
   step_leads b (undecodable word) next reads post tells reaches describes = absurd tells
@@ -70,12 +77,23 @@ module _ {E W S : Type 0} (A : Analysis E W S) (M : Machine S) (laws : AnalysisL
         subst (λ us. AreSeen A M us reads) (sym tells.2) describes.2,
         post_holds targets uses x next post reaches describes.0 describes.1,
       )
+  step_leads b (sends arrivals uses) next reads post tells reaches describes =
+      let to = M.counter next in
+      let x = describes.0.0 in
+      let has = describes.0.1 in
+      let targets = addresses arrivals in
+      let lists = listed targets to (among_map (λ (a : ℕ × E). a.0) (to, x) arrivals has) in (
+        subst (λ ns. IsAmong to ns ⊎ IsAmong to b.exits) (sym tells.0) (subst (λ es. IsAmong to (inside A.code targets) ⊎ IsAmong to es) (sym tells.1) lists),
+        subst (λ us. AreSeen A M us reads) (sym tells.2) describes.1,
+        arrival_holds arrivals uses x next post reaches has describes.0.2,
+      )
 
   -- a run does not stop at a block but by its bound
   stops_deep : (b : Listing E) (given : Outcome E W) (w : ℕ) → Tells A b given → Describes A M given (stops (no_decoding w)) → ⊥
   stops_deep b (undecodable word) w tells describes = tells
   stops_deep b (too_many shown uses) w tells describes = tells
   stops_deep b (moves targets x uses) w tells describes = describes
+  stops_deep b (sends arrivals uses) w tells describes = describes
 
   module _ (d : ℕ) where
     -- a state that has a step is at a code address, and one that meets a word without decoding too

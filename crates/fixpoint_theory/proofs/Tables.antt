@@ -9,7 +9,7 @@ use Rattle.base_trait.proofs.Lists.{ascending_lower, each_at, each_from}
 use Rattle.fixpoint_theory.specs.Analysis.{Analysis, AnalysisLaws, IsOf}
 use Rattle.fixpoint_theory.specs.Code.{inside, is_code, outside, stamps_of}
 use Rattle.fixpoint_theory.specs.Laws.{CompleteTracesClose, TablesAreOne, TablesFitTheImage}
-use Rattle.fixpoint_theory.specs.Outcome.{AreOfStamps, HasTargets, IfPost, IfUses, Outcome, SameOutcome, moves, too_many, undecodable}
+use Rattle.fixpoint_theory.specs.Outcome.{AreOfStamps, AreSameArrivals, HasTargets, IfPost, IfUses, Outcome, SameOutcome, addresses, moves, sends, too_many, undecodable}
 use Rattle.fixpoint_theory.specs.WorklistState.{AllFine, IsFine, WorklistState, Reached, begin, nowhere, worklist_state}
 use Rattle.fixpoint_theory.specs.Table.{AreSameBlocks, IsAbsorbed, IsBlockOf, IsBlockOfImage, IsSameBlock, IsTableOf, Listing, Listings, Reaches, TableFits, Tells}
 use Rattle.fixpoint_theory.proofs.Bounded.{each_weaker, entry_of, lists_on, stamps_at}
@@ -81,10 +81,27 @@ module _ {E W S : Type 0} (A : Analysis E W S) (laws : AnalysisLaws A) where
       laws.elements.same_absorbs r.elem r.elem x y fine.1.0 fine.1.0 fx fy (laws.elements.same_itself r.elem) same ∙ met
 
   module _ (t : Listings E) (p : WorklistState E) (table : IsTableOf A t p) (fits : TableFits A t) (fine : AllFine A p) where
+    -- where what arrives is met, what is the same and arrives there is absorbed
+    all_absorbed : (xs ys : List (ℕ × E)) → Each (λ a. A.elements.fits a.1) xs → Each (λ a. A.elements.fits a.1) ys → AreSameArrivals A.elements xs ys
+        → Each (λ a. IsTrue (is_code A.code a.0) → IsMet A laws a.1 (p a.0)) ys → Each (λ a. IsTrue (is_code A.code a.0) → IsAbsorbed A t a.1 a.0) xs
+    all_absorbed [] ys fx fy same met = tt
+    all_absorbed (x ∷ xs) [] fx fy same met = absurd same
+    all_absorbed (x ∷ xs) (y ∷ ys) fx fy same met = (
+      λ code.
+          let there : IsMet A laws y.1 (p x.0) = subst (λ a. IsTrue (is_code A.code a) → IsMet A laws y.1 (p a)) (sym same.0) met.0 code in
+          block_absorbs x.0 x.1 (t x.0) (p x.0) fx.0 (block_fits t fits x.0) (fine x.0) (table x.0) (same_met x.0 x.1 y.1 (p x.0) fx.0 fy.0 (fine x.0) same.1 there),
+      all_absorbed xs ys fx.1 fy.1 same.2 met.1,
+    )
+
     -- where what a transfer gives is met, what the same transfer gives is absorbed
     met_absorbed : (x y : Outcome E W) → IfPost A.elements.fits x → IfPost A.elements.fits y → SameOutcome A.elements x y → IsAnswered A laws p y → Reaches A t x
     met_absorbed x (undecodable word) fx fy same answered = absurd answered
     met_absorbed x (too_many shown uses) fx fy same answered = absurd answered
+    met_absorbed (undecodable word) (sends ys us) fx fy same answered = absurd same
+    met_absorbed (too_many shown uses) (sends ys us) fx fy same answered = absurd same
+    met_absorbed (moves ts post us') (sends ys us) fx fy same answered = absurd same
+    met_absorbed (sends xs us) (moves ts post us') fx fy same answered = absurd same
+    met_absorbed (sends xs us) (sends ys us') fx fy same answered = all_absorbed xs ys fx fy same.0 answered
     met_absorbed (undecodable word) (moves ts post us) fx fy same answered = absurd same
     met_absorbed (too_many shown uses) (moves ts post us) fx fy same answered = absurd same
     met_absorbed (moves ts None us) (moves ts' post' us') fx fy same answered = tt
@@ -142,6 +159,17 @@ module _ {E W S : Type 0} (A : Analysis E W S) (laws : AnalysisLaws A) where
         uses = subst (AreOfStamps (stamps_of A.code)) (sym tells.2)
             (uses_on (At at ∷ A.elements.listed b.elem) (stamps_of A.code) us (stamps_at A laws at b.elem code of) uses);
       }
+  block_of_image at b (sends arrivals us) code of has uses tells =
+      let targets = addresses arrivals in
+      record {
+        code = code;
+        stamps = of.1;
+        next = subst (λ ns. IsAscending ns × Each (λ to. IsTrue (is_code A.code to)) ns) (sym tells.0)
+            (kept_ascends (is_code A.code) 0 targets has, kept_pass (is_code A.code) targets);
+        exits = subst IsAscending (sym tells.1) (kept_ascends (λ a. not (is_code A.code a)) 0 targets has);
+        uses = subst (AreOfStamps (stamps_of A.code)) (sym tells.2)
+            (uses_on (At at ∷ A.elements.listed b.elem) (stamps_of A.code) us (stamps_at A laws at b.elem code of) uses);
+      }
 
   pub tables_fit_the_image : TablesFitTheImage A
   tables_fit_the_image trace t fits table at b is =
@@ -153,11 +181,28 @@ module _ {E W S : Type 0} (A : Analysis E W S) (laws : AnalysisLaws A) where
       block_of_image at b (A.transfer at b.elem) here.0 (block.1, lists) (laws.transfer_targets at b.elem here.0 block.1) (laws.transfer_uses at b.elem here.0 block.1) found.3
 
   -- ---- one table
+  -- arrivals that are the same are at the same addresses
+  pub same_addresses : (xs ys : List (ℕ × E)) → AreSameArrivals A.elements xs ys → addresses xs ≡ addresses ys
+  same_addresses [] [] same = refl
+  same_addresses [] (y ∷ ys) same = absurd same
+  same_addresses (x ∷ xs) [] same = absurd same
+  same_addresses (x ∷ xs) (y ∷ ys) same = ap (λ a. a ∷ addresses xs) same.0 ∙ ap (λ rest. y.0 ∷ rest) (same_addresses xs ys same.2)
+
   told_alike : (b c : Listing E) (x y : Outcome E W) → A.elements.same b.elem c.elem → SameOutcome A.elements x y → Tells A b x → Tells A c y → IsSameBlock A b c
   told_alike b c (undecodable word) y same alike tells tells' = absurd tells
   told_alike b c (too_many shown uses) y same alike tells tells' = absurd tells
   told_alike b c (moves ts post us) (undecodable word) same alike tells tells' = absurd tells'
   told_alike b c (moves ts post us) (too_many shown uses) same alike tells tells' = absurd tells'
+  told_alike b c (moves ts post us) (sends ys us') same alike tells tells' = absurd alike
+  told_alike b c (sends xs us) (undecodable word) same alike tells tells' = absurd tells'
+  told_alike b c (sends xs us) (too_many shown uses) same alike tells tells' = absurd tells'
+  told_alike b c (sends xs us) (moves ts post us') same alike tells tells' = absurd alike
+  told_alike b c (sends xs us) (sends ys us') same alike tells tells' = let one = same_addresses xs ys alike.0 in record {
+    elem = same;
+    next = tells.0 ∙ ap (inside A.code) one ∙ sym tells'.0;
+    exits = tells.1 ∙ ap (outside A.code) one ∙ sym tells'.1;
+    uses = tells.2 ∙ alike.1 ∙ sym tells'.2;
+  }
   told_alike b c (moves ts post us) (moves ts' post' us') same alike tells tells' = record {
     elem = same;
     next = tells.0 ∙ ap (inside A.code) alike.0 ∙ sym tells'.0;

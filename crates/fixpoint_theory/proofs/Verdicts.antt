@@ -7,15 +7,15 @@ use Rattle.base_trait.specs.Lists.{Each, IsAmong, IsAscending, IsAscendingFrom}
 use Rattle.base_trait.specs.Stamps.{same_stamp}
 use Rattle.base_trait.specs.Uses.{Seen}
 use Rattle.base_trait.specs.declared.uses.Stamp.{Stamp}
-use Rattle.base_trait.proofs.Lists.{ascending_above, each_at, number_itself, number_told}
+use Rattle.base_trait.proofs.Lists.{among_map, ascending_above, each_at, number_itself, number_told}
 use Rattle.base_trait.proofs.Stamps.{stamp_itself, stamp_told}
 use Rattle.base_trait.proofs.Tests.{and_both, and_parts, not_both}
 use Rattle.fixpoint_theory.specs.Analysis.{Analysis, AnalysisLaws}
 use Rattle.fixpoint_theory.specs.Code.{inside, is_code, outside}
 use Rattle.fixpoint_theory.specs.Laws.{AcceptedAreClosed, VerdictsMean}
-use Rattle.fixpoint_theory.specs.Outcome.{HasTargets, Outcome, moves, too_many, undecodable}
+use Rattle.fixpoint_theory.specs.Outcome.{HasTargets, Moves, Outcome, addresses, arrivals_of, at_each, moves, sends, targets_of, too_many, undecodable, uses_of}
 use Rattle.fixpoint_theory.specs.Table.{IsAbsorbed, IsClosed, Listing, Listings, Reaches, TableFits, Tells}
-use Rattle.fixpoint_theory.specs.Verdicts.{EntryStands, IsFault, IsFirstFault, IsLeastOpen, ListsTargets, Means, Stands, accepted_or, does_absorb, fault_at, fault_of, first_fault, first_open, is_open, lists_targets, open_at, open_from, or_else, same_key, same_use, verdict_of}
+use Rattle.fixpoint_theory.specs.Verdicts.{EntryStands, IsFault, IsFirstFault, IsLeastOpen, IsLeftOpen, ListsTargets, Means, Stands, accepted_or, does_absorb, fault_at, fault_of, first_fault, first_open, first_open_sent, is_open, lists_targets, open_at, open_from, or_else, same_key, same_use, verdict_of}
 use Rattle.fixpoint_theory.specs.declared.verdict.Verdict.{Verdict}
 use Rattle.fixpoint_theory.specs.declared.verdict.Verdict.TheVariants.{Accepted, Entry, Open, Undecodable, TooManyTargets, Targets, Use}
 use Rattle.fixpoint_theory.proofs.Bounded.{code_among}
@@ -78,46 +78,77 @@ module _ {E W S : Type 0} (A : Analysis E W S) (t : Listings E) where
       ]
 
   -- ---- targets
-  none_open : (x : E) (targets : List ℕ) → first_open A t x targets ≡ None → Each (λ to. IsTrue (is_code A.code to) → IsAbsorbed A t x to) targets
-  none_open x [] h = tt
-  none_open x (to ∷ rest) h =
-      by_bool (is_open A t x to)
-      (λ b. is_open A t x to ≡ b → (if b then Some to else first_open A t x rest) ≡ None → Each (λ to. IsTrue (is_code A.code to) → IsAbsorbed A t x to) (to ∷ rest))
+  -- each element that arrives is absorbed
+  abbrev AreAbsorbed : List (ℕ × E) → Type 0
+  AreAbsorbed arrivals = Each (λ a. IsTrue (is_code A.code a.0) → IsAbsorbed A t a.1 a.0) arrivals
+
+  none_open : (arrivals : List (ℕ × E)) → first_open_sent A t arrivals ≡ None → AreAbsorbed arrivals
+  none_open [] h = tt
+  none_open (a ∷ rest) h =
+      by_bool (is_open A t a.1 a.0)
+      (λ b. is_open A t a.1 a.0 ≡ b → (if b then Some a.0 else first_open_sent A t rest) ≡ None → AreAbsorbed (a ∷ rest))
       (λ e is h. cc)
-      (λ e is h. (closed_told x to is, none_open x rest h))
+      (λ e is h. (closed_told a.1 a.0 is, none_open rest h))
       refl h
 
-  open_none : (x : E) (targets : List ℕ) → Each (λ to. IsTrue (is_code A.code to) → IsAbsorbed A t x to) targets → first_open A t x targets ≡ None
-  open_none x [] h = refl
-  open_none x (to ∷ rest) h =
-      by_bool (is_open A t x to) (λ b. is_open A t x to ≡ b → (if b then Some to else first_open A t x rest) ≡ None)
-      (λ e is. let told = open_told x to is in absurd (told.1 (h.0 told.0)))
-      (λ e is. open_none x rest h.1)
+  open_none : (arrivals : List (ℕ × E)) → AreAbsorbed arrivals → first_open_sent A t arrivals ≡ None
+  open_none [] h = refl
+  open_none (a ∷ rest) h =
+      by_bool (is_open A t a.1 a.0) (λ b. is_open A t a.1 a.0 ≡ b → (if b then Some a.0 else first_open_sent A t rest) ≡ None)
+      (λ e is. let told = open_told a.1 a.0 is in absurd (told.1 (h.0 told.0)))
+      (λ e is. open_none rest h.1)
       refl
 
-  least_open : (x : E) (low : ℕ) (targets : List ℕ) (to : ℕ) → IsAscendingFrom low targets → first_open A t x targets ≡ Some to → IsLeastOpen A t x targets to
-  least_open x low [] to ascends h = cc
-  least_open x low (y ∷ rest) to ascends h =
-      by_bool (is_open A t x y) (λ b. is_open A t x y ≡ b → (if b then Some y else first_open A t x rest) ≡ Some to → IsLeastOpen A t x (y ∷ rest) to)
-      (λ e is found. let same : y ≡ to = cc in subst (IsLeastOpen A t x (y ∷ rest)) same (first_here is))
-      (λ e is found. first_later is (least_open x (y + 1) rest to ascends.1 found))
+  least_open : (low : ℕ) (arrivals : List (ℕ × E)) (to : ℕ) → IsAscendingFrom low (addresses arrivals) → first_open_sent A t arrivals ≡ Some to → IsLeastOpen A t arrivals to
+  least_open low [] to ascends h = cc
+  least_open low (a ∷ rest) to ascends h =
+      by_bool (is_open A t a.1 a.0) (λ b. is_open A t a.1 a.0 ≡ b → (if b then Some a.0 else first_open_sent A t rest) ≡ Some to → IsLeastOpen A t (a ∷ rest) to)
+      (λ e is found. let same : a.0 ≡ to = cc in subst (IsLeastOpen A t (a ∷ rest)) same (first_here is))
+      (λ e is found. first_later is (least_open (a.0 + 1) rest to ascends.1 found))
       refl h
     where
-      first_here : is_open A t x y ≡ true → IsLeastOpen A t x (y ∷ rest) y
-      first_here is = let told = open_told x y is in record {
-        target = inl refl;
-        code = told.0;
-        is_open = told.1;
-        least = λ other among code apart. ascending_above y other (y ∷ rest) (omega arith, ascends.1) among;
+      first_here : is_open A t a.1 a.0 ≡ true → IsLeastOpen A t (a ∷ rest) a.0
+      first_here is = let told = open_told a.1 a.0 is in record {
+        is_open = (told.0, (a.1, inl refl, told.1));
+        least = λ other left. ascending_above a.0 other (addresses (a ∷ rest)) (omega arith, ascends.1)
+            (among_map (λ (b : ℕ × E). b.0) (other, left.1.0) (a ∷ rest) left.1.1);
       }
 
-      least_of : is_open A t x y ≡ false → IsLeastOpen A t x rest to → (other : ℕ) → IsAmong other (y ∷ rest) → IsTrue (is_code A.code other) → (IsAbsorbed A t x other → ⊥) → to ≤ other
-      least_of is later other (inl same) code apart =
-          absurd (apart (subst (IsAbsorbed A t x) (sym same) (closed_told x y is (subst (λ z. IsTrue (is_code A.code z)) same code))))
-      least_of is later other (inr among) code apart = later.least other among code apart
+      least_of : is_open A t a.1 a.0 ≡ false → IsLeastOpen A t rest to → (other : ℕ) (x : E) → IsTrue (is_code A.code other) → IsAmong (other, x) (a ∷ rest) → (IsAbsorbed A t x other → ⊥) → to ≤ other
+      least_of is later other x code (inl same) apart =
+          absurd (apart (subst (λ (b : ℕ × E). IsTrue (is_code A.code b.0) → IsAbsorbed A t b.1 b.0) (sym same) (closed_told a.1 a.0 is) code))
+      least_of is later other x code (inr among) apart = later.least other (code, (x, among, apart))
 
-      first_later : is_open A t x y ≡ false → IsLeastOpen A t x rest to → IsLeastOpen A t x (y ∷ rest) to
-      first_later is later = record { target = inr later.target; code = later.code; is_open = later.is_open; least = least_of is later }
+      first_later : is_open A t a.1 a.0 ≡ false → IsLeastOpen A t rest to → IsLeastOpen A t (a ∷ rest) to
+      first_later is later = record {
+        is_open = let left = later.is_open in (left.0, (left.1.0, inr left.1.1, left.1.2));
+        least = λ other left. least_of is later other left.1.0 left.0 left.1.1 left.1.2;
+      }
+
+  -- one element that arrives at each target
+  first_open_each : (x : E) (targets : List ℕ) → first_open A t x targets ≡ first_open_sent A t (at_each x targets)
+  first_open_each x [] = refl
+  first_open_each x (to ∷ rest) = ap (λ later. if is_open A t x to then Some to else later) (first_open_each x rest)
+
+  each_absorbed : (x : E) (targets : List ℕ) → AreAbsorbed (at_each x targets) → Each (λ to. IsTrue (is_code A.code to) → IsAbsorbed A t x to) targets
+  each_absorbed x [] h = tt
+  each_absorbed x (to ∷ rest) h = (h.0, each_absorbed x rest h.1)
+
+  absorbed_each : (x : E) (targets : List ℕ) → Each (λ to. IsTrue (is_code A.code to) → IsAbsorbed A t x to) targets → AreAbsorbed (at_each x targets)
+  absorbed_each x [] h = tt
+  absorbed_each x (to ∷ rest) h = (h.0, absorbed_each x rest h.1)
+
+  addresses_each : (x : E) (targets : List ℕ) → addresses (at_each x targets) ≡ targets
+  addresses_each x [] = refl
+  addresses_each x (to ∷ rest) = ap (λ l. to ∷ l) (addresses_each x rest)
+
+  -- what arrives does so at ascending addresses
+  arrivals_ascend : (given : Outcome E W) → HasTargets given → IsAscending (addresses (arrivals_of given))
+  arrivals_ascend (undecodable word) has = tt
+  arrivals_ascend (too_many shown uses) has = tt
+  arrivals_ascend (moves targets None uses) has = tt
+  arrivals_ascend (moves targets (Some x) uses) has = subst IsAscending (sym (addresses_each x targets)) has
+  arrivals_ascend (sends arrivals uses) has = has
 
   -- ---- blocks
   pub told_lists : (b : Listing E) (targets : List ℕ) → IsTrue (lists_targets A b targets) → ListsTargets A t b targets
@@ -131,84 +162,125 @@ module _ {E W S : Type 0} (A : Analysis E W S) (t : Listings E) where
       (subst (λ ns. IsTrue (same_list ◌==◌ b.next ns)) h.0 (same_list_itself ◌==◌ number_itself b.next))
       (subst (λ ns. IsTrue (same_list ◌==◌ b.exits ns)) h.1 (same_list_itself ◌==◌ number_itself b.exits))
 
-  reaches_from : (at : ℕ) (targets : List ℕ) (post : Option E) (uses : List Seen) → open_from A t at post targets ≡ None → Reaches A t (moves targets post uses)
-  reaches_from at targets None uses h = tt
-  reaches_from at targets (Some x) uses h = none_open x targets (from (first_open A t x targets) h)
-    where
-      from : (y : Option ℕ) → open_at A t at y ≡ None → y ≡ None
-      from None k = refl
-      from (Some to) k = cc
+  open_from_each : (at : ℕ) (post : Option E) (targets : List ℕ) (uses : List Seen) → open_from A t at post targets ≡ open_at A t at (first_open_sent A t (arrivals_of {E = E} {W = W} (moves targets post uses)))
+  open_from_each at None targets uses = refl
+  open_from_each at (Some x) targets uses = ap (open_at A t at) (first_open_each x targets)
 
-  from_reaches : (at : ℕ) (targets : List ℕ) (post : Option E) (uses : List Seen) → Reaches A t (moves targets post uses) → open_from A t at post targets ≡ None
-  from_reaches at targets None uses h = refl
-  from_reaches at targets (Some x) uses h = ap (open_at A t at) (open_none x targets h)
+  -- the fault of a block whose transfer has targets
+  abbrev fault_by : ℕ → Listing E → Outcome E W → Option (Verdict W)
+  fault_by at b given =
+      if not (lists_targets A b (targets_of given)) then Some (Targets at)
+      else (if not (same_list same_use b.uses (uses_of given)) then Some (Use at) else open_at A t at (first_open_sent A t (arrivals_of given)))
+
+  pub fault_of_targets : (at : ℕ) (b : Listing E) (given : Outcome E W) → Moves given → fault_of A t at b given ≡ fault_by at b given
+  fault_of_targets at b (undecodable word) has = absurd has
+  fault_of_targets at b (too_many shown uses) has = absurd has
+  fault_of_targets at b (moves targets post uses) has =
+      ap (λ o. if not (lists_targets A b targets) then Some (Targets at) else (if not (same_list same_use b.uses uses) then Some (Use at) else o)) (open_from_each at post targets uses)
+  fault_of_targets at b (sends arrivals uses) has = refl
+
+  -- what a block that stands has
+  pub record HasParts (b : Listing E) (given : Outcome E W) : Type 0 where
+    pub has : Moves given
+    pub lists : ListsTargets A t b (targets_of given)
+    pub uses : b.uses ≡ uses_of given
+    pub absorbed : AreAbsorbed (arrivals_of given)
+
+  stands_by : (b : Listing E) (given : Outcome E W) → HasParts b given → Stands A t b given
+  stands_by b (undecodable word) h = absurd h.has
+  stands_by b (too_many shown uses) h = absurd h.has
+  stands_by b (moves targets None uses) h = record { tells = (h.lists.0, h.lists.1, h.uses); reaches = tt }
+  stands_by b (moves targets (Some x) uses) h = record { tells = (h.lists.0, h.lists.1, h.uses); reaches = each_absorbed x targets h.absorbed }
+  stands_by b (sends arrivals uses) h = record { tells = (h.lists.0, h.lists.1, h.uses); reaches = h.absorbed }
+
+  by_stands : (b : Listing E) (given : Outcome E W) → Stands A t b given → HasParts b given
+  by_stands b (undecodable word) stands = absurd stands.tells
+  by_stands b (too_many shown uses) stands = absurd stands.tells
+  by_stands b (moves targets None uses) stands = record { has = tt; lists = (stands.tells.0, stands.tells.1); uses = stands.tells.2; absorbed = tt }
+  by_stands b (moves targets (Some x) uses) stands =
+      record { has = tt; lists = (stands.tells.0, stands.tells.1); uses = stands.tells.2; absorbed = absorbed_each x targets stands.reaches }
+  by_stands b (sends arrivals uses) stands = record { has = tt; lists = (stands.tells.0, stands.tells.1); uses = stands.tells.2; absorbed = stands.reaches }
+
+  shut_from : (at : ℕ) (y : Option ℕ) → open_at A t at y ≡ None → y ≡ None
+  shut_from at None k = refl
+  shut_from at (Some to) k = cc
+
+  -- a block without a fault has its parts
+  none_parts : (at : ℕ) (b : Listing E) (given : Outcome E W) → Moves given → fault_by at b given ≡ None → HasParts b given
+  none_parts at b given has h =
+      by_bool (lists_targets A b (targets_of given))
+      (λ c. lists_targets A b (targets_of given) ≡ c → (if not c then Some (Targets at) else (if not (same_list same_use b.uses (uses_of given)) then Some (Use at) else open_at A t at (first_open_sent A t (arrivals_of given)))) ≡ None → HasParts b given)
+      (λ e lists k. by_uses lists k)
+      (λ e lists k. cc)
+      refl h
+    where
+      by_uses : lists_targets A b (targets_of given) ≡ true → (if not (same_list same_use b.uses (uses_of given)) then Some (Use at) else open_at A t at (first_open_sent A t (arrivals_of given))) ≡ None → HasParts b given
+      by_uses lists k =
+          by_bool (same_list same_use b.uses (uses_of given))
+          (λ c. same_list same_use b.uses (uses_of given) ≡ c → (if not c then Some (Use at) else open_at A t at (first_open_sent A t (arrivals_of given))) ≡ None → HasParts b given)
+          (λ e same k. record {
+            has = has;
+            lists = told_lists b (targets_of given) lists;
+            uses = uses_told b.uses (uses_of given) same;
+            absorbed = none_open (arrivals_of given) (shut_from at (first_open_sent A t (arrivals_of given)) k);
+          })
+          (λ e same k. cc)
+          refl k
+
+  parts_none : (at : ℕ) (b : Listing E) (given : Outcome E W) → HasParts b given → fault_by at b given ≡ None
+  parts_none at b given h =
+      let lists = lists_told b (targets_of given) h.lists in
+      let same : IsTrue (same_list same_use b.uses (uses_of given)) = subst (λ us. IsTrue (same_list same_use b.uses us)) h.uses (uses_itself b.uses) in
+      ap (λ c. if not c then Some (Targets at) else (if not (same_list same_use b.uses (uses_of given)) then Some (Use at) else open_at A t at (first_open_sent A t (arrivals_of given)))) lists
+      ∙ ap (λ c. if not c then Some (Use at) else open_at A t at (first_open_sent A t (arrivals_of given))) same
+      ∙ ap (open_at A t at) (open_none (arrivals_of given) h.absorbed)
 
   -- a block without a fault stands
   pub fault_none : (at : ℕ) (b : Listing E) (given : Outcome E W) → fault_of A t at b given ≡ None → Stands A t b given
   fault_none at b (undecodable word) h = cc
   fault_none at b (too_many shown uses) h = cc
   fault_none at b (moves targets post uses) h =
-      by_bool (lists_targets A b targets)
-      (λ c. lists_targets A b targets ≡ c → (if not c then Some (Targets at) else (if not (same_list same_use b.uses uses) then Some (Use at) else open_from A t at post targets)) ≡ None → Stands A t b (moves targets post uses))
-      (λ e lists k. by_uses lists k)
-      (λ e lists k. cc)
-      refl h
-    where
-      by_uses : lists_targets A b targets ≡ true → (if not (same_list same_use b.uses uses) then Some (Use at) else open_from A t at post targets) ≡ None → Stands A t b (moves targets post uses)
-      by_uses lists k =
-          by_bool (same_list same_use b.uses uses)
-          (λ c. same_list same_use b.uses uses ≡ c → (if not c then Some (Use at) else open_from A t at post targets) ≡ None → Stands A t b (moves targets post uses))
-          (λ e same k. let told = told_lists b targets lists in record { tells = (told.0, told.1, uses_told b.uses uses same); reaches = reaches_from at targets post uses k })
-          (λ e same k. cc)
-          refl k
+      let given : Outcome E W = moves targets post uses in stands_by b given (none_parts at b given tt (sym (fault_of_targets at b given tt) ∙ h))
+  fault_none at b (sends arrivals uses) h = let given : Outcome E W = sends arrivals uses in stands_by b given (none_parts at b given tt h)
 
   pub stands_none : (at : ℕ) (b : Listing E) (given : Outcome E W) → Stands A t b given → fault_of A t at b given ≡ None
-  stands_none at b (undecodable word) stands = absurd stands.tells
-  stands_none at b (too_many shown uses) stands = absurd stands.tells
-  stands_none at b (moves targets post uses) stands =
-      let lists = lists_told b targets (stands.tells.0, stands.tells.1) in
-      let same : IsTrue (same_list same_use b.uses uses) = subst (λ us. IsTrue (same_list same_use b.uses us)) stands.tells.2 (uses_itself b.uses) in
-      ap (λ c. if not c then Some (Targets at) else (if not (same_list same_use b.uses uses) then Some (Use at) else open_from A t at post targets)) lists
-      ∙ ap (λ c. if not c then Some (Use at) else open_from A t at post targets) same
-      ∙ from_reaches at targets post uses stands.reaches
+  stands_none at b given stands = let parts = by_stands b given stands in fault_of_targets at b given parts.has ∙ parts_none at b given parts
 
   -- the fault of a block is one
+  targets_fault : (at : ℕ) (b : Listing E) (given : Outcome E W) (v : Verdict W) → HasTargets given → Moves given → fault_by at b given ≡ Some v → IsFault A t at b given v
+  targets_fault at b given v targets has h =
+      by_bool (lists_targets A b (targets_of given))
+      (λ c. lists_targets A b (targets_of given) ≡ c → (if not c then Some (Targets at) else (if not (same_list same_use b.uses (uses_of given)) then Some (Use at) else open_at A t at (first_open_sent A t (arrivals_of given)))) ≡ Some v → IsFault A t at b given v)
+      (λ e lists k. by_uses (told_lists b (targets_of given) lists) k)
+      (λ e lists k.
+      let same : Targets at ≡ v = cc in
+      subst (IsFault A t at b given) same (refl, (has, λ told. let tests = lists_told b (targets_of given) told in cc)))
+      refl h
+    where
+      by_open : ListsTargets A t b (targets_of given) → b.uses ≡ uses_of given → (y : Option ℕ) → first_open_sent A t (arrivals_of given) ≡ y → open_at A t at y ≡ Some v → IsFault A t at b given v
+      by_open told same None found k = cc
+      by_open told same (Some to) found k =
+          let is_it : Open at to ≡ v = cc in
+          subst (IsFault A t at b given) is_it
+          (refl, (has, told, same, least_open 0 (arrivals_of given) to (arrivals_ascend given targets) found))
+
+      by_uses : ListsTargets A t b (targets_of given) → (if not (same_list same_use b.uses (uses_of given)) then Some (Use at) else open_at A t at (first_open_sent A t (arrivals_of given))) ≡ Some v → IsFault A t at b given v
+      by_uses told k =
+          by_bool (same_list same_use b.uses (uses_of given))
+          (λ c. same_list same_use b.uses (uses_of given) ≡ c → (if not c then Some (Use at) else open_at A t at (first_open_sent A t (arrivals_of given))) ≡ Some v → IsFault A t at b given v)
+          (λ e same k. by_open told (uses_told b.uses (uses_of given) same) (first_open_sent A t (arrivals_of given)) refl k)
+          (λ e same k.
+          let is : Use at ≡ v = cc in
+          subst (IsFault A t at b given) is
+          (refl, (has, told, λ equal. let tests = subst (λ us. IsTrue (same_list same_use b.uses us)) equal (uses_itself b.uses) in cc)))
+          refl k
+
   pub fault_some : (at : ℕ) (b : Listing E) (given : Outcome E W) (v : Verdict W) → HasTargets given → fault_of A t at b given ≡ Some v → IsFault A t at b given v
   fault_some at b (undecodable word) v has h = let same : Undecodable at word ≡ v = cc in subst (IsFault A t at b (undecodable word)) same (refl, refl)
   fault_some at b (too_many shown uses) v has h = let same : TooManyTargets at shown ≡ v = cc in subst (IsFault A t at b (too_many shown uses)) same (refl, (uses, refl))
   fault_some at b (moves targets post uses) v has h =
-      by_bool (lists_targets A b targets)
-      (λ c. lists_targets A b targets ≡ c → (if not c then Some (Targets at) else (if not (same_list same_use b.uses uses) then Some (Use at) else open_from A t at post targets)) ≡ Some v → IsFault A t at b (moves targets post uses) v)
-      (λ e lists k. by_uses (told_lists b targets lists) k)
-      (λ e lists k.
-      let same : Targets at ≡ v = cc in
-      subst (IsFault A t at b (moves targets post uses)) same (refl, (targets, post, uses, refl, λ told. let tests = lists_told b targets told in cc)))
-      refl h
-    where
-      by_open : ListsTargets A t b targets → b.uses ≡ uses → (post' : Option E) → post ≡ post' → open_from A t at post' targets ≡ Some v → IsFault A t at b (moves targets post uses) v
-      by_open told same None is k = cc
-      by_open told same (Some x) is k = from (first_open A t x targets) refl k
-        where
-          ascends : IsAscending targets
-          ascends = targets_ascend targets post uses has
-
-          from : (y : Option ℕ) → first_open A t x targets ≡ y → open_at A t at y ≡ Some v → IsFault A t at b (moves targets post uses) v
-          from None found k = cc
-          from (Some to) found k =
-              let is_it : Open at to ≡ v = cc in
-              subst (IsFault A t at b (moves targets post uses)) is_it
-              (refl, (targets, x, uses, ap (λ p. moves targets p uses) is, told, same, least_open x 0 targets to ascends found))
-
-      by_uses : ListsTargets A t b targets → (if not (same_list same_use b.uses uses) then Some (Use at) else open_from A t at post targets) ≡ Some v → IsFault A t at b (moves targets post uses) v
-      by_uses told k =
-          by_bool (same_list same_use b.uses uses)
-          (λ c. same_list same_use b.uses uses ≡ c → (if not c then Some (Use at) else open_from A t at post targets) ≡ Some v → IsFault A t at b (moves targets post uses) v)
-          (λ e same k. by_open told (uses_told b.uses uses same) post refl k)
-          (λ e same k.
-          let is : Use at ≡ v = cc in
-          subst (IsFault A t at b (moves targets post uses)) is
-          (refl, (targets, post, uses, refl, told, λ equal. let tests = subst (λ us. IsTrue (same_list same_use b.uses us)) equal (uses_itself b.uses) in cc)))
-          refl k
+      let given : Outcome E W = moves targets post uses in targets_fault at b given v has tt (sym (fault_of_targets at b given tt) ∙ h)
+  fault_some at b (sends arrivals uses) v has h = targets_fault at b (sends arrivals uses) v has tt h
 
   -- a block with a fault does not stand
   pub fault_breaks : (at : ℕ) (b : Listing E) (given : Outcome E W) (v : Verdict W) → IsFault A t at b given v → Stands A t b given → ⊥
@@ -216,12 +288,11 @@ module _ {E W S : Type 0} (A : Analysis E W S) (t : Listings E) where
   fault_breaks at b given Entry fault stands = fault
   fault_breaks at b given (Undecodable a w) fault stands = subst (Tells A b) fault.1 stands.tells
   fault_breaks at b given (TooManyTargets a w) fault stands = subst (Tells A b) fault.1.1 stands.tells
-  fault_breaks at b given (Targets a) fault stands = let tells = subst (Tells A b) fault.1.3 stands.tells in fault.1.4 (tells.0, tells.1)
-  fault_breaks at b given (Use a) fault stands = let tells = subst (Tells A b) fault.1.3 stands.tells in fault.1.5 tells.2
+  fault_breaks at b given (Targets a) fault stands = fault.1.1 (by_stands b given stands).lists
+  fault_breaks at b given (Use a) fault stands = fault.1.2 (by_stands b given stands).uses
   fault_breaks at b given (Open a to) fault stands =
-      let reaches = subst (Reaches A t) fault.1.3 stands.reaches in
-      let open_ = fault.1.6 in
-      open_.is_open (each_at (λ to. IsTrue (is_code A.code to) → IsAbsorbed A t fault.1.1 to) fault.1.0 to reaches open_.target open_.code)
+      let left = fault.1.3.is_open in
+      left.1.2 (each_at (λ c. IsTrue (is_code A.code c.0) → IsAbsorbed A t c.1 c.0) (arrivals_of given) (to, left.1.0) (by_stands b given stands).absorbed left.1.1 left.0)
 
   -- ---- all addresses
   -- a fault at an address is that of its block
@@ -273,11 +344,10 @@ module _ {E W S : Type 0} (A : Analysis E W S) (t : Listings E) where
 
   -- ---- two verdicts
   -- a block has one fault
-  open_one : (x y : E) (ts ts' : List ℕ) (to to' : ℕ) → x ≡ y → ts ≡ ts' → IsLeastOpen A t x ts to → IsLeastOpen A t y ts' to' → to ≡ to'
-  open_one x y ts ts' to to' ex ets h k =
-      let other : IsLeastOpen A t x ts to' = subst (λ x. IsLeastOpen A t x ts to') (sym ex) (subst (λ ts. IsLeastOpen A t y ts to') (sym ets) k) in
-      let a = h.least to' other.target other.code other.is_open in
-      let b = other.least to h.target h.code h.is_open in
+  open_one : (arrivals : List (ℕ × E)) (to other : ℕ) → IsLeastOpen A t arrivals to → IsLeastOpen A t arrivals other → to ≡ other
+  open_one arrivals to other h k =
+      let a = h.least other k.is_open in
+      let b = k.least to h.is_open in
       omega (arith, a, b)
 
   -- two verdicts that are faults of one block are one
@@ -288,47 +358,29 @@ module _ {E W S : Type 0} (A : Analysis E W S) (t : Listings E) where
   fault_one at b given v Entry h k = absurd k
   fault_one at b given (Undecodable a x) (Undecodable c y) h k = let e = h.0 in let f = k.0 in let m = h.1 in let n = k.1 in cc
   fault_one at b given (Undecodable a x) (TooManyTargets c y) h k = let m = h.1 in let n = k.1.1 in cc
-  fault_one at b given (Undecodable a x) (Targets c) h k = let m = h.1 in let n = k.1.3 in cc
-  fault_one at b given (Undecodable a x) (Use c) h k = let m = h.1 in let n = k.1.3 in cc
-  fault_one at b given (Undecodable a x) (Open c y) h k = let m = h.1 in let n = k.1.3 in cc
+  fault_one at b given (Undecodable a x) (Targets c) h k = absurd (subst Moves h.1 k.1.0)
+  fault_one at b given (Undecodable a x) (Use c) h k = absurd (subst Moves h.1 k.1.0)
+  fault_one at b given (Undecodable a x) (Open c y) h k = absurd (subst Moves h.1 k.1.0)
   fault_one at b given (TooManyTargets a x) (Undecodable c y) h k = let m = h.1.1 in let n = k.1 in cc
   fault_one at b given (TooManyTargets a x) (TooManyTargets c y) h k = let e = h.0 in let f = k.0 in let m = h.1.1 in let n = k.1.1 in cc
-  fault_one at b given (TooManyTargets a x) (Targets c) h k = let m = h.1.1 in let n = k.1.3 in cc
-  fault_one at b given (TooManyTargets a x) (Use c) h k = let m = h.1.1 in let n = k.1.3 in cc
-  fault_one at b given (TooManyTargets a x) (Open c y) h k = let m = h.1.1 in let n = k.1.3 in cc
-  fault_one at b given (Targets a) (Undecodable c y) h k = let m = h.1.3 in let n = k.1 in cc
-  fault_one at b given (Targets a) (TooManyTargets c y) h k = let m = h.1.3 in let n = k.1.1 in cc
+  fault_one at b given (TooManyTargets a x) (Targets c) h k = absurd (subst Moves h.1.1 k.1.0)
+  fault_one at b given (TooManyTargets a x) (Use c) h k = absurd (subst Moves h.1.1 k.1.0)
+  fault_one at b given (TooManyTargets a x) (Open c y) h k = absurd (subst Moves h.1.1 k.1.0)
+  fault_one at b given (Targets a) (Undecodable c y) h k = absurd (subst Moves k.1 h.1.0)
+  fault_one at b given (Targets a) (TooManyTargets c y) h k = absurd (subst Moves k.1.1 h.1.0)
   fault_one at b given (Targets a) (Targets c) h k = let e = h.0 in let f = k.0 in cc
-  fault_one at b given (Targets a) (Use c) h k =
-      let same : h.1.0 ≡ k.1.0 = let m = h.1.3 in let n = k.1.3 in cc in
-      absurd (h.1.4 (subst (ListsTargets A t b) (sym same) k.1.4))
-  fault_one at b given (Targets a) (Open c y) h k =
-      let same : h.1.0 ≡ k.1.0 = let m = h.1.3 in let n = k.1.3 in cc in
-      absurd (h.1.4 (subst (ListsTargets A t b) (sym same) k.1.4))
-  fault_one at b given (Use a) (Undecodable c y) h k = let m = h.1.3 in let n = k.1 in cc
-  fault_one at b given (Use a) (TooManyTargets c y) h k = let m = h.1.3 in let n = k.1.1 in cc
-  fault_one at b given (Use a) (Targets c) h k =
-      let same : h.1.0 ≡ k.1.0 = let m = h.1.3 in let n = k.1.3 in cc in
-      absurd (k.1.4 (subst (ListsTargets A t b) same h.1.4))
+  fault_one at b given (Targets a) (Use c) h k = absurd (h.1.1 k.1.1)
+  fault_one at b given (Targets a) (Open c y) h k = absurd (h.1.1 k.1.1)
+  fault_one at b given (Use a) (Undecodable c y) h k = absurd (subst Moves k.1 h.1.0)
+  fault_one at b given (Use a) (TooManyTargets c y) h k = absurd (subst Moves k.1.1 h.1.0)
+  fault_one at b given (Use a) (Targets c) h k = absurd (k.1.1 h.1.1)
   fault_one at b given (Use a) (Use c) h k = let e = h.0 in let f = k.0 in cc
-  fault_one at b given (Use a) (Open c y) h k =
-      let same : h.1.2 ≡ k.1.2 = let m = h.1.3 in let n = k.1.3 in cc in
-      absurd (h.1.5 (k.1.5 ∙ sym same))
-  fault_one at b given (Open a x) (Undecodable c y) h k = let m = h.1.3 in let n = k.1 in cc
-  fault_one at b given (Open a x) (TooManyTargets c y) h k = let m = h.1.3 in let n = k.1.1 in cc
-  fault_one at b given (Open a x) (Targets c) h k =
-      let same : h.1.0 ≡ k.1.0 = let m = h.1.3 in let n = k.1.3 in cc in
-      absurd (k.1.4 (subst (ListsTargets A t b) same h.1.4))
-  fault_one at b given (Open a x) (Use c) h k =
-      let same : h.1.2 ≡ k.1.2 = let m = h.1.3 in let n = k.1.3 in cc in
-      absurd (k.1.5 (h.1.5 ∙ same))
-  fault_one at b given (Open a x) (Open c y) h k =
-      let e = h.0 in
-      let f = k.0 in
-      let targets : h.1.0 ≡ k.1.0 = let m = h.1.3 in let n = k.1.3 in cc in
-      let elems : h.1.1 ≡ k.1.1 = let m = h.1.3 in let n = k.1.3 in cc in
-      let to = open_one h.1.1 k.1.1 h.1.0 k.1.0 x y elems targets h.1.6 k.1.6 in
-      cc
+  fault_one at b given (Use a) (Open c y) h k = absurd (h.1.2 k.1.2)
+  fault_one at b given (Open a x) (Undecodable c y) h k = absurd (subst Moves k.1 h.1.0)
+  fault_one at b given (Open a x) (TooManyTargets c y) h k = absurd (subst Moves k.1.1 h.1.0)
+  fault_one at b given (Open a x) (Targets c) h k = absurd (k.1.1 h.1.1)
+  fault_one at b given (Open a x) (Use c) h k = absurd (k.1.2 h.1.2)
+  fault_one at b given (Open a x) (Open c y) h k = let e = h.0 in let f = k.0 in let to = open_one (arrivals_of given) x y h.1.3 k.1.3 in cc
 
   first_one : (v w : Verdict W) → IsFirstFault A t v → IsFirstFault A t w → v ≡ w
   first_one v w h k =

@@ -4,7 +4,7 @@ use Rattle.base_trait.specs.Lists.{Each, IsAmong}
 use Rattle.base_trait.specs.Uses.{AreCovering, Read, Seen}
 use Rattle.fixpoint_theory.specs.Analysis.{Analysis}
 use Rattle.fixpoint_theory.specs.Code.{is_code}
-use Rattle.fixpoint_theory.specs.Outcome.{Outcome, moves, too_many, undecodable}
+use Rattle.fixpoint_theory.specs.Outcome.{Outcome, moves, sends, too_many, undecodable}
 use Rattle.fixpoint_theory.specs.Table.{Listings}
 
 -- Why a run stops: its counter is no code address, the code word has no decoding, or an activation had no turn left.
@@ -52,8 +52,8 @@ module _ {E W S : Type 0} (A : Analysis E W S) (M : Machine S) where
   AreSeen uses reads = IsTrue A.stamped → Each (AreCovering uses) reads
 
   -- What a transfer gives describes a step: the next counter is a target, the element behind the instruction holds
-  -- of the next state, and the uses cover the reads. Where the targets are too many the uses do alone. Of a step
-  -- without a turn left nothing is said.
+  -- of the next state, and the uses cover the reads. Of cases an element that arrives at the next counter holds of it.
+  -- Where the targets are too many the uses do alone. Of a step without a turn left nothing is said.
   abbrev pub Describes : Outcome E W → Step S → Type 0
   Describes (undecodable word) step = Unit {0}
   Describes (too_many shown uses) (stops _) = Unit {0}
@@ -62,6 +62,10 @@ module _ {E W S : Type 0} (A : Analysis E W S) (M : Machine S) where
   Describes (moves targets post uses) (stops _) = ⊥
   Describes (moves targets post uses) (goes next reads) =
       IsAmong (M.counter next) targets × IsSomeAnd post (λ x. A.elements.holds x next) × AreSeen uses reads
+  Describes (sends arrivals uses) (stops deep) = Unit {0}
+  Describes (sends arrivals uses) (stops _) = ⊥
+  Describes (sends arrivals uses) (goes next reads) =
+      ((x : E) × IsAmong (M.counter next, x) arrivals × A.elements.holds x next) × AreSeen uses reads
 
   -- The analysis is sound for the machine.
   pub record IsSound : Type 0 where

@@ -4,7 +4,7 @@ use Rattle.base_trait.specs.Lists.{AreAmong, Each, IsAscending}
 use Rattle.base_trait.specs.Uses.{Seen}
 use Rattle.fixpoint_theory.specs.Analysis.{Analysis}
 use Rattle.fixpoint_theory.specs.Code.{inside, is_code, outside, stamps_of}
-use Rattle.fixpoint_theory.specs.Outcome.{AreOfStamps, Outcome, moves, too_many, undecodable}
+use Rattle.fixpoint_theory.specs.Outcome.{AreOfStamps, Outcome, addresses, moves, sends, too_many, undecodable}
 use Rattle.fixpoint_theory.specs.WorklistState.{WorklistState, Reached}
 
 -- What a table lists of an address: its element, the next addresses and the exits, and the uses.
@@ -28,12 +28,14 @@ module _ {E W S : Type 0} (A : Analysis E W S) where
   Tells b (undecodable word) = ⊥
   Tells b (too_many shown uses) = ⊥
   Tells b (moves targets post uses) = (b.next ≡ inside A.code targets) × (b.exits ≡ outside A.code targets) × (b.uses ≡ uses)
+  Tells b (sends arrivals uses) = (b.next ≡ inside A.code (addresses arrivals)) × (b.exits ≡ outside A.code (addresses arrivals)) × (b.uses ≡ uses)
 
-  -- Each target that is a code address is listed, with an element that absorbs the one behind the instruction.
+  -- Each target that is a code address is listed, with an element that absorbs the one behind the instruction, or the one that arrives there.
   abbrev pub Reaches : Listings E → Outcome E W → Type 0
   Reaches t (undecodable word) = ⊥
   Reaches t (too_many shown uses) = ⊥
   Reaches t (moves targets post uses) = IfSome post (λ x. Each (λ to. IsTrue (is_code A.code to) → IsAbsorbed t x to) targets)
+  Reaches t (sends arrivals uses) = Each (λ a. IsTrue (is_code A.code a.0) → IsAbsorbed t a.1 a.0) arrivals
 
   -- A closed table is a certificate.
   pub record IsClosed (t : Listings E) : Type 0 where

@@ -6,7 +6,7 @@ use Rattle.base_trait.specs.Stamps.{same_stamp}
 use Rattle.base_trait.specs.Uses.{Seen}
 use Rattle.fixpoint_theory.specs.Analysis.{Analysis}
 use Rattle.fixpoint_theory.specs.Code.{inside, is_code, outside}
-use Rattle.fixpoint_theory.specs.Outcome.{Outcome, moves, too_many, undecodable}
+use Rattle.fixpoint_theory.specs.Outcome.{Moves, Outcome, addresses, arrivals_of, moves, sends, targets_of, too_many, undecodable, uses_of}
 use Rattle.fixpoint_theory.specs.Table.{IsAbsorbed, IsClosed, Listing, Listings, Reaches, Tells}
 use Rattle.fixpoint_theory.specs.declared.verdict.Verdict.{Verdict}
 use Rattle.fixpoint_theory.specs.declared.verdict.Verdict.TheVariants.{Accepted, Entry, Open, Undecodable, TooManyTargets, Targets, Use}
@@ -41,6 +41,11 @@ module _ {E W S : Type 0} (A : Analysis E W S) (t : Listings E) where
   first_open x [] = None
   first_open x (to ∷ rest) = if is_open x to then Some to else first_open x rest
 
+  -- of what cases send, the first address at which it is
+  abbrev pub first_open_sent : List (ℕ × E) → Option ℕ
+  first_open_sent [] = None
+  first_open_sent (a ∷ rest) = if is_open a.1 a.0 then Some a.0 else first_open_sent rest
+
   -- what fails of the targets of an address
   abbrev pub open_at : ℕ → Option ℕ → Option (Verdict W)
   open_at at None = None
@@ -57,6 +62,9 @@ module _ {E W S : Type 0} (A : Analysis E W S) (t : Listings E) where
   fault_of at b (moves targets post uses) =
       if not (lists_targets A b targets) then Some (Targets at)
       else (if not (same_list same_use b.uses uses) then Some (Use at) else open_from at post targets)
+  fault_of at b (sends arrivals uses) =
+      if not (lists_targets A b (addresses arrivals)) then Some (Targets at)
+      else (if not (same_list same_use b.uses uses) then Some (Use at) else open_at at (first_open_sent arrivals))
 
   abbrev pub fault_at : ℕ → Option (Listing E) → Option (Verdict W)
   fault_at at None = None
@@ -93,12 +101,14 @@ module _ {E W S : Type 0} (A : Analysis E W S) (t : Listings E) where
   abbrev pub EntryStands : Type 0
   EntryStands = IsTrue (is_code A.code A.start) → IsAbsorbed A t A.entry A.start
 
-  -- the least target that is a code address where no element absorbs the one behind the instruction
-  pub record IsLeastOpen (x : E) (targets : List ℕ) (to : ℕ) : Type 0 where
-    pub target : IsAmong to targets
-    pub code : IsTrue (is_code A.code to)
-    pub is_open : IsAbsorbed A t x to → ⊥
-    pub least : (other : ℕ) → IsAmong other targets → IsTrue (is_code A.code other) → (IsAbsorbed A t x other → ⊥) → to ≤ other
+  -- an element arrives at an address that is a code address, where no element absorbs it
+  abbrev pub IsLeftOpen : List (ℕ × E) → ℕ → Type 0
+  IsLeftOpen arrivals to = IsTrue (is_code A.code to) × ((x : E) × IsAmong (to, x) arrivals × (IsAbsorbed A t x to → ⊥))
+
+  -- the least such address
+  pub record IsLeastOpen (arrivals : List (ℕ × E)) (to : ℕ) : Type 0 where
+    pub is_open : IsLeftOpen arrivals to
+    pub least : (other : ℕ) → IsLeftOpen arrivals other → to ≤ other
 
   -- the transfer has a list of targets with these parts
   abbrev pub ListsTargets : Listing E → List ℕ → Type 0
@@ -110,14 +120,10 @@ module _ {E W S : Type 0} (A : Analysis E W S) (t : Listings E) where
   IsFault at b given Entry = ⊥
   IsFault at b given (Undecodable where_ word) = (where_ ≡ at) × (given ≡ undecodable word)
   IsFault at b given (TooManyTargets where_ shown) = (where_ ≡ at) × ((uses : List Seen) × (given ≡ too_many shown uses))
-  IsFault at b given (Targets where_) =
-      (where_ ≡ at) × ((targets : List ℕ) × (post : Option E) × (uses : List Seen) × (given ≡ moves targets post uses) × (ListsTargets b targets → ⊥))
-  IsFault at b given (Use where_) =
-      (where_ ≡ at)
-      × ((targets : List ℕ) × (post : Option E) × (uses : List Seen) × (given ≡ moves targets post uses) × ListsTargets b targets × (b.uses ≡ uses → ⊥))
+  IsFault at b given (Targets where_) = (where_ ≡ at) × (Moves given × (ListsTargets b (targets_of given) → ⊥))
+  IsFault at b given (Use where_) = (where_ ≡ at) × (Moves given × ListsTargets b (targets_of given) × (b.uses ≡ uses_of given → ⊥))
   IsFault at b given (Open where_ to) =
-      (where_ ≡ at)
-      × ((targets : List ℕ) × (x : E) × (uses : List Seen) × (given ≡ moves targets (Some x) uses) × ListsTargets b targets × (b.uses ≡ uses) × IsLeastOpen x targets to)
+      (where_ ≡ at) × (Moves given × ListsTargets b (targets_of given) × (b.uses ≡ uses_of given) × IsLeastOpen (arrivals_of given) to)
 
   -- The fault is that of the least listed address whose block does not stand.
   pub record IsFirstFault (v : Verdict W) : Type 0 where

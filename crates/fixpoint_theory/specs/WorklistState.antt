@@ -3,7 +3,7 @@
 use Rattle.std.specs.Prelude.{◌≡◌, ℕ, ◌+◌, ◌≤◌, ◌==◌, nat_lt, Bool, true, false, IsTrue, List, [], ◌∷◌, Option, Some, None, ◌⊎◌, fold, if◌then◌else◌}
 use Rattle.fixpoint_theory.specs.Analysis.{Analysis, IsOf}
 use Rattle.fixpoint_theory.specs.Code.{is_code}
-use Rattle.fixpoint_theory.specs.Outcome.{Moves, Outcome, moves, too_many, undecodable}
+use Rattle.fixpoint_theory.specs.Outcome.{Moves, Outcome, moves, sends, too_many, undecodable}
 
 -- An address that was reached: its element, how often that changed, and whether it is pending.
 pub record Reached (E : Type 0) : Type 0 where
@@ -60,10 +60,15 @@ module _ {E W S : Type 0} (A : Analysis E W S) where
   arrive_all None targets p = p
   arrive_all (Some new) targets p = fold (arrive new) p targets
 
+  -- each element that cases send arrives at its address, where that is a code address
+  abbrev pub arrive_as_sent : List (ℕ × E) → WorklistState E → WorklistState E
+  arrive_as_sent arrivals p = fold (λ q a. arrive a.1 q a.0) p arrivals
+
   abbrev pub sent : Outcome E W → WorklistState E → WorklistState E
   sent (undecodable word) p = p
   sent (too_many shown uses) p = p
   sent (moves targets post uses) p = arrive_all post targets p
+  sent (sends arrivals uses) p = arrive_as_sent arrivals p
 
   -- the transfer of what stands at an address, which is then no longer pending
   abbrev pub transferred_from : Option (Reached E) → WorklistState E → ℕ → WorklistState E

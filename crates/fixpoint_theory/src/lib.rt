@@ -18,7 +18,7 @@
 //! |---|---|---|
 //! | elements | specs/Elements | the algebra: which states an element describes, joins, widening, absorption, rank and height, stamps, and its laws |
 //! | code | specs/Code | the addresses of code words, ascending, whatever the segments of the image; at most 262,144 |
-//! | outcome | specs/Outcome | what a transfer gives: no decoding, too many targets with uses, or targets with an element and uses |
+//! | outcome | specs/Outcome | what a transfer gives: no decoding, too many targets with uses, or targets with an element and uses; of an element that was split, what its cases send to each address, with uses |
 //! | analysis | specs/Analysis | elements, code, entry and transfer in one record, and the laws that all rests on |
 //! | worklist state | specs/WorklistState | what stands at each address after the transfers of a trace; a trace is *legal* where each address is the least pending one at its turn and has targets, and *full* where nothing is pending at its end |
 //! | table | specs/Table | what is listed of each address; a table is *closed* where it is a certificate: it absorbs the entry, lists the targets and uses of each transfer, and absorbs what each transfer gives at each target |
@@ -92,6 +92,6 @@ mod verdict;
 pub use analyser::Analyser;
 pub use described::Described;
 pub use table::{Block, Table};
-pub use targets::{exits_of, next_of};
-pub use transfer::{Targets, Transfer, Transferred};
+pub use targets::{addresses_of, exits_of, next_of};
+pub use transfer::{Arrival, Targets, Transfer, Transferred};
 pub use verdict::Verdict;

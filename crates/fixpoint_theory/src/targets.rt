@@ -1,10 +1,13 @@
 //! Targets inside the code and outside.
 
-ghost use Rattle.std.specs.Prelude.{◌≡◌, ℕ, List, IfOk};
+ghost use Rattle.std.specs.Prelude.{◌≡◌, ℕ, List, IfOk, map};
 ghost use Rattle.fixpoint_theory.specs.Analysis.{Analysis};
 ghost use Rattle.fixpoint_theory.specs.Code.{inside, is_code, outside};
+ghost use Rattle.fixpoint_theory.specs.Outcome.{addresses};
+ghost use Rattle.fixpoint_theory.specs.Views.{arriving};
 
 use crate::analyser::Analyser;
+use crate::transfer::Arrival;
 use std::alloc::{AllocError as NoMemory, Global};
 
 /// Those of targets that are code addresses.
@@ -39,4 +42,18 @@ pub fn exits_of<A: Analyser>(
         }
     }
     Ok(exits)
+}
+
+/// The addresses at which something arrives.
+pub fn addresses_of<A: Analyser>(
+    alloc: Global,
+    arrivals: &[Arrival<A::Element>],
+) -> Result<Vec<u32>, NoMemory>
+    ensures { IfOk result (λ r. r.items ≡ addresses (map (arriving A.view) arrivals.now)) }
+{
+    let mut out = Vec::new(alloc);
+    for sent in arrivals {
+        out.push(sent.to)?;
+    }
+    Ok(out)
 }

@@ -18,9 +18,23 @@ pub struct Transfer<E, W> {
     pub uses: Vec<Use>,
 }
 
-/// A transfer, or the code word that has no decoding.
+/// An element that arrives at an address.
+#[derive(Drop)]
+pub struct Arrival<E> {
+    pub to: u32,
+    pub elem: E,
+}
+
+/// A transfer, or the code word that has no decoding; or, of cases, what arrives at each address that the new counter
+/// may be, by ascending addresses, and the uses of all cases.
 #[derive(Drop)]
 pub enum Transferred<E, W> {
-    Undecodable { word: u32 },
+    Undecodable {
+        word: u32,
+    },
     Made(Transfer<E, W>),
+    Sent {
+        arrivals: Vec<Arrival<E>>,
+        uses: Vec<Use>,
+    },
 }

@@ -1,9 +1,10 @@
 -- Arrivals and transfers keep what fits.
 use Rattle.std.proofs.Common.{◌≡◌, ℕ, true, false, List, [], ◌∷◌, Option, None, Some, IsTrue, nat_lt, if◌then◌else◌, sym, subst}
 use Rattle.std.specs.Prelude.{fold}
+use Rattle.base_trait.specs.Lists.{Each}
 use Rattle.fixpoint_theory.specs.Analysis.{Analysis, AnalysisLaws}
 use Rattle.fixpoint_theory.specs.Code.{is_code}
-use Rattle.fixpoint_theory.specs.WorklistState.{AllFine, IsFine, WorklistState, Reached, arrive, arrival, arrived, changed, done, grown}
+use Rattle.fixpoint_theory.specs.WorklistState.{AllFine, IsFine, WorklistState, Reached, arrive, arrive_as_sent, arrival, arrived, changed, done, grown}
 use Rattle.fixpoint_theory.proofs.Growth.{by_bool, by_change}
 use Rattle.fixpoint_worklist.specs.Fitting.{AllFit, IsFit}
 
@@ -38,6 +39,10 @@ module _ {E W S : Type 0} (A : Analysis E W S) (laws : AnalysisLaws A) where
   pub all_fit : (new : E) (targets : List ℕ) (p : WorklistState E) → A.elements.fits new → AllFit A p → AllFit A (fold (arrive A new) p targets)
   all_fit new [] p fits fit = fit
   all_fit new (to ∷ rest) p fits fit = all_fit new rest (arrive A new p to) fits (arrive_fit new p to fits fit)
+
+  pub each_fit : (arrivals : List (ℕ × E)) (p : WorklistState E) → Each (λ a. A.elements.fits a.1) arrivals → AllFit A p → AllFit A (arrive_as_sent A arrivals p)
+  each_fit [] p fits fit = fit
+  each_fit (a ∷ rest) p fits fit = each_fit rest (arrive A a.1 p a.0) fits.1 (arrive_fit a.1 p a.0 fits.0 fit)
 
   done_fit : (a : ℕ) (x : Option (Reached E)) → IsFit A a x → IsFit A a (done x)
   done_fit a None fit = fit

@@ -2,10 +2,11 @@
 use Rattle.std.proofs.Common.{◌≡◌, ◌∙◌, ℕ, ◌+◌, min, true, false, List, [], ◌∷◌, Option, None, Some, nat_lt, if◌then◌else◌, arith, refl, sym, subst}
 use Rattle.std.specs.Prelude.{fold}
 use Rattle.std.proofs.lemmas.Bool.Decides.{nat_tests}
+use Rattle.base_trait.specs.Lists.{Each}
 use Rattle.fixpoint_theory.specs.Analysis.{Analysis, AnalysisLaws}
 use Rattle.fixpoint_theory.specs.Code.{is_code}
-use Rattle.fixpoint_theory.specs.Outcome.{IfPost, Outcome, SameOutcome, moves, too_many, undecodable}
-use Rattle.fixpoint_theory.specs.WorklistState.{WorklistState, Reached, arrive, arrival, arrived, changed, done, grown, sent, transferred, transferred_from}
+use Rattle.fixpoint_theory.specs.Outcome.{AreSameArrivals, IfPost, Outcome, SameOutcome, moves, sends, too_many, undecodable}
+use Rattle.fixpoint_theory.specs.WorklistState.{WorklistState, Reached, arrive, arrive_as_sent, arrival, arrived, changed, done, grown, sent, transferred, transferred_from}
 use Rattle.fixpoint_theory.proofs.Growth.{by_bool, by_same}
 use Rattle.fixpoint_worklist.proofs.Fitting.{arrive_fit, one_done_fit}
 use Rattle.fixpoint_worklist.specs.Fitting.{AllFit, IsFit}
@@ -82,6 +83,16 @@ module _ {E W S : Type 0} (A : Analysis E W S) (laws : AnalysisLaws A) where
   all_like x y (to ∷ rest) p q fx fy fp fq same like =
       all_like x y rest (arrive A x p to) (arrive A y q to) fx fy (arrive_fit A laws x p to fx fp) (arrive_fit A laws y q to fy fq) same (arrive_like x y p q to fx fy fp fq same like)
 
+  pub each_like : (xs ys : List (ℕ × E)) (p q : WorklistState E) → Each (λ a. A.elements.fits a.1) xs → Each (λ a. A.elements.fits a.1) ys → AllFit A p → AllFit A q → AreSameArrivals A.elements xs ys
+      → AllLike A p q → AllLike A (arrive_as_sent A xs p) (arrive_as_sent A ys q)
+  each_like [] [] p q fx fy fp fq same like = like
+  each_like [] (y ∷ ys) p q fx fy fp fq same like = absurd same
+  each_like (x ∷ xs) [] p q fx fy fp fq same like = absurd same
+  each_like (x ∷ xs) (y ∷ ys) p q fx fy fp fq same like =
+      let here : AllLike A (arrive A x.1 p x.0) (arrive A y.1 q y.0) =
+      subst (λ to. AllLike A (arrive A x.1 p x.0) (arrive A y.1 q to)) same.0 (arrive_like x.1 y.1 p q x.0 fx.0 fy.0 fp fq same.1 like) in
+      each_like xs ys (arrive A x.1 p x.0) (arrive A y.1 q y.0) fx.1 fy.1 (arrive_fit A laws x.1 p x.0 fx.0 fp) (arrive_fit A laws y.1 q y.0 fy.0 fq) same.2 here
+
   pub sent_like : (given told : Outcome E W) (p q : WorklistState E) → IfPost A.elements.fits given → IfPost A.elements.fits told → AllFit A p → AllFit A q → SameOutcome A.elements given told → AllLike A p q → AllLike A (sent A given p) (sent A told q)
   sent_like (undecodable word) (undecodable other) p q fx fy fp fq same like = like
   sent_like (undecodable word) (too_many w us') p q fx fy fp fq same like = absurd same
@@ -91,6 +102,13 @@ module _ {E W S : Type 0} (A : Analysis E W S) (laws : AnalysisLaws A) where
   sent_like (too_many v us) (moves ts y us') p q fx fy fp fq same like = absurd same
   sent_like (moves ts x us) (undecodable other) p q fx fy fp fq same like = absurd same
   sent_like (moves ts x us) (too_many w us') p q fx fy fp fq same like = absurd same
+  sent_like (undecodable word) (sends ys us) p q fx fy fp fq same like = absurd same
+  sent_like (too_many v us) (sends ys us') p q fx fy fp fq same like = absurd same
+  sent_like (moves ts x us) (sends ys us') p q fx fy fp fq same like = absurd same
+  sent_like (sends xs us) (undecodable other) p q fx fy fp fq same like = absurd same
+  sent_like (sends xs us) (too_many w us') p q fx fy fp fq same like = absurd same
+  sent_like (sends xs us) (moves ts y us') p q fx fy fp fq same like = absurd same
+  sent_like (sends xs us) (sends ys us') p q fx fy fp fq same like = each_like xs ys p q fx fy fp fq same.0 like
   sent_like (moves ts None us) (moves ts' None us') p q fx fy fp fq same like = like
   sent_like (moves ts None us) (moves ts' (Some y) us') p q fx fy fp fq same like = absurd same.1
   sent_like (moves ts (Some x) us) (moves ts' None us') p q fx fy fp fq same like = absurd same.1

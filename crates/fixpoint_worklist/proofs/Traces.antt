@@ -3,7 +3,7 @@ use Rattle.std.proofs.Common.{◌≡◌, ◌∙◌, ℕ, ◌+◌, ◌*◌, ◌�
 use Rattle.std.specs.Prelude.{IsSomeAnd, fold}
 use Rattle.base_trait.specs.Uses.{Seen}
 use Rattle.fixpoint_theory.specs.Analysis.{Analysis, AnalysisLaws, height_of}
-use Rattle.fixpoint_theory.specs.Outcome.{Moves, Outcome, SameOutcome, moves, too_many, undecodable}
+use Rattle.fixpoint_theory.specs.Outcome.{Moves, Outcome, SameOutcome, moves, sends, too_many, undecodable}
 use Rattle.fixpoint_theory.specs.WorklistState.{IsComplete, IsLeastPending, IsLegal, IsLegalFrom, IsStopped, WorklistState, Reached, begin, worklist_state, transferred}
 use Rattle.fixpoint_theory.proofs.Closing.{begin_fine, legal_fine}
 use Rattle.fixpoint_theory.proofs.Potential.{begin_left, legal_left, transferred_left}
@@ -19,16 +19,23 @@ has_too A (undecodable v) told same has = absurd has
 has_too A (too_many v us) told same has = absurd has
 has_too A (moves ts y us) (undecodable w) same has = same
 has_too A (moves ts y us) (too_many w us') same has = same
+has_too A (moves ts y us) (sends xs us') same has = absurd same
+has_too A (sends xs us) (undecodable w) same has = same
+has_too A (sends xs us) (too_many w us') same has = same
+has_too A (sends xs us) (moves ts y us') same has = absurd same
+has_too A (sends xs us) (sends ys us') same has = tt
 
 same_undecodable : {E W S : Type 0} (A : Analysis E W S) (w : ℕ) (told : Outcome E W) → SameOutcome A.elements (undecodable w) told → told ≡ undecodable w
 same_undecodable A w (undecodable v) same = cc
 same_undecodable A w (too_many v us) same = absurd same
 same_undecodable A w (moves ts y us) same = absurd same
+same_undecodable A w (sends xs us) same = absurd same
 
 pub same_too_many : {E W S : Type 0} (A : Analysis E W S) (w : W) (uses : List Seen) (told : Outcome E W) → SameOutcome A.elements (too_many w uses) told → told ≡ too_many w uses
 same_too_many A w uses (undecodable v) same = absurd same
 same_too_many A w uses (too_many v us) same = let word = same.0 in let list = same.1 in cc
 same_too_many A w uses (moves ts y us) same = absurd same
+same_too_many A w uses (sends xs us) same = absurd same
 
 fold_push : {B : Type 0} (f : B → ℕ → B) (b : B) (xs : List ℕ) (x : ℕ) → fold f b (xs ++ x ∷ []) ≡ f (fold f b xs) x
 fold_push f b [] x = refl

@@ -1,17 +1,19 @@
 //! Arrivals of elements at addresses.
 
-ghost use Rattle.std.specs.Prelude.{◌≡◌, ◌+◌, ◌<◌, ℕ, List, Some, None, true, false, min, fold, nat_lt, IsTrue, IfOk, IfSome, OnOk, if◌then◌else◌};
+ghost use Rattle.std.specs.Prelude.{◌≡◌, ◌+◌, ◌<◌, ℕ, List, Some, None, true, false, min, fold, map, nat_lt, IsTrue, IfOk, IfSome, OnOk, if◌then◌else◌};
+ghost use Rattle.base_trait.specs.Lists.{Each};
 ghost use Rattle.fixpoint_theory.specs.Analysis.{Analysis};
 ghost use Rattle.fixpoint_theory.specs.Code.{is_code};
 ghost use Rattle.fixpoint_theory.specs.Elements.{Elements};
-ghost use Rattle.fixpoint_theory.specs.WorklistState.{arrive, arrive_all, grown};
+ghost use Rattle.fixpoint_theory.specs.Views.{arriving};
+ghost use Rattle.fixpoint_theory.specs.WorklistState.{arrive, arrive_all, arrive_as_sent, grown};
 ghost use Rattle.fixpoint_worklist.specs.Fitting.{AllFit};
 ghost use Rattle.fixpoint_worklist.specs.Likeness.{AllLike};
 ghost use Rattle.fixpoint_worklist.specs.Settled.{AreSettled};
 ghost use Rattle.fixpoint_worklist.specs.Views.{IsReached, worklist_state_in};
 
 use crate::worklist::{Worklist, block_at, count_at, one_more, put_pending};
-use fixpoint_theory::Analyser;
+use fixpoint_theory::{Analyser, Arrival};
 use std::alloc::{AllocError as NoMemory, Global};
 
 /// What an element becomes that does not absorb a new one: its first changes join, later ones widen.
@@ -96,6 +98,30 @@ pub(crate) fn arrive_at_all<A: Analyser>(
 {
     for to in targets {
         arrive(analyser, alloc, work, new, *to)?;
+    }
+    Ok(())
+}
+
+/// Each of these elements arrives at its address, where that is a code address.
+pub(crate) fn arrive_as_sent<A: Analyser>(
+    analyser: &A,
+    alloc: Global,
+    work: &mut Worklist<A::Element>,
+    arrivals: &[Arrival<A::Element>],
+) -> Result<(), NoMemory>
+    requires ready { A.IsReady analyser.now }
+    requires reached { IsReached work.old }
+    requires fine { AllFit (A.analysis analyser.now) (worklist_state_in A.view work.old) }
+    requires settled { AreSettled A.view (A.analysis analyser.now) work.old }
+    requires fits { Each (λ a. (A.analysis analyser.now).elements.fits a.1) (map (arriving A.view) arrivals.now) }
+    ensures value { OnOk result (AllLike (A.analysis analyser.now) (worklist_state_in A.view work.new)
+        (arrive_as_sent (A.analysis analyser.now) (map (arriving A.view) arrivals.now) (worklist_state_in A.view work.old))) }
+    ensures fine { OnOk result (AllFit (A.analysis analyser.now) (worklist_state_in A.view work.new)) }
+    ensures settled { OnOk result (AreSettled A.view (A.analysis analyser.now) work.new) }
+    ensures reached { OnOk result (IsReached work.new) }
+{
+    for sent in arrivals {
+        arrive(analyser, alloc, work, &sent.elem, sent.to)?;
     }
     Ok(())
 }

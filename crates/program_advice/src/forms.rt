@@ -101,7 +101,7 @@ pub const COMMANDS: [CommandForm; 9] = [
 ];
 
 /// All options.
-pub const OPTIONS: [OptionForm; 8] = [
+pub const OPTIONS: [OptionForm; 9] = [
     OptionForm {
         name: "at",
         code: "--at",
@@ -136,6 +136,11 @@ pub const OPTIONS: [OptionForm; 8] = [
         name: "widen",
         code: "--widen",
         sample: "1",
+    },
+    OptionForm {
+        name: "cases",
+        code: "--cases",
+        sample: "0",
     },
     OptionForm {
         name: "open",

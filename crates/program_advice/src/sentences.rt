@@ -341,7 +341,7 @@ fn of_line(code: &str) -> Option<Sentence>
 }
 
 /// The sentences of options.
-const OPTIONS: [Sentence; 8] = [
+const OPTIONS: [Sentence; 9] = [
     Sentence {
         code: "--at",
         says: "1 to 8 hex digits: the address of the first code word",
@@ -369,12 +369,17 @@ const OPTIONS: [Sentence; 8] = [
     },
     Sentence {
         code: "--limit",
-        says: "1 to 4096: addresses at most to which an instruction may go",
+        says: "1 to 4096: addresses at most to which an instruction may go, or each case of it",
         advice: "",
     },
     Sentence {
         code: "--widen",
         says: "1 to 64: the change of an element from which on it is widened (\"Growth\")",
+        advice: "",
+    },
+    Sentence {
+        code: "--cases",
+        says: "0 to 8: how often over an element is split where an instruction compares a cell with a number (\"Cases\")",
         advice: "",
     },
     Sentence {

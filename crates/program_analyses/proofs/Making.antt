@@ -1,5 +1,5 @@
 -- What is made is a well-posed problem.
-use Rattle.std.proofs.Common.{◌≡◌, ◌∙◌, ℕ, ◌<◌, ◌≤◌, ◌^◌, List, [], ◌∷◌, Option, Some, None, length, refl, sym, subst, arith}
+use Rattle.std.proofs.Common.{◌≡◌, ℕ, ◌<◌, ◌^◌, List, [], ◌∷◌, Option, Some, None, length, refl, sym, subst, arith}
 use Rattle.std.specs.Prelude.{IfOk, IsSome, Result, Ok, Err}
 use Rattle.support_command_line.specs.Requests.{StressRequest}
 use Rattle.spec_ir.specs.declared.spec.Machine.{Machine as Numbers}
@@ -18,7 +18,7 @@ use Rattle.concrete_emulator.specs.Ends.{IsStateOf}
 use Rattle.semantics_laws.specs.Accepted.{IsAccepted}
 use Rattle.analysis_problems.specs.Problems.{problem_of}
 use Rattle.analysis_problems.proofs.WellPosed.{read_problems_are_well_posed}
-use Rattle.program_stress_code.specs.Entry.{entry_text, start_text}
+use Rattle.program_stress_code.specs.Entry.{entry_text}
 use Rattle.analysis_transfer_laws.specs.Problem.{IsWellFormedProblem}
 use Rattle.semantics_values.specs.States.{State}
 use Rattle.program_common.specs.declared.outcome.Halt.{Halt}
@@ -35,7 +35,7 @@ use Rattle.program_machine.specs.AnalysisEntry.{Enters}
 use Rattle.program_machine.specs.Inputs.{AnalysisInputs}
 use Rattle.program_machine.proofs.Images.{are_segments}
 use Rattle.program_machine.proofs.Problems.{text_entry}
-use Rattle.program_analyses.specs.Made.{MadeOf, StartOf, made_code}
+use Rattle.program_analyses.specs.Made.{MadeOf, made_code}
 
 -- ---- an image of one segment
 
@@ -79,11 +79,11 @@ made_parts request posed is =
 pub made_has_machine : (request : StressRequest) (posed : AnalysisInputs) → MadeOf request (Ok posed) → IsSome posed.spec.machine
 made_has_machine request posed is = specified_machine power_pc_text posed.spec (made_parts request posed is).spec
 
-pub made_is_well_posed : (request : StressRequest) (posed : AnalysisInputs) (m : Numbers) (limit joins : ℕ) → MadeOf request (Ok posed) → posed.spec.machine ≡ Some m → IsWellFormedProblem (problem_of posed.spec m posed.image posed.entry limit joins)
-made_is_well_posed request posed m limit joins is is_machine =
+pub made_is_well_posed : (request : StressRequest) (posed : AnalysisInputs) (m : Numbers) (limit joins cases : ℕ) → MadeOf request (Ok posed) → posed.spec.machine ≡ Some m → IsWellFormedProblem (problem_of posed.spec m posed.image posed.entry limit joins cases)
+made_is_well_posed request posed m limit joins cases is is_machine =
     let parts = made_parts request posed is in
     let given = text_entry posed.spec entry_text posed.entry parts.entry in
-    read_problems_are_well_posed addresses_are_those_of_words posed.spec m posed.image given.0 posed.entry limit joins (specified_accepted power_pc_text posed.spec parts.spec) is_machine
+    read_problems_are_well_posed addresses_are_those_of_words posed.spec m posed.image given.0 posed.entry limit joins cases (specified_accepted power_pc_text posed.spec parts.spec) is_machine
     (made_image (made_code request) posed.image parts.image) given.1
 
 -- the state from which the code runs is one of the machine's

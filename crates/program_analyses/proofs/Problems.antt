@@ -19,7 +19,7 @@ use Rattle.program_analyses.specs.Steps.{AnalysisOf, OpenTabledBy, TabledBy}
 
 pub read_is_well_posed : (reads : Reading) (request : AnalyseRequest) (posed : AnalysisInputs) (m : Numbers) → length request.code.parts ≤ 16 → PosedOf reads request.spec request.code request.entry (Ok posed)
     → posed.spec.machine ≡ Some m → IsWellFormedProblem (problem_in request posed m)
-read_is_well_posed reads request posed m few is is_machine = posed_is_well_posed reads request.spec request.code request.entry posed m request.limit request.joins few is is_machine
+read_is_well_posed reads request posed m few is is_machine = posed_is_well_posed reads request.spec request.code request.entry posed m request.limit request.joins request.cases few is is_machine
 
 -- ---- one of two tasks
 

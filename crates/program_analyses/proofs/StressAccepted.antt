@@ -1,5 +1,5 @@
 -- Where a stress answers, its table is accepted.
-use Rattle.std.proofs.Common.{◌≡◌, ℕ, List}
+use Rattle.std.proofs.Common.{ℕ, List}
 use Rattle.std.specs.Prelude.{Ok}
 use Rattle.support_command_line.specs.Requests.{StressRequest}
 use Rattle.semantics_values.specs.States.{State}
@@ -9,13 +9,13 @@ use Rattle.program_common.proofs.Steps.{opened}
 use Rattle.program_machine.specs.Inputs.{AnalysisInputs}
 use Rattle.program_analyses.specs.StressLaws.{IsStress, StressIsAccepted}
 use Rattle.program_analyses.specs.Made.{MadeOf, StartOf}
-use Rattle.program_analyses.specs.StressSteps.{MeasureOf, SummaryOf, problem_made, stress_joins, stress_limit}
+use Rattle.program_analyses.specs.StressSteps.{MeasureOf, SummaryOf, problem_made, stress_cases, stress_joins, stress_limit}
 use Rattle.program_analyses.proofs.Making.{made_is_well_posed}
 
 by_answer : (request : StressRequest) (posed : AnalysisInputs) (start : State) (answer : Answer) (bytes : List ℕ) → MadeOf request (Ok posed) → StartOf posed (Ok start) → MeasureOf request.base posed (Ok answer)
     → SummaryOf request.count posed start answer (Ok (text bytes)) → IsStress request bytes
 by_answer request posed start (text measured) bytes made starts is sums =
-    let posed_well = made_is_well_posed request posed is.machine stress_limit stress_joins made is.is_machine in
+    let posed_well = made_is_well_posed request posed is.machine stress_limit stress_joins stress_cases made is.is_machine in
     let found = measures_accept posed.image (problem_made posed is.machine) request.base measured posed_well is.measured in
     record { posed = posed; is_posed = made; start = start; starts = starts; measured = measured; is_measured = is; transfers = found.0; elements = found.1; accepted = found.2; summary = sums }
 by_answer request posed start (undecodable measured) bytes made starts is sums = absurd sums

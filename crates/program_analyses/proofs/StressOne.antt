@@ -1,5 +1,5 @@
 -- `stress` has one outcome.
-use Rattle.std.proofs.Common.{◌≡◌, ◌∙◌, ℕ, ◌+◌, List, [], ◌∷◌, Option, Some, None, refl, sym, ap, subst}
+use Rattle.std.proofs.Common.{◌≡◌, ◌∙◌, ℕ, ◌+◌, List, [], ◌∷◌, Some, refl, sym, ap, subst}
 use Rattle.std.specs.Prelude.{Result, Ok, Err}
 use Rattle.support_command_line.specs.declared.bases.BaseName.{BaseName}
 use Rattle.support_command_line.specs.Requests.{StressRequest}
@@ -23,7 +23,7 @@ use Rattle.program_stress_code.specs.Entry.{entry_text, start_text}
 use Rattle.program_stress_code.specs.Summary.{summary_text}
 use Rattle.program_domains.specs.Named.{Measured}
 use Rattle.program_domains.proofs.Measures.{measures_are_one, measures_have_some}
-use Rattle.program_common.specs.Outcome.{Answer, Outcome, Refusal, calls_ended, text, undecodable}
+use Rattle.program_common.specs.Outcome.{Answer, Refusal, calls_ended, text, undecodable}
 use Rattle.program_common.specs.Shipped.{power_pc_text}
 use Rattle.program_common.specs.Sources.{Specifies}
 use Rattle.program_common.specs.Steps.{Then, goes_on, refused}
@@ -38,7 +38,7 @@ use Rattle.program_machine.specs.Inputs.{AnalysisInputs}
 use Rattle.program_machine.proofs.Problems.{some_machine}
 use Rattle.program_analyses.specs.StressLaws.{StressHasOne, StressHasSome}
 use Rattle.program_analyses.specs.Made.{MadeOf, StartOf, made_code}
-use Rattle.program_analyses.specs.StressSteps.{IsSummary, MeasureOf, StressSteps, SummaryOf, problem_made, stress_joins, stress_limit, stress_turns}
+use Rattle.program_analyses.specs.StressSteps.{IsSummary, MeasureOf, SummaryOf, problem_made, stress_cases, stress_joins, stress_limit, stress_turns}
 use Rattle.program_analyses.proofs.Making.{made_has_machine, made_is_well_posed, made_parts, started_typed}
 
 -- ---- where the first step gives one thing, and the next does of what it gives
@@ -77,13 +77,13 @@ module _ (request : StressRequest) (posed : AnalysisInputs) (is : MadeOf request
   one_measure : IsOne (MeasureOf request.base posed)
   one_measure found other h k =
       let same = one_machine posed.spec h.machine k.machine h.is_machine k.is_machine in
-      measures_are_one posed.image (problem_made posed k.machine) request.base found other (made_is_well_posed request posed k.machine stress_limit stress_joins is k.is_machine)
+      measures_are_one posed.image (problem_made posed k.machine) request.base found other (made_is_well_posed request posed k.machine stress_limit stress_joins stress_cases is k.is_machine)
       (subst (λ (m : Numbers). Measured posed.image (problem_made posed m) request.base found) same h.measured) k.measured
 
   some_measure : IsTotal (MeasureOf request.base posed)
   some_measure =
       let m = some_machine posed.spec.machine (made_has_machine request posed is) in
-      let found = measures_have_some posed.image (problem_made posed m.0) request.base (made_is_well_posed request posed m.0 stress_limit stress_joins is m.1) in
+      let found = measures_have_some posed.image (problem_made posed m.0) request.base (made_is_well_posed request posed m.0 stress_limit stress_joins stress_cases is m.1) in
       (found.0, record { machine = m.0; is_machine = m.1; measured = found.1 })
 
 -- ---- summaries

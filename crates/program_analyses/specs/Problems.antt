@@ -10,7 +10,7 @@ use Rattle.program_machine.specs.Inputs.{AnalysisInputs}
 
 -- the problem of a machine with its code and an entry, under the limit of the request, where as many changes of an element join as it says
 abbrev pub problem_in : AnalyseRequest → AnalysisInputs → Machine → Problem
-problem_in request posed machine = problem_of posed.spec machine posed.image posed.entry request.limit request.joins
+problem_in request posed machine = problem_of posed.spec machine posed.image posed.entry request.limit request.joins request.cases
 
 -- the analysis of a problem, which is left open where the request says so
 abbrev pub task_in : AnalyseRequest → Problem → Task

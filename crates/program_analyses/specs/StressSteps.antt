@@ -1,7 +1,7 @@
 -- The steps of `stress`.
 use Rattle.std.specs.Prelude.{◌≡◌, ℕ, ◌+◌, List, Some, Ok}
 use Rattle.support_command_line.specs.declared.bases.BaseName.{BaseName}
-use Rattle.support_command_line.specs.Defaults.{default_calls, default_joins, default_limit}
+use Rattle.support_command_line.specs.Defaults.{default_calls, default_cases, default_joins, default_limit}
 use Rattle.support_command_line.specs.Requests.{StressRequest}
 use Rattle.spec_ir.specs.declared.spec.Machine.{Machine}
 use Rattle.state_text.specs.declared.stop.Stop.{Stop}
@@ -18,20 +18,23 @@ use Rattle.program_machine.specs.Running.{end_of}
 use Rattle.program_machine.specs.Inputs.{AnalysisInputs}
 use Rattle.program_analyses.specs.Made.{MadeOf, StartOf}
 
--- how many targets an instruction may have, how many changes of an element join before later ones widen, and how many turns an activation has:
--- as many as where no option says
+-- how many targets an instruction may have, how many changes of an element join before later ones widen, how often over an element is split, and how
+-- many turns an activation has: as many as where no option says
 abbrev pub stress_limit : ℕ
 stress_limit = default_limit
 
 abbrev pub stress_joins : ℕ
 stress_joins = default_joins
 
+abbrev pub stress_cases : ℕ
+stress_cases = default_cases
+
 abbrev pub stress_turns : ℕ
 stress_turns = default_calls
 
 -- the problem of what was made
 abbrev pub problem_made : AnalysisInputs → Machine → Problem
-problem_made posed machine = problem_of posed.spec machine posed.image posed.entry stress_limit stress_joins
+problem_made posed machine = problem_of posed.spec machine posed.image posed.entry stress_limit stress_joins stress_cases
 
 -- What is measured of its analysis over a base.
 pub record MeasureOf (base : BaseName) (posed : AnalysisInputs) (outcome : Outcome) : Type 0 where

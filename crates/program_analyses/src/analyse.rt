@@ -62,6 +62,7 @@ fn analysis_of<'a, L: Ledger>(
         entry: &posed.entry,
         limit: request.limit,
         joins: request.joins,
+        cases: request.cases,
     };
     let subject = Subject {
         spec: &posed.spec,

@@ -67,6 +67,7 @@ fn verdict_of<'a, L: Ledger>(
         entry: &posed.entry,
         limit: asked.limit,
         joins: asked.joins,
+        cases: asked.cases,
     };
     let subject = Subject {
         spec: &posed.spec,

@@ -70,6 +70,7 @@ fn answers_of<'a, L: Ledger>(
         entry: &posed.entry,
         limit: asked.limit,
         joins: asked.joins,
+        cases: asked.cases,
     };
     let subject = Subject {
         spec: &posed.spec,

@@ -77,6 +77,7 @@ fn slice_over<'a, L: Ledger>(
         entry: &posed.entry,
         limit: asked.limit,
         joins: asked.joins,
+        cases: asked.cases,
     };
     let subject = Subject {
         spec: &posed.spec,

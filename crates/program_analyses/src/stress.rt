@@ -26,7 +26,9 @@ use program_machine::AnalysisInputs;
 use semantics_values::State;
 use std::alloc::{AllocError, Global};
 use std::sync::ledger::Ledger;
-use support_command_line::{BaseName, DEFAULT_CALLS, DEFAULT_JOINS, DEFAULT_LIMIT, StressRequest};
+use support_command_line::{
+    BaseName, DEFAULT_CALLS, DEFAULT_CASES, DEFAULT_JOINS, DEFAULT_LIMIT, StressRequest,
+};
 use support_step_counter::Steps;
 
 /// The summary of a stress: code is made from a number, analysed over a base, its table is checked, and it runs.
@@ -67,6 +69,7 @@ fn measure_inputs<'a, L: Ledger>(
         entry: &posed.entry,
         limit: DEFAULT_LIMIT,
         joins: DEFAULT_JOINS,
+        cases: DEFAULT_CASES,
     };
     let subject = Subject {
         spec: &posed.spec,

@@ -2,6 +2,7 @@
 use Rattle.std.proofs.Common.{◌≡◌, ℕ, Bool, true, false, List, IsTrue, option_map, ap, refl, subst, ◌∙◌}
 use Rattle.std.specs.Prelude.{◌&&◌, ◌||◌, not}
 use Rattle.base_trait.specs.Algebra.{Algebra}
+use Rattle.base_cuts.specs.Cuts.{Cuts}
 use Rattle.base_product.specs.Meaning.{paired}
 use Rattle.spec_ir.specs.Specification.{Spec}
 use Rattle.abstract_value_laws.specs.Abs.{Parts}
@@ -32,6 +33,7 @@ module _ {X E W N C : Type 0} (view : X → E) (d : DomainOf E W N C) where
     cap = d.cap;
     elements = d.elements;
     meaning = d.meaning;
+    pieces = d.pieces;
     view = view;
     IsText = λ spec x. d.IsText spec (view x);
     Reads = λ spec is_word ls r left. d.Reads spec is_word ls (option_map view r) left;
@@ -50,10 +52,10 @@ module _ {V W M N C D : Type 0} (A : Algebra V M C) (B : Algebra W N D) where
   abbrev pub IsMadeFor : C → D → C × D → StateType → Spec → Type 0
   IsMadeFor one other c t spec = IsTrue (is_for (paired A B) t spec) × ((c.0 ≡ one) × (c.1 ≡ other))
 
-  module _ (low high : ℕ) (first second : List ℕ) (texts : Texts V M) (others : Texts W N) (readings : Readings V M) (later : Readings W N) where
+  module _ (K : Cuts V C) (L : Cuts W D) (low high : ℕ) (first second : List ℕ) (texts : Texts V M) (others : Texts W N) (readings : Readings V M) (later : Readings W N) where
     -- cells over two bases
     abbrev pub both_cells : C × D → StateType → DomainOf (Parts V M × Parts W N) (V × W) (M × N) (C × D)
-    both_cells c t = pair_of (cells_of t A c.0 low first texts readings) (cells_of t B c.1 high second others later)
+    both_cells c t = pair_of (cells_of t A K c.0 low first texts readings) (cells_of t B L c.1 high second others later)
 
     pub both_tie : {X : Type 0} (view : X → Parts V M × Parts W N) (c : C × D) (t : StateType) (one : C) (other : D) (spec : Spec) → IsMadeFor one other c t spec
         → Tie (own_by view (both_cells c t)) (told_by view (both_cells c t)) (both_cells (one, other) (state_type spec))

@@ -7,6 +7,8 @@ use Rattle.spec_ir.specs.Specification.{Spec}
 use Rattle.code_image.specs.Image.{Image, addresses}
 use Rattle.abstract_value_laws.specs.Abs.{Parts}
 use Rattle.fixpoint_theory.specs.Pairs.{paired as paired_elements}
+use Rattle.fixpoint_cases.specs.Pieces.{pair_piece, whole_piece}
+use Rattle.domain_cell_pieces.specs.Pieces.{cell_piece}
 use Rattle.fixpoint_theory.specs.Views.{listing, listings}
 use Rattle.fixpoint_theory.specs.declared.table.Block.{Block}
 use Rattle.fixpoint_theory.specs.declared.table.Table.{Table}
@@ -21,6 +23,7 @@ use Rattle.domain_affine_base.specs.Meaning.{affine}
 use Rattle.domain_affine_base.specs.declared.word.Word.{Word}
 use Rattle.domain_affine_laws.specs.Calls as relation
 use Rattle.domain_affine_laws.specs.Calls.{affine_calls, affine_elements}
+use Rattle.base_cuts.specs.Cuts.{Cuts}
 use Rattle.base_product.specs.Meaning.{paired}
 use Rattle.domain_product_laws.specs.Domain.{may_pair, pair_meaning}
 use Rattle.semantics_values.specs.declared.entry.KeyAt.{KeyAt}
@@ -126,7 +129,7 @@ module _ {X E : Type 0} (view : X → E) (spec : Spec) (IsOwn : X → List ℕ �
 
 -- the domain that the code's calls make, with these texts and readings, and what elements tell
 abbrev pub with_texts : {X E W N C : Type 0} → Own X E W N C → ElementText E → ElementReading E → Telling E → DomainOf E W N C
-with_texts own IsText Reads telling = record { base = own.base; cap = own.cap; elements = own.elements; meaning = own.meaning; IsText = IsText; Reads = Reads; word_in = own.word_in; word_text = own.word_text; telling = telling }
+with_texts own IsText Reads telling = record { base = own.base; cap = own.cap; elements = own.elements; meaning = own.meaning; pieces = own.pieces; IsText = IsText; Reads = Reads; word_in = own.word_in; word_text = own.word_text; telling = telling }
 
 -- It is a domain of the definitions. Texts of the code's elements are texts there, and so is what is read of lines, and what they tell of claims.
 pub record Tie {X E W N C : Type 0} (own : Own X E W N C) (K : Telling X) (domain : DomainOf E W N C) : Type 1 where
@@ -335,13 +338,14 @@ module _ {X E W N C : Type 0} (own : Own X E W N C) (K : Telling X) (domain : Do
 
 -- ---- cells, relations, pairs
 
-module _ {X W N C : Type 0} (view : X → Parts W N) (B : Algebra W N C) (cap : ℕ) (name : List ℕ) (texts : Texts W N) (readings : Readings W N) where
+module _ {X W N C : Type 0} (view : X → Parts W N) (B : Algebra W N C) (cuts : Cuts W C) (cap : ℕ) (name : List ℕ) (texts : Texts W N) (readings : Readings W N) where
   abbrev pub own_cells : C → StateType → Own X (Parts W N) W N C
   own_cells c t = record {
     base = B;
     cap = cap;
     elements = cells B c cap t.fields;
     meaning = cell_calls B c cap t;
+    pieces = cell_piece B cuts c cap t.fields;
     view = view;
     IsText = λ spec x. CellsText name texts spec (view x);
     Reads = λ spec is_word ls r left. CellsRead readings cap name spec is_word ls (option_map view r) left;
@@ -353,13 +357,13 @@ module _ {X W N C : Type 0} (view : X → Parts W N) (B : Algebra W N C) (cap : 
   abbrev pub cells_told : C → Telling X
   cells_told c = seen_by view (cells_tell B c)
 
-  pub cells_tie : (c shared : C) (t : StateType) (spec : Spec) → c ≡ shared → IsTrue (cell.is_for B t spec) → Tie (own_cells c t) (cells_told c) (cells_of (state_type spec) B shared cap name texts readings)
+  pub cells_tie : (c shared : C) (t : StateType) (spec : Spec) → c ≡ shared → IsTrue (cell.is_for B t spec) → Tie (own_cells c t) (cells_told c) (cells_of (state_type spec) B cuts shared cap name texts readings)
   cells_tie c shared t spec one made =
       let looks = (and_parts B.joins (not B.words.looks && (has_states spec && same_states t (state_type spec))) made).1 in
       let states = (and_parts (not B.words.looks) (has_states spec && same_states t (state_type spec)) looks).1 in
       let type = states_told t (state_type spec) (and_parts (has_states spec) (same_states t (state_type spec)) states).1 in
       record {
-        same = ap (λ u. record (cells_of u B c cap name texts readings) { telling = cells_tell B shared }) type ∙ ap (λ x. record (cells_of (state_type spec) B x cap name texts readings) { telling = cells_tell B shared }) one;
+        same = ap (λ u. record (cells_of u B cuts c cap name texts readings) { telling = cells_tell B shared }) type ∙ ap (λ x. record (cells_of (state_type spec) B cuts x cap name texts readings) { telling = cells_tell B shared }) one;
         tells = ap (λ x. seen_by view (cells_tell B x)) one;
         text = λ spec x bytes is. is;
         reads = λ spec is_word ls r left is. is;
@@ -371,6 +375,7 @@ own_relations t = record {
   cap = 256;
   elements = affine_elements t;
   meaning = affine_calls t;
+  pieces = whole_piece;
   view = λ x. x;
   IsText = AffineText;
   Reads = AffineRead (relation.cell_count t);
@@ -400,6 +405,7 @@ module _ {X Y E F V W M N C D : Type 0} (first : Own X E V M C) (second : Own Y 
     cap = max first.cap second.cap;
     elements = paired_elements first.elements second.elements;
     meaning = pair_meaning first.base second.base (max first.cap second.cap) first.meaning second.meaning;
+    pieces = pair_piece first.pieces second.pieces;
     view = λ x. (first.view x.0, second.view x.1);
     IsText = PairText first.IsText second.IsText;
     Reads = PairRead first.Reads second.Reads;

@@ -40,9 +40,9 @@ fn over_cells<'a, 'b, A: NamedBase, L: Ledger>(
 ) -> Result<Answer, Halt<'b>>
     requires may_A { IsTrue (A.algebra.joins && not A.algebra.words.looks) }
     requires asked { IsAsked (specification it.now.spec.now) it.now.task }
-    ensures gives { Gives (Comes (cells_of (state_type (specification it.now.spec.now)) A.algebra A.shared A.CAP A.named A.texts A.readings)
+    ensures gives { Gives (Comes (cells_of (state_type (specification it.now.spec.now)) A.algebra A.cuts A.shared A.CAP A.named A.texts A.readings)
         it.now.image.now (base_text base) (task_of (specification it.now.spec.now) it.now.image.now it.now.task)) answer_of result }
-    ensures work { IsWork (cells_of (state_type (specification it.now.spec.now)) A.algebra A.shared A.CAP A.named A.texts A.readings)
+    ensures work { IsWork (cells_of (state_type (specification it.now.spec.now)) A.algebra A.cuts A.shared A.CAP A.named A.texts A.readings)
         it.now.image.now (base_text base) (task_of (specification it.now.spec.now) it.now.image.now it.now.task) steps.old steps.new }
 {
     in_domain::<StateDomain<A>, L>(alloc, it, base, steps)
@@ -59,11 +59,11 @@ fn over_both<'a, 'b, A: NamedBase, B: NamedBase, L: Ledger>(
     requires may_B { IsTrue (B.algebra.joins && not B.algebra.words.looks) }
     requires pair { IsTrue (may_pair A.algebra B.algebra) }
     requires asked { IsAsked (specification it.now.spec.now) it.now.task }
-    ensures gives { Gives (Comes (pair_of (cells_of (state_type (specification it.now.spec.now)) A.algebra A.shared A.CAP A.named A.texts A.readings)
-        (cells_of (state_type (specification it.now.spec.now)) B.algebra B.shared B.CAP B.named B.texts B.readings)) it.now.image.now
+    ensures gives { Gives (Comes (pair_of (cells_of (state_type (specification it.now.spec.now)) A.algebra A.cuts A.shared A.CAP A.named A.texts A.readings)
+        (cells_of (state_type (specification it.now.spec.now)) B.algebra B.cuts B.shared B.CAP B.named B.texts B.readings)) it.now.image.now
         (base_text base) (task_of (specification it.now.spec.now) it.now.image.now it.now.task)) answer_of result }
-    ensures work { IsWork (pair_of (cells_of (state_type (specification it.now.spec.now)) A.algebra A.shared A.CAP A.named A.texts A.readings)
-        (cells_of (state_type (specification it.now.spec.now)) B.algebra B.shared B.CAP B.named B.texts B.readings)) it.now.image.now
+    ensures work { IsWork (pair_of (cells_of (state_type (specification it.now.spec.now)) A.algebra A.cuts A.shared A.CAP A.named A.texts A.readings)
+        (cells_of (state_type (specification it.now.spec.now)) B.algebra B.cuts B.shared B.CAP B.named B.texts B.readings)) it.now.image.now
         (base_text base) (task_of (specification it.now.spec.now) it.now.image.now it.now.task) steps.old steps.new }
 {
     in_domain::<PairedStates<A, B>, L>(alloc, it, base, steps)
@@ -95,10 +95,10 @@ fn over_cells_and_relations<'a, 'b, A: NamedBase, L: Ledger>(
     requires may_A { IsTrue (A.algebra.joins && not A.algebra.words.looks) }
     requires pair { IsTrue (may_pair A.algebra affine) }
     requires asked { IsAsked (specification it.now.spec.now) it.now.task }
-    ensures gives { Gives (Comes (pair_of (cells_of (state_type (specification it.now.spec.now)) A.algebra A.shared A.CAP A.named A.texts A.readings)
+    ensures gives { Gives (Comes (pair_of (cells_of (state_type (specification it.now.spec.now)) A.algebra A.cuts A.shared A.CAP A.named A.texts A.readings)
         (relations (state_type (specification it.now.spec.now)))) it.now.image.now (base_text base)
         (task_of (specification it.now.spec.now) it.now.image.now it.now.task)) answer_of result }
-    ensures work { IsWork (pair_of (cells_of (state_type (specification it.now.spec.now)) A.algebra A.shared A.CAP A.named A.texts A.readings)
+    ensures work { IsWork (pair_of (cells_of (state_type (specification it.now.spec.now)) A.algebra A.cuts A.shared A.CAP A.named A.texts A.readings)
         (relations (state_type (specification it.now.spec.now)))) it.now.image.now (base_text base)
         (task_of (specification it.now.spec.now) it.now.image.now it.now.task) steps.old steps.new }
 {
@@ -116,10 +116,10 @@ fn over_relations_and_cells<'a, 'b, B: NamedBase, L: Ledger>(
     requires pair { IsTrue (may_pair affine B.algebra) }
     requires asked { IsAsked (specification it.now.spec.now) it.now.task }
     ensures gives { Gives (Comes (pair_of (relations (state_type (specification it.now.spec.now)))
-        (cells_of (state_type (specification it.now.spec.now)) B.algebra B.shared B.CAP B.named B.texts B.readings)) it.now.image.now
+        (cells_of (state_type (specification it.now.spec.now)) B.algebra B.cuts B.shared B.CAP B.named B.texts B.readings)) it.now.image.now
         (base_text base) (task_of (specification it.now.spec.now) it.now.image.now it.now.task)) answer_of result }
     ensures work { IsWork (pair_of (relations (state_type (specification it.now.spec.now)))
-        (cells_of (state_type (specification it.now.spec.now)) B.algebra B.shared B.CAP B.named B.texts B.readings)) it.now.image.now
+        (cells_of (state_type (specification it.now.spec.now)) B.algebra B.cuts B.shared B.CAP B.named B.texts B.readings)) it.now.image.now
         (base_text base) (task_of (specification it.now.spec.now) it.now.image.now it.now.task) steps.old steps.new }
 {
     in_domain::<PairDomain<AffineDomain, StateDomain<B>>, L>(alloc, it, base, steps)

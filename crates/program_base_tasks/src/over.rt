@@ -33,8 +33,8 @@ fn do_task<'a, 'b, D: NamedDomain, L: Ledger>(
     requires joins { IsTrue D.B.algebra.joins }
     requires made { IsTrue (D.is_for domain.now (specification it.now.spec.now)) }
     requires asked { IsAsked (specification it.now.spec.now) it.now.task }
-    ensures gives { Gives (OwnComes (record { base = D.B.algebra; cap = D.B.CAP; elements = D.elements domain.now; meaning = D.meaning domain.now; view = D.view; IsText = D.IsText; Reads = D.Reads domain.now; word_in = D.word_in domain.now; word_text = D.word_text }) (D.telling domain.now) it.now.image.now (base_text base) (task_of (specification it.now.spec.now) it.now.image.now it.now.task)) answer_of result }
-    ensures work { OwnWork (record { base = D.B.algebra; cap = D.B.CAP; elements = D.elements domain.now; meaning = D.meaning domain.now; view = D.view; IsText = D.IsText; Reads = D.Reads domain.now; word_in = D.word_in domain.now; word_text = D.word_text }) it.now.image.now (base_text base) (task_of (specification it.now.spec.now) it.now.image.now it.now.task) steps.old steps.new }
+    ensures gives { Gives (OwnComes (record { base = D.B.algebra; cap = D.B.CAP; elements = D.elements domain.now; meaning = D.meaning domain.now; pieces = D.pieces domain.now; view = D.view; IsText = D.IsText; Reads = D.Reads domain.now; word_in = D.word_in domain.now; word_text = D.word_text }) (D.telling domain.now) it.now.image.now (base_text base) (task_of (specification it.now.spec.now) it.now.image.now it.now.task)) answer_of result }
+    ensures work { OwnWork (record { base = D.B.algebra; cap = D.B.CAP; elements = D.elements domain.now; meaning = D.meaning domain.now; pieces = D.pieces domain.now; view = D.view; IsText = D.IsText; Reads = D.Reads domain.now; word_in = D.word_in domain.now; word_text = D.word_text }) it.now.image.now (base_text base) (task_of (specification it.now.spec.now) it.now.image.now it.now.task) steps.old steps.new }
 {
     match &it.task {
         DomainTask::Analyse(start) => analyse_in_domain::<D, L>(
@@ -75,9 +75,9 @@ pub(crate) fn in_domain<'a, 'b, D: NamedDomain, L: Ledger>(
 ) -> Result<Answer, Halt<'b>>
     requires may { IsTrue D.may }
     requires asked { IsAsked (specification it.now.spec.now) it.now.task }
-    ensures gives { Gives (λ outcome. (d : D) × (IsTrue (D.is_for d (specification it.now.spec.now)) × D.HasContext d) × OwnComes (record { base = D.B.algebra; cap = D.B.CAP; elements = D.elements d; meaning = D.meaning d; view = D.view; IsText = D.IsText; Reads = D.Reads d; word_in = D.word_in d; word_text = D.word_text }) (D.telling d) it.now.image.now (base_text base) (task_of (specification it.now.spec.now) it.now.image.now it.now.task) outcome) answer_of result }
+    ensures gives { Gives (λ outcome. (d : D) × (IsTrue (D.is_for d (specification it.now.spec.now)) × D.HasContext d) × OwnComes (record { base = D.B.algebra; cap = D.B.CAP; elements = D.elements d; meaning = D.meaning d; pieces = D.pieces d; view = D.view; IsText = D.IsText; Reads = D.Reads d; word_in = D.word_in d; word_text = D.word_text }) (D.telling d) it.now.image.now (base_text base) (task_of (specification it.now.spec.now) it.now.image.now it.now.task) outcome) answer_of result }
     // Either nothing was done, or at most what the domain that was made takes.
-    ensures work { (steps.new ≡ steps.old) ⊎ ((d : D) × (IsTrue (D.is_for d (specification it.now.spec.now)) × D.HasContext d) × (OwnWork (record { base = D.B.algebra; cap = D.B.CAP; elements = D.elements d; meaning = D.meaning d; view = D.view; IsText = D.IsText; Reads = D.Reads d; word_in = D.word_in d; word_text = D.word_text }) it.now.image.now (base_text base) (task_of (specification it.now.spec.now) it.now.image.now it.now.task) steps.old steps.new)) }
+    ensures work { (steps.new ≡ steps.old) ⊎ ((d : D) × (IsTrue (D.is_for d (specification it.now.spec.now)) × D.HasContext d) × (OwnWork (record { base = D.B.algebra; cap = D.B.CAP; elements = D.elements d; meaning = D.meaning d; pieces = D.pieces d; view = D.view; IsText = D.IsText; Reads = D.Reads d; word_in = D.word_in d; word_text = D.word_text }) it.now.image.now (base_text base) (task_of (specification it.now.spec.now) it.now.image.now it.now.task) steps.old steps.new)) }
 {
     let domain = D::make_domain(alloc, it.spec)?;
     do_task::<D, L>(alloc, &domain, it, base, steps)

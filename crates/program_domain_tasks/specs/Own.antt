@@ -2,7 +2,9 @@
 use Rattle.std.specs.Prelude.{◌≡◌, ℕ, false, List, [], Option, Ok, Err, option_map}
 use Rattle.base_trait.specs.Algebra.{Algebra}
 use Rattle.analysis_query_laws.specs.Answers.{Telling}
+use Rattle.semantics_values.specs.declared.entry.KeyAt.{KeyAt}
 use Rattle.semantics_values.specs.States.{State}
+use Rattle.fixpoint_cases.specs.Pieces.{Piece}
 use Rattle.code_image.specs.Image.{Image}
 use Rattle.fixpoint_theory.specs.Elements.{Elements}
 use Rattle.fixpoint_theory.specs.WorklistState.{IsComplete, IsLegal, worklist_state}
@@ -40,6 +42,7 @@ pub record Own (X E W N C : Type 0) : Type 1 where
   pub cap : ℕ
   pub elements : Elements E State
   pub meaning : Meaning E W N C
+  pub pieces : Piece (ℕ × KeyAt) E
   pub view : X → E
   pub IsText : ElementText X
   pub Reads : ElementReading X
@@ -65,6 +68,7 @@ module _ {X E W N C : Type 0} (own : Own X E W N C) where
     cap = own.cap;
     elements = own.elements;
     meaning = own.meaning;
+    pieces = own.pieces;
     IsText = λ spec e t. (x : X) × (own.view x ≡ e) × own.IsText spec x t;
     Reads = λ spec code ls r rest. (x : Option X) × (option_map own.view x ≡ r) × own.Reads spec code ls x rest;
     word_in = own.word_in;

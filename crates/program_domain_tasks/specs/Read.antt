@@ -37,7 +37,7 @@ pub record IsMachine (spec : Spec) : Type 0 where
 -- ---- what is asked
 
 abbrev pub problem_at : Spec → Image → AnalysisStart → Problem
-problem_at spec image start = problem_of spec start.machine image (entry_of start.entry.now) start.limit start.joins
+problem_at spec image start = problem_of spec start.machine image (entry_of start.entry.now) start.limit start.joins start.cases
 
 abbrev pub task_of : Spec → Image → DomainTask → asked.Task
 task_of spec image (Analyse start) = asked.analyse (problem_at spec image start)

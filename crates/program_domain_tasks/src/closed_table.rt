@@ -42,7 +42,7 @@ pub(crate) fn read_closed<'a, 'b, D: NamedDomain>(
     requires states { has_states (specification it.now.spec.now) ≡ true }
     requires short { length bytes.now < 2 ^ 32 }
     ensures table { IfOk result (λ t. IsTableIn (D.Reads domain.now) (D.word_in domain.now) (specification it.now.spec.now) (base_text base) it.now.image.now bytes.now (listings (λ x. x) t)) }
-    ensures refused { IfErr result (Stops (OwnRefuses (record { base = D.B.algebra; cap = D.B.CAP; elements = D.elements domain.now; meaning = D.meaning domain.now; view = D.view; IsText = D.IsText; Reads = D.Reads domain.now; word_in = D.word_in domain.now; word_text = D.word_text }) (specification it.now.spec.now) it.now.image.now (base_text base) bytes.now)) }
+    ensures refused { IfErr result (Stops (OwnRefuses (record { base = D.B.algebra; cap = D.B.CAP; elements = D.elements domain.now; meaning = D.meaning domain.now; pieces = D.pieces domain.now; view = D.view; IsText = D.IsText; Reads = D.Reads domain.now; word_in = D.word_in domain.now; word_text = D.word_text }) (specification it.now.spec.now) it.now.image.now (base_text base) bytes.now)) }
     ensures fits { IfOk result (λ t. BlocksFit (is_word_of it.now.image.now) (λ x. (D.elements domain.now).fits (D.view x)) (listings (λ x. x) t)) }
 {
     let OpenTable { table, endings } = read_table::<D>(

@@ -26,7 +26,7 @@ pub fn convert_in_domain<'a, 'b, D: NamedDomain>(
     requires made { IsTrue (D.is_for domain.now (specification it.now.spec.now)) }
     requires machine { IsMachine (specification it.now.spec.now) }
     requires short { length bytes.now < 2 ^ 32 }
-    ensures { Gives (OwnRewrites (record { base = D.B.algebra; cap = D.B.CAP; elements = D.elements domain.now; meaning = D.meaning domain.now; view = D.view; IsText = D.IsText; Reads = D.Reads domain.now; word_in = D.word_in domain.now; word_text = D.word_text }) (specification it.now.spec.now) it.now.image.now (base_text base) bytes.now) answer_of result }
+    ensures { Gives (OwnRewrites (record { base = D.B.algebra; cap = D.B.CAP; elements = D.elements domain.now; meaning = D.meaning domain.now; pieces = D.pieces domain.now; view = D.view; IsText = D.IsText; Reads = D.Reads domain.now; word_in = D.word_in domain.now; word_text = D.word_text }) (specification it.now.spec.now) it.now.image.now (base_text base) bytes.now) answer_of result }
 {
     let OpenTable { table, endings } = read_table::<D>(
         alloc, domain, it.spec, it.image, base, bytes,

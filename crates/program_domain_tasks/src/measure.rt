@@ -8,7 +8,8 @@ ghost use Rattle.fixpoint_theory.specs.Table.{TableFits};
 ghost use Rattle.fixpoint_theory.specs.Verdicts.{verdict_of};
 ghost use Rattle.fixpoint_theory.specs.Views.{listings};
 ghost use Rattle.state_text.specs.Reading.{entry_of};
-ghost use Rattle.analysis_transfer.specs.Analysis.{problem};
+ghost use Rattle.analysis_transfer.specs.Analysis.{IsReady, problem};
+ghost use Rattle.analysis_cuts.specs.Analysis.{cut_analysis};
 ghost use Rattle.program_common.specs.Outcomes.{Gives, answer_of};
 ghost use Rattle.program_stress_code.specs.Summary.{measure_text};
 ghost use Rattle.program_domains.specs.Measures.{listed_count, verdict_name};
@@ -19,10 +20,10 @@ use crate::prepared::prepare;
 use crate::table::refusal_of_stop;
 use crate::task::{AnalysisStart, Subject};
 use crate::verdict::verdict_on;
-use analysis_images::analyse;
+use analysis_cuts::analyse;
 use analysis_problems::laws::read_problems_are_well_posed;
 use analysis_transfer::ImageAnalysis;
-use fixpoint_theory::{Analyser, Table, Verdict};
+use fixpoint_theory::{Table, Verdict};
 use fixpoint_worklist::Report;
 use program_common::{Answer, Halt};
 use program_domains::NamedDomain;
@@ -66,9 +67,9 @@ fn summary_of_report<'a, D: NamedDomain, L: Ledger>(
     report: &Report<D::Element>,
     steps: &mut Steps<L>,
 ) -> Result<Answer, NoMemory>
-    requires ready { ⟦<ImageAnalysis<'a, D> as Analyser>⟧.IsReady it.now }
-    requires fits { TableFits (⟦<ImageAnalysis<'a, D> as Analyser>⟧.analysis it.now) (listings D.view report.now.table) }
-    ensures text { IfOk result (λ answer. IsTextOf (λ bytes. bytes ≡ measure_text (length report.now.trace.items) (listed_count (listings (λ x. x) report.now.table) (problem it.now).addresses) (verdict_name (verdict_of (⟦<ImageAnalysis<'a, D> as Analyser>⟧.analysis it.now) (listings D.view report.now.table)))) (answer_of answer)) }
+    requires ready { IsReady it.now D.B.algebra (D.is_for it.now.domain.now) }
+    requires fits { TableFits (cut_analysis D.B.algebra D.B.CAP (D.elements it.now.domain.now) (D.meaning it.now.domain.now) (D.pieces it.now.domain.now) (problem it.now)) (listings D.view report.now.table) }
+    ensures text { IfOk result (λ answer. IsTextOf (λ bytes. bytes ≡ measure_text (length report.now.trace.items) (listed_count (listings (λ x. x) report.now.table) (problem it.now).addresses) (verdict_name (verdict_of (cut_analysis D.B.algebra D.B.CAP (D.elements it.now.domain.now) (D.meaning it.now.domain.now) (D.pieces it.now.domain.now) (problem it.now)) (listings D.view report.now.table)))) (answer_of answer)) }
     ensures ordered { IsOrdered nat_cmp report.now.table.blocks }
     ensures work { steps.new ≤ steps.old + btree_map_len report.now.table.blocks }
 {
@@ -86,9 +87,9 @@ fn measure<'a, 'b, D: NamedDomain, L: Ledger>(
     it: &ImageAnalysis<'a, D>,
     steps: &mut Steps<L>,
 ) -> Result<Answer, Halt<'b>>
-    requires ready { ⟦<ImageAnalysis<'a, D> as Analyser>⟧.IsReady it.now }
-    ensures gives { Gives (OwnMeasures (record { base = D.B.algebra; cap = D.B.CAP; elements = D.elements it.now.domain.now; meaning = D.meaning it.now.domain.now; view = D.view; IsText = D.IsText; Reads = D.Reads it.now.domain.now; word_in = D.word_in it.now.domain.now; word_text = D.word_text }) (problem it.now)) answer_of result }
-    ensures work { OwnMeasureWork (record { base = D.B.algebra; cap = D.B.CAP; elements = D.elements it.now.domain.now; meaning = D.meaning it.now.domain.now; view = D.view; IsText = D.IsText; Reads = D.Reads it.now.domain.now; word_in = D.word_in it.now.domain.now; word_text = D.word_text }) (problem it.now) steps.old steps.new }
+    requires ready { IsReady it.now D.B.algebra (D.is_for it.now.domain.now) }
+    ensures gives { Gives (OwnMeasures (record { base = D.B.algebra; cap = D.B.CAP; elements = D.elements it.now.domain.now; meaning = D.meaning it.now.domain.now; pieces = D.pieces it.now.domain.now; view = D.view; IsText = D.IsText; Reads = D.Reads it.now.domain.now; word_in = D.word_in it.now.domain.now; word_text = D.word_text }) (problem it.now)) answer_of result }
+    ensures work { OwnMeasureWork (record { base = D.B.algebra; cap = D.B.CAP; elements = D.elements it.now.domain.now; meaning = D.meaning it.now.domain.now; pieces = D.pieces it.now.domain.now; view = D.view; IsText = D.IsText; Reads = D.Reads it.now.domain.now; word_in = D.word_in it.now.domain.now; word_text = D.word_text }) (problem it.now) steps.old steps.new }
 {
     match analyse(alloc, it, steps) {
         Ok(report) => Ok(summary_of_report::<D, L>(alloc, it, &report, steps)?),
@@ -107,8 +108,8 @@ pub fn measure_in_domain<'a, 'b, D: NamedDomain, L: Ledger>(
     requires joins { IsTrue D.B.algebra.joins }
     requires made { IsTrue (D.is_for domain.now (specification it.now.spec.now)) }
     requires read { IsRead (specification it.now.spec.now) start.now.machine (entry_of start.now.entry.now) }
-    ensures gives { Gives (OwnMeasures (record { base = D.B.algebra; cap = D.B.CAP; elements = D.elements domain.now; meaning = D.meaning domain.now; view = D.view; IsText = D.IsText; Reads = D.Reads domain.now; word_in = D.word_in domain.now; word_text = D.word_text }) (problem_at (specification it.now.spec.now) it.now.image.now start.now)) answer_of result }
-    ensures work { OwnMeasureWork (record { base = D.B.algebra; cap = D.B.CAP; elements = D.elements domain.now; meaning = D.meaning domain.now; view = D.view; IsText = D.IsText; Reads = D.Reads domain.now; word_in = D.word_in domain.now; word_text = D.word_text }) (problem_at (specification it.now.spec.now) it.now.image.now start.now) steps.old steps.new }
+    ensures gives { Gives (OwnMeasures (record { base = D.B.algebra; cap = D.B.CAP; elements = D.elements domain.now; meaning = D.meaning domain.now; pieces = D.pieces domain.now; view = D.view; IsText = D.IsText; Reads = D.Reads domain.now; word_in = D.word_in domain.now; word_text = D.word_text }) (problem_at (specification it.now.spec.now) it.now.image.now start.now)) answer_of result }
+    ensures work { OwnMeasureWork (record { base = D.B.algebra; cap = D.B.CAP; elements = D.elements domain.now; meaning = D.meaning domain.now; pieces = D.pieces domain.now; view = D.view; IsText = D.IsText; Reads = D.Reads domain.now; word_in = D.word_in domain.now; word_text = D.word_text }) (problem_at (specification it.now.spec.now) it.now.image.now start.now) steps.old steps.new }
 {
     read_problems_are_well_posed();
     it.image.is_kept();
@@ -124,6 +125,7 @@ pub fn measure_in_domain<'a, 'b, D: NamedDomain, L: Ledger>(
         entry: start.entry,
         limit: start.limit,
         joins: start.joins,
+        cases: start.cases,
     };
     measure::<D, L>(alloc, &analysis, steps)
 }

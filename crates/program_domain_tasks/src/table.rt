@@ -7,7 +7,7 @@ ghost use Rattle.spec_ir.specs.Views.{specification};
 ghost use Rattle.fixpoint_theory.specs.Views.{listings};
 ghost use Rattle.fixpoint_open_tables.specs.Endings.{ends_in};
 ghost use Rattle.state_text.specs.Reading.{entry_of};
-ghost use Rattle.analysis_transfer.specs.Analysis.{problem};
+ghost use Rattle.analysis_transfer.specs.Analysis.{IsReady, problem};
 ghost use Rattle.text_tables.specs.Open.{IsOpenTableText};
 ghost use Rattle.text_tables.specs.Tables.{IsTableText};
 ghost use Rattle.program_common.specs.Outcomes.{Gives, answer_of};
@@ -17,7 +17,7 @@ ghost use Rattle.program_domain_tasks.specs.Read.{IsRead, Refuses, IsTextOf, pro
 
 use crate::prepared::prepare;
 use crate::task::{AnalysisStart, Subject};
-use analysis_images::analyse;
+use analysis_cuts::analyse;
 use analysis_problems::laws::read_problems_are_well_posed;
 use analysis_transfer::ImageAnalysis;
 use base_trait::Base;
@@ -100,9 +100,9 @@ fn table_outcome<'a, 'b, D: NamedDomain, L: Ledger>(
     base: BaseName,
     steps: &mut Steps<L>,
 ) -> Result<Answer, Halt<'b>>
-    requires ready { ⟦<ImageAnalysis<'a, D> as Analyser>⟧.IsReady it.now }
-    ensures gives { Gives (OwnComesTo (record { base = D.B.algebra; cap = D.B.CAP; elements = D.elements it.now.domain.now; meaning = D.meaning it.now.domain.now; view = D.view; IsText = D.IsText; Reads = D.Reads it.now.domain.now; word_in = D.word_in it.now.domain.now; word_text = D.word_text }) (problem it.now) it.now.image.now (base_text base)) answer_of result }
-    ensures work { OwnWork (record { base = D.B.algebra; cap = D.B.CAP; elements = D.elements it.now.domain.now; meaning = D.meaning it.now.domain.now; view = D.view; IsText = D.IsText; Reads = D.Reads it.now.domain.now; word_in = D.word_in it.now.domain.now; word_text = D.word_text }) it.now.image.now (base_text base) (asked.analyse (problem it.now)) steps.old steps.new }
+    requires ready { IsReady it.now D.B.algebra (D.is_for it.now.domain.now) }
+    ensures gives { Gives (OwnComesTo (record { base = D.B.algebra; cap = D.B.CAP; elements = D.elements it.now.domain.now; meaning = D.meaning it.now.domain.now; pieces = D.pieces it.now.domain.now; view = D.view; IsText = D.IsText; Reads = D.Reads it.now.domain.now; word_in = D.word_in it.now.domain.now; word_text = D.word_text }) (problem it.now) it.now.image.now (base_text base)) answer_of result }
+    ensures work { OwnWork (record { base = D.B.algebra; cap = D.B.CAP; elements = D.elements it.now.domain.now; meaning = D.meaning it.now.domain.now; pieces = D.pieces it.now.domain.now; view = D.view; IsText = D.IsText; Reads = D.Reads it.now.domain.now; word_in = D.word_in it.now.domain.now; word_text = D.word_text }) it.now.image.now (base_text base) (asked.analyse (problem it.now)) steps.old steps.new }
 {
     match analyse(alloc, it, steps) {
         Ok(
@@ -127,8 +127,8 @@ pub fn analyse_in_domain<'a, 'b, D: NamedDomain, L: Ledger>(
     requires joins { IsTrue D.B.algebra.joins }
     requires made { IsTrue (D.is_for domain.now (specification it.now.spec.now)) }
     requires read { IsRead (specification it.now.spec.now) start.now.machine (entry_of start.now.entry.now) }
-    ensures gives { Gives (OwnComesTo (record { base = D.B.algebra; cap = D.B.CAP; elements = D.elements domain.now; meaning = D.meaning domain.now; view = D.view; IsText = D.IsText; Reads = D.Reads domain.now; word_in = D.word_in domain.now; word_text = D.word_text }) (problem_at (specification it.now.spec.now) it.now.image.now start.now) it.now.image.now (base_text base)) answer_of result }
-    ensures work { OwnWork (record { base = D.B.algebra; cap = D.B.CAP; elements = D.elements domain.now; meaning = D.meaning domain.now; view = D.view; IsText = D.IsText; Reads = D.Reads domain.now; word_in = D.word_in domain.now; word_text = D.word_text }) it.now.image.now (base_text base) (asked.analyse (problem_at (specification it.now.spec.now) it.now.image.now start.now)) steps.old steps.new }
+    ensures gives { Gives (OwnComesTo (record { base = D.B.algebra; cap = D.B.CAP; elements = D.elements domain.now; meaning = D.meaning domain.now; pieces = D.pieces domain.now; view = D.view; IsText = D.IsText; Reads = D.Reads domain.now; word_in = D.word_in domain.now; word_text = D.word_text }) (problem_at (specification it.now.spec.now) it.now.image.now start.now) it.now.image.now (base_text base)) answer_of result }
+    ensures work { OwnWork (record { base = D.B.algebra; cap = D.B.CAP; elements = D.elements domain.now; meaning = D.meaning domain.now; pieces = D.pieces domain.now; view = D.view; IsText = D.IsText; Reads = D.Reads domain.now; word_in = D.word_in domain.now; word_text = D.word_text }) it.now.image.now (base_text base) (asked.analyse (problem_at (specification it.now.spec.now) it.now.image.now start.now)) steps.old steps.new }
 {
     read_problems_are_well_posed();
     it.image.is_kept();
@@ -144,6 +144,7 @@ pub fn analyse_in_domain<'a, 'b, D: NamedDomain, L: Ledger>(
         entry: start.entry,
         limit: start.limit,
         joins: start.joins,
+        cases: start.cases,
     };
     table_outcome::<D, L>(alloc, &analysis, base, steps)
 }

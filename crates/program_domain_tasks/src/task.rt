@@ -5,14 +5,15 @@ use semantics_values::Entry;
 use spec_ir::{Machine, Spec};
 use text_slices::SliceCell;
 
-/// Where an analysis begins: a machine, an entry of its states, how many targets an instruction may have, and how many changes of an
-/// element join before later ones widen.
+/// Where an analysis begins: a machine, an entry of its states, how many targets an instruction may have, how many changes of an
+/// element join before later ones widen, and how often over an element is split before its instruction is evaluated.
 #[derive(Clone, Copy)]
 pub struct AnalysisStart<'a> {
     pub machine: Machine,
     pub entry: &'a Entry,
     pub limit: u32,
     pub joins: u32,
+    pub cases: u32,
 }
 
 /// What a slice is of: the reads of a cell by the instruction at an address.

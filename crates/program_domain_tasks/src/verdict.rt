@@ -7,7 +7,8 @@ ghost use Rattle.spec_ir.specs.Views.{specification};
 ghost use Rattle.fixpoint_theory.specs.Table.{TableFits};
 ghost use Rattle.fixpoint_theory.specs.Views.{listings};
 ghost use Rattle.state_text.specs.Reading.{entry_of};
-ghost use Rattle.analysis_transfer.specs.Analysis.{problem};
+ghost use Rattle.analysis_transfer.specs.Analysis.{IsReady, problem};
+ghost use Rattle.analysis_cuts.specs.Analysis.{cut_analysis};
 ghost use Rattle.text_table_reader.specs.Blocks.{BlocksFit};
 ghost use Rattle.text_table_reader.specs.Ends.{is_word_of};
 ghost use Rattle.program_domain_tasks.specs.Closed.{IsClosedOr};
@@ -17,11 +18,11 @@ ghost use Rattle.program_domain_tasks.specs.Read.{IsRead, problem_at};
 use crate::prepared::prepare;
 use crate::table::counter_text;
 use crate::task::{AnalysisStart, Subject};
-use analysis_images::check;
+use analysis_cuts::check;
 use analysis_problems::laws::read_problems_are_well_posed;
 use analysis_transfer::ImageAnalysis;
 use base_trait::Base;
-use fixpoint_theory::{Analyser, Table, Verdict};
+use fixpoint_theory::{Table, Verdict};
 use program_common::{Halt, Refusal, Rejection};
 use program_domains::NamedDomain;
 use std::alloc::{AllocError as NoMemory, Global};
@@ -64,9 +65,9 @@ pub(crate) fn verdict_on<'a, D: NamedDomain, L: Ledger>(
     table: &Table<D::Element>,
     steps: &mut Steps<L>,
 ) -> Result<Verdict<<D::B as Base>::Word>, NoMemory>
-    requires ready { ⟦<ImageAnalysis<'a, D> as Analyser>⟧.IsReady it.now }
-    requires fits { TableFits (⟦<ImageAnalysis<'a, D> as Analyser>⟧.analysis it.now) (listings D.view table.now) }
-    ensures verdict { IfOk result (λ v. IsOwnVerdict (record { base = D.B.algebra; cap = D.B.CAP; elements = D.elements it.now.domain.now; meaning = D.meaning it.now.domain.now; view = D.view; IsText = D.IsText; Reads = D.Reads it.now.domain.now; word_in = D.word_in it.now.domain.now; word_text = D.word_text }) (problem it.now) table.now v) }
+    requires ready { IsReady it.now D.B.algebra (D.is_for it.now.domain.now) }
+    requires fits { TableFits (cut_analysis D.B.algebra D.B.CAP (D.elements it.now.domain.now) (D.meaning it.now.domain.now) (D.pieces it.now.domain.now) (problem it.now)) (listings D.view table.now) }
+    ensures verdict { IfOk result (λ v. IsOwnVerdict (record { base = D.B.algebra; cap = D.B.CAP; elements = D.elements it.now.domain.now; meaning = D.meaning it.now.domain.now; pieces = D.pieces it.now.domain.now; view = D.view; IsText = D.IsText; Reads = D.Reads it.now.domain.now; word_in = D.word_in it.now.domain.now; word_text = D.word_text }) (problem it.now) table.now v) }
     ensures work { steps.new ≤ steps.old + btree_map_len table.now.blocks }
 {
     check(alloc, it, table, steps)
@@ -85,7 +86,7 @@ pub(crate) fn verdict_in<'a, D: NamedDomain, L: Ledger>(
     requires made { IsTrue (D.is_for domain.now (specification it.now.spec.now)) }
     requires read { IsRead (specification it.now.spec.now) start.now.machine (entry_of start.now.entry.now) }
     requires fits { BlocksFit (is_word_of it.now.image.now) (λ x. (D.elements domain.now).fits (D.view x)) (listings (λ x. x) table.now) }
-    ensures verdict { IfOk result (λ v. IsOwnVerdict (record { base = D.B.algebra; cap = D.B.CAP; elements = D.elements domain.now; meaning = D.meaning domain.now; view = D.view; IsText = D.IsText; Reads = D.Reads domain.now; word_in = D.word_in domain.now; word_text = D.word_text }) (problem_at (specification it.now.spec.now) it.now.image.now start.now) table.now v) }
+    ensures verdict { IfOk result (λ v. IsOwnVerdict (record { base = D.B.algebra; cap = D.B.CAP; elements = D.elements domain.now; meaning = D.meaning domain.now; pieces = D.pieces domain.now; view = D.view; IsText = D.IsText; Reads = D.Reads domain.now; word_in = D.word_in domain.now; word_text = D.word_text }) (problem_at (specification it.now.spec.now) it.now.image.now start.now) table.now v) }
     ensures ordered { IsOrdered nat_cmp table.now.blocks }
     ensures work { steps.new ≤ steps.old + btree_map_len table.now.blocks }
 {
@@ -105,6 +106,7 @@ pub(crate) fn verdict_in<'a, D: NamedDomain, L: Ledger>(
         entry: start.entry,
         limit: start.limit,
         joins: start.joins,
+        cases: start.cases,
     };
     verdict_on::<D, L>(alloc, &analysis, table, steps)
 }

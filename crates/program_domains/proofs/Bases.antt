@@ -28,6 +28,14 @@ use Rattle.program_domains.specs.Analyses.{IsTable}
 use Rattle.program_domains.specs.Laws.{AnalysesAreOne, AnalysesHaveSome, AreOne, AreTextsOfOne, OpenAnalysesAreOne, OpenAnalysesHaveSome, of_open_table, of_table}
 use Rattle.program_domains.specs.Named.{Analysed, AnalysedOpen, AnyDomain, domain_of, has_relations}
 use Rattle.program_domains.specs.OpenAnalyses.{IsOpenTable}
+use Rattle.base_cuts.specs.Cuts.{uncut}
+use Rattle.base_cuts.specs.IntervalLaws.{intervals_are_cut}
+use Rattle.base_cuts.specs.Intervals.{interval_cuts}
+use Rattle.base_cuts.specs.SetLaws.{sets_are_cut}
+use Rattle.base_cuts.specs.Sets.{set_cuts}
+use Rattle.base_cuts.specs.StrideLaws.{strides_are_cut}
+use Rattle.base_cuts.specs.Strides.{stride_cuts}
+use Rattle.base_cuts.specs.UncutLaws.{words_may_stay_uncut}
 use Rattle.program_domains.proofs.Lawful.{IsLawful, IsPlain, cells_are_plain, pairs_are_lawful, pairs_are_plain, relations_are_lawful}
 use Rattle.program_domains.proofs.Read.{bits_are_read, definitions_are_read, intervals_are_read, sets_are_read, strided_are_read}
 use Rattle.program_domains.proofs.OpenOutcomes.{has_open_outcome, open_ends_are_alike, open_outcomes_are_alike, open_outcomes_are_one, open_tables_are_alike}
@@ -48,19 +56,19 @@ module _ (spec : Spec) (has : has_states spec ≡ true) where
 
   -- ---- those of cells
   of_sets : (K : ℕ) → IsPlain (sets t K) spec
-  of_sets K = cells_are_plain spec has (kset K) tt (if K == 1 then codes "const" else codes "kset") set_texts (set_readings K) (kset_laws K) refl refl (sets_are_read spec has K (if K == 1 then codes "const" else codes "kset"))
+  of_sets K = cells_are_plain spec has (kset K) (set_cuts K) tt (if K == 1 then codes "const" else codes "kset") set_texts (set_readings K) (kset_laws K) (sets_are_cut K) refl refl (sets_are_read spec has K (if K == 1 then codes "const" else codes "kset"))
 
   of_intervals : IsPlain (intervals t) spec
-  of_intervals = cells_are_plain spec has interval tt (codes "interval") interval_texts interval_readings interval_laws refl refl (intervals_are_read spec has (codes "interval"))
+  of_intervals = cells_are_plain spec has interval interval_cuts tt (codes "interval") interval_texts interval_readings interval_laws intervals_are_cut refl refl (intervals_are_read spec has (codes "interval"))
 
   of_bits : IsPlain (known_bits t) spec
-  of_bits = cells_are_plain spec has bits tt (codes "bits") bits_texts bits_readings bits_laws refl refl (bits_are_read spec has (codes "bits"))
+  of_bits = cells_are_plain spec has bits uncut tt (codes "bits") bits_texts bits_readings bits_laws (words_may_stay_uncut bits bits_laws) refl refl (bits_are_read spec has (codes "bits"))
 
   of_strided : IsPlain (strided_sets t) spec
-  of_strided = cells_are_plain spec has strides [] (codes "strides") strides_texts strides_readings strides_laws refl refl (strided_are_read spec has (codes "strides"))
+  of_strided = cells_are_plain spec has strides stride_cuts [] (codes "strides") strides_texts strides_readings strides_laws strides_are_cut refl refl (strided_are_read spec has (codes "strides"))
 
   of_definitions : IsPlain (definitions t) spec
-  of_definitions = cells_are_plain spec has defuse tt (codes "defuse") defuse_texts defuse_readings defuse_laws refl refl (definitions_are_read spec has (codes "defuse"))
+  of_definitions = cells_are_plain spec has defuse (set_cuts 1) tt (codes "defuse") defuse_texts defuse_readings defuse_laws (sets_are_cut 1) refl refl (definitions_are_read spec has (codes "defuse"))
 
   of_relations : IsLawful (relations t) spec
   of_relations = relations_are_lawful spec has

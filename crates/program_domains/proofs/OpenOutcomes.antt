@@ -2,7 +2,7 @@
 use Rattle.std.proofs.Common.{◌≡◌, ◌∙◌, ℕ, List, Option, None, Some, Ok, Err, inl, inr, refl, sym, ap, subst}
 use Rattle.code_image.specs.Image.{Image}
 use Rattle.fixpoint_theory.specs.Analysis.{Analysis, AnalysisLaws}
-use Rattle.fixpoint_theory.specs.Outcome.{Moves, Outcome, SameOutcome, moves, too_many, undecodable}
+use Rattle.fixpoint_theory.specs.Outcome.{Moves, Outcome, SameOutcome, moves, sends, too_many, undecodable}
 use Rattle.fixpoint_theory.specs.WorklistState.{IsAtEnd, IsComplete, worklist_state}
 use Rattle.fixpoint_theory.specs.Table.{AreSameBlocks, AreSameTables, IsTableOf, Listing, Listings, TableFits}
 use Rattle.fixpoint_theory.proofs.Ending.{legal_traces_end}
@@ -18,8 +18,6 @@ use Rattle.semantics_values.specs.States.{State}
 use Rattle.analysis_transfer_laws.specs.Analysis.{machine_of}
 use Rattle.analysis_transfer_laws.specs.OpenRuns.{IsTrueUntilOpen}
 use Rattle.analysis_transfer_laws.specs.Problem.{IsWellFormedProblem, Problem}
-use Rattle.analysis_transfer_laws.proofs.OpenRuns.{open_is_true}
-use Rattle.analysis_transfer_laws.proofs.Sound.{transfers_are_sound}
 use Rattle.program_common.specs.Outcome as o
 use Rattle.program_common.specs.Outcome.{Outcome as Answered, text}
 use Rattle.program_domains.specs.Analyses.{analysis}
@@ -28,7 +26,7 @@ use Rattle.program_domains.specs.OpenAnalyses.{ComesOpen, IsOpenTable, open_anal
 use Rattle.program_domains.proofs.Lawful.{IsExact, IsLawful}
 use Rattle.program_domains.proofs.OpenTexts.{has_open_text, one_open_text}
 use Rattle.program_domains.proofs.Plays.{is_table, table_fits, table_of}
-use Rattle.program_domains.proofs.Ready.{calls, is_analysed, keeps_the_laws}
+use Rattle.program_domains.proofs.Ready.{is_sound, keeps_the_laws, open_is_true}
 use Rattle.program_domains.proofs.Texts.{alike_are_same, same_are_alike}
 
 -- ---- no transfer stops
@@ -36,6 +34,7 @@ opened_moves : {E W : Type 0} (given : Outcome E W) → Moves (opened given)
 opened_moves (undecodable word) = tt
 opened_moves (too_many shown uses) = tt
 opened_moves (moves targets post uses) = tt
+opened_moves (sends arrivals uses) = tt
 
 ends_full : {E W S : Type 0} (A : Analysis E W S) (trace : List ℕ) → IsAtEnd (left_open A) (worklist_state (left_open A) trace) → IsComplete (worklist_state (left_open A) trace)
 ends_full A trace (inl complete) = complete
@@ -52,6 +51,13 @@ same_ending A (too_many x vs) (moves ts y us) same = absurd same
 same_ending A (moves ts x vs) (undecodable w) same = absurd same
 same_ending A (moves ts x vs) (too_many y us) same = absurd same
 same_ending A (moves ts x vs) (moves ts' y us) same = refl
+same_ending A (undecodable v) (sends ys us) same = absurd same
+same_ending A (too_many x vs) (sends ys us) same = absurd same
+same_ending A (moves ts x vs) (sends ys us) same = absurd same
+same_ending A (sends xs vs) (undecodable w) same = absurd same
+same_ending A (sends xs vs) (too_many y us) same = absurd same
+same_ending A (sends xs vs) (moves ts' y us) same = absurd same
+same_ending A (sends xs vs) (sends ys us) same = refl
 
 module _ {E W S : Type 0} (A : Analysis E W S) (laws : AnalysisLaws A) (t u : Listings E) (fits : TableFits A t) (others : TableFits A u) where
   end_alike : (a : ℕ) (x y : Option (Listing E)) → t a ≡ x → u a ≡ y → AreSameBlocks A x y → ending_at A a x ≡ ending_at A a y
@@ -93,10 +99,7 @@ module _ {E W N C : Type 0} (domain : DomainOf E W N C) (p : Problem) where
 
     pub open_true : (t : Listings E) (ends : Endings W) → TableFits A t → IsClosedButOpen A t ends → IsTrueUntilOpen domain.base domain.elements p t ends
     open_true t ends fits closed =
-        let analysed = is_analysed domain p lawful posed in
-        let c = calls domain p lawful posed in
-        open_is_true domain.base lawful.laws domain.cap domain.elements domain.meaning p c analysed t ends closed
-        (open_tables_are_sound A (machine_of p) laws (transfers_are_sound domain.base lawful.laws domain.cap domain.elements domain.meaning p c analysed) t ends fits closed)
+        open_is_true domain p lawful posed t ends closed (open_tables_are_sound A (machine_of p) laws (is_sound domain p lawful posed) t ends fits closed)
 
     module _ (image : Image) (base : List ℕ) where
       -- ---- two are alike

@@ -4,8 +4,8 @@ use Rattle.std.proofs.lemmas.List.{append-nil}
 use Rattle.std.specs.Prelude.{◌==◌, if◌then◌else◌}
 use Rattle.fixpoint_theory.specs.Analysis.{Analysis}
 use Rattle.fixpoint_theory.specs.Code.{is_code}
-use Rattle.fixpoint_theory.specs.Outcome.{Moves, Outcome, moves, too_many, undecodable}
-use Rattle.fixpoint_theory.specs.WorklistState.{IsComplete, IsLeastPending, IsLegal, IsLegalFrom, WorklistState, Reached, arrival, arrive, arrive_all, arrived, begin, changed, done, nowhere, worklist_state, sent, transferred, transferred_from}
+use Rattle.fixpoint_theory.specs.Outcome.{Moves, Outcome, moves, sends, too_many, undecodable}
+use Rattle.fixpoint_theory.specs.WorklistState.{IsComplete, IsLeastPending, IsLegal, IsLegalFrom, WorklistState, Reached, arrival, arrive, arrive_all, arrive_as_sent, arrived, begin, changed, done, nowhere, worklist_state, sent, transferred, transferred_from}
 use Rattle.fixpoint_theory.specs.Table.{IsBlockOf, IsTableOf, Listing, Listings, Tells}
 use Rattle.fixpoint_open_tables.specs.Endings.{Endings, IsNowhereOpen, ending_at}
 use Rattle.fixpoint_open_tables.specs.LeftOpen.{ending_of, left_open, opened}
@@ -54,10 +54,15 @@ module _ {E W S : Type 0} (A : Analysis E W S) where
   post_same None targets p q same = same
   post_same (Some new) targets p q same = all_same new targets p q same
 
+  each_same : (arrivals : List (ℕ × E)) (p q : WorklistState E) → Same p q → Same (arrive_as_sent A arrivals p) (arrive_as_sent (left_open A) arrivals q)
+  each_same [] p q same = same
+  each_same (x ∷ rest) p q same = each_same rest (arrive A x.1 p x.0) (arrive (left_open A) x.1 q x.0) (arrive_same x.1 p q x.0 same)
+
   sent_same : (given : Outcome E W) → Moves given → (p q : WorklistState E) → Same p q → Same (sent A given p) (sent (left_open A) (opened given) q)
   sent_same (undecodable word) m p q same = absurd m
   sent_same (too_many shown uses) m p q same = absurd m
   sent_same (moves targets post uses) m p q same = post_same post targets p q same
+  sent_same (sends arrivals uses) m p q same = each_same arrivals p q same
 
   done_same : (at : ℕ) (p q : WorklistState E) → Same p q → Same (changed at done p) (changed at done q)
   done_same at p q same a = ap (λ (o : Option (Reached E)). if a == at then done o else o) (same a)
@@ -80,6 +85,7 @@ module _ {E W S : Type 0} (A : Analysis E W S) where
   moves_too (undecodable word) m = absurd m
   moves_too (too_many shown uses) m = absurd m
   moves_too (moves targets post uses) m = m
+  moves_too (sends arrivals uses) m = m
 
   legal_same : (trace : List ℕ) (p q : WorklistState E) → Same p q → IsLegalFrom A p trace → IsLegalFrom (left_open A) q trace
   legal_same [] p q same legal = tt
@@ -99,6 +105,7 @@ module _ {E W S : Type 0} (A : Analysis E W S) where
   tells_too b (undecodable word) t = absurd t
   tells_too b (too_many shown uses) t = absurd t
   tells_too b (moves targets post uses) t = t
+  tells_too b (sends arrivals uses) t = t
 
   block_same : (at : ℕ) (o : Option (Listing E)) (r : Option (Reached E)) → IsBlockOf A at o r → IsBlockOf (left_open A) at o r
   block_same at None None is = tt
@@ -123,6 +130,7 @@ module _ {E W S : Type 0} (A : Analysis E W S) where
   no_ending b (undecodable word) t = absurd t
   no_ending b (too_many shown uses) t = absurd t
   no_ending b (moves targets post uses) t = refl
+  no_ending b (sends arrivals uses) t = refl
 
   nowhere_at : (at : ℕ) (o : Option (Listing E)) (r : Option (Reached E)) → IsBlockOf A at o r → ending_at A at o ≡ None
   nowhere_at at None r is = refl

@@ -27,6 +27,7 @@ module _ {E W N C : Type 0} (domain : DomainOf E W N C) (p : Problem) where
   refusal_of at (f.undecodable word) = o.undecodable_at at word
   refusal_of at (f.too_many x uses) = o.too_many_targets at (domain.word_text 32 x)
   refusal_of at (f.moves targets post uses) = o.calls_spent
+  refusal_of at (f.sends arrivals uses) = o.calls_spent
 
   pub record IsStopAt (refusal : Refusal) : Type 0 where
     pub trace : List ℕ
@@ -139,6 +140,7 @@ module _ {E W N C : Type 0} (domain : DomainOf E W N C) (p : Problem) where
     stopped trace at (f.undecodable word) legal stop = (Err (o.undecodable_at at word), (trace, is_short trace legal, (legal, stop)))
     stopped trace at (f.too_many x uses) legal stop = (Err (o.too_many_targets at (domain.word_text 32 x)), (trace, x, uses, is_short trace legal, (legal, stop), refl))
     stopped trace at (f.moves targets post uses) legal stop = absurd (stop.0 tt)
+    stopped trace at (f.sends arrivals uses) legal stop = absurd (stop.0 tt)
 
     pub has_outcome : (found : Outcome) × ComesTo domain p image base found
     has_outcome =

@@ -2,7 +2,7 @@
 use Rattle.std.proofs.Common.{◌≡◌, ◌∙◌, ℕ, List, [], Option, None, Some, IsTrue, ap, refl, sym, subst}
 use Rattle.fixpoint_theory.specs.Analysis.{Analysis, AnalysisLaws}
 use Rattle.fixpoint_theory.specs.Code.{inside, is_code, outside}
-use Rattle.fixpoint_theory.specs.Outcome.{Moves, Outcome, moves, too_many, undecodable}
+use Rattle.fixpoint_theory.specs.Outcome.{Moves, Outcome, addresses, moves, sends, too_many, undecodable}
 use Rattle.fixpoint_theory.specs.WorklistState.{IsFine, IsComplete, IsLegal, IsStopped, WorklistState, Reached, begin, worklist_state}
 use Rattle.fixpoint_theory.specs.Table.{IsBlockOf, IsTableOf, Listing, Listings, TableFits, Tells}
 use Rattle.fixpoint_theory.proofs.Closing.{IsAnswered, begin_fine, begin_settled, legal_fine, legal_settled}
@@ -14,6 +14,7 @@ module _ {E W S : Type 0} (A : Analysis E W S) where
   listing_of x (undecodable word) = record { elem = x; next = []; exits = []; uses = [] }
   listing_of x (too_many shown uses) = record { elem = x; next = []; exits = []; uses = [] }
   listing_of x (moves targets post uses) = record { elem = x; next = inside A.code targets; exits = outside A.code targets; uses = uses }
+  listing_of x (sends arrivals uses) = record { elem = x; next = inside A.code (addresses arrivals); exits = outside A.code (addresses arrivals); uses = uses }
 
   abbrev block_at : ℕ → Option (Reached E) → Option (Listing E)
   block_at at None = None
@@ -27,11 +28,13 @@ module _ {E W S : Type 0} (A : Analysis E W S) where
   listing_elem x (undecodable word) = refl
   listing_elem x (too_many shown uses) = refl
   listing_elem x (moves targets post uses) = refl
+  listing_elem x (sends arrivals uses) = refl
 
   listing_tells : (x : E) (given : Outcome E W) → Moves given → Tells A (listing_of x given) given
   listing_tells x (undecodable word) has = absurd has
   listing_tells x (too_many shown uses) has = absurd has
   listing_tells x (moves targets post uses) has = (refl, refl, refl)
+  listing_tells x (sends arrivals uses) has = (refl, refl, refl)
 
   block_fits : (at : ℕ) (x : Option (Reached E)) (b : Listing E) → IsFine A at x → block_at at x ≡ Some b → IsTrue (is_code A.code at) × A.elements.fits b.elem
   block_fits at None b fine is = cc
@@ -62,6 +65,7 @@ module _ {E W S : Type 0} (A : Analysis E W S) where
     answered_moves p (undecodable word) answered = answered
     answered_moves p (too_many shown uses) answered = answered
     answered_moves p (moves targets post uses) answered = tt
+    answered_moves p (sends arrivals uses) answered = tt
 
     block_is : (at : ℕ) (x : Option (Reached E)) → ((r : Reached E) → x ≡ Some r → Moves (A.transfer at r.elem)) → IsBlockOf A at (block_at at x) x
     block_is at None has = tt

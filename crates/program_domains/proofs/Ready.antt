@@ -6,12 +6,17 @@ use Rattle.abstract_value_laws.specs.Abs.{Abs}
 use Rattle.abstract_semantics.specs.Answers.{Answer}
 use Rattle.abstract_semantics.proofs.Right.{answers_are_right}
 use Rattle.fixpoint_theory.specs.Analysis.{AnalysisLaws}
+use Rattle.fixpoint_theory.specs.Runs.{IsSound}
 use Rattle.fixpoint_theory.specs.Table.{IsClosed, Listings, TableFits}
+use Rattle.fixpoint_open_tables.specs.Endings.{Endings, IsClosedButOpen}
+use Rattle.fixpoint_open_tables.specs.Runs.{IsSoundUntilOpen}
+use Rattle.analysis_transfer_laws.specs.Analysis.{machine_of}
 use Rattle.analysis_transfer_laws.specs.Laws.{IsAnalysed}
+use Rattle.analysis_transfer_laws.specs.OpenRuns.{IsTrueUntilOpen}
 use Rattle.analysis_transfer_laws.specs.Problem.{IsWellFormedProblem, Problem}
 use Rattle.analysis_transfer_laws.specs.Runs.{IsTrueOfRuns}
-use Rattle.analysis_transfer_laws.proofs.Keeping.{transfers_keep_the_laws}
-use Rattle.analysis_transfer_laws.proofs.Runs.{closed_tables_are_true}
+use Rattle.analysis_cuts.proofs.Truth as truth
+use Rattle.analysis_cuts.proofs.Truth.{are_sound, keep_the_laws}
 use Rattle.analysis_transfer.specs.Analysis.{calls_of}
 use Rattle.program_domains.specs.Analyses.{analysis}
 use Rattle.program_domains.specs.Domains.{DomainOf}
@@ -30,7 +35,13 @@ module _ {E W N C : Type 0} (domain : DomainOf E W N C) (p : Problem) (lawful : 
   }
 
   pub keeps_the_laws : AnalysisLaws (analysis domain p)
-  keeps_the_laws = transfers_keep_the_laws domain.base lawful.laws domain.cap domain.elements domain.meaning p calls is_analysed
+  keeps_the_laws = keep_the_laws domain.base lawful.laws domain.cap domain.elements domain.meaning lawful.keeps.elements domain.pieces lawful.cut p is_analysed
+
+  pub is_sound : IsSound (analysis domain p) (machine_of p)
+  is_sound = are_sound domain.base lawful.laws domain.cap domain.elements domain.meaning lawful.keeps.elements domain.pieces lawful.cut p is_analysed
 
   pub closed_is_true : (t : Listings E) → TableFits (analysis domain p) t → IsClosed (analysis domain p) t → IsTrueOfRuns domain.base domain.elements p t
-  closed_is_true t fits closed = closed_tables_are_true domain.base lawful.laws domain.cap domain.elements domain.meaning p calls t is_analysed fits closed
+  closed_is_true t fits closed = truth.closed_is_true domain.base lawful.laws domain.cap domain.elements domain.meaning lawful.keeps.elements domain.pieces lawful.cut p is_analysed t fits closed
+
+  pub open_is_true : (t : Listings E) (ends : Endings W) → IsClosedButOpen (analysis domain p) t ends → IsSoundUntilOpen (analysis domain p) (machine_of p) t ends → IsTrueUntilOpen domain.base domain.elements p t ends
+  open_is_true t ends closed sound = truth.open_is_true domain.base lawful.laws domain.cap domain.elements domain.meaning lawful.keeps.elements domain.pieces lawful.cut p is_analysed t ends closed sound

@@ -7,7 +7,7 @@ use Rattle.fixpoint_theory.specs.Analysis.{Analysis, height_of}
 use Rattle.fixpoint_theory.specs.Outcome.{too_many, undecodable}
 use Rattle.fixpoint_theory.specs.WorklistState.{IsComplete, IsLegal, worklist_state}
 use Rattle.fixpoint_theory.specs.Table.{IsTableOf, Listings, TableFits}
-use Rattle.analysis_transfer_laws.specs.Analysis.{analysis_of}
+use Rattle.analysis_cuts.specs.Analysis.{cut_analysis_of}
 use Rattle.analysis_transfer_laws.specs.Problem.{Problem}
 use Rattle.analysis_transfer_laws.specs.Runs.{IsTrueOfRuns}
 use Rattle.analysis_transfer.specs.Analysis.{calls_of}
@@ -18,9 +18,9 @@ use Rattle.program_common.specs.Outcome.{Outcome, Refusal, text, undecodable_at,
 use Rattle.program_domains.specs.Domains.{DomainOf}
 
 module _ {E W N C : Type 0} (domain : DomainOf E W N C) (p : Problem) where
-  -- the analysis of the problem in the domain
+  -- the analysis of the problem in the domain, by cases where elements are split
   abbrev pub analysis : Analysis E W State
-  analysis = analysis_of domain.base domain.cap domain.elements domain.meaning p (calls_of domain.base domain.cap domain.meaning p)
+  analysis = cut_analysis_of domain.base domain.cap domain.elements domain.meaning domain.pieces p (calls_of domain.base domain.cap domain.meaning p)
 
   -- The trace is short: of N code words and elements of the height H it has at most N(H + J + 1) transfers, where J changes of an element join.
   abbrev pub IsShort : List ℕ → Type 0

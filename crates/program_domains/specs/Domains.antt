@@ -14,15 +14,21 @@ use Rattle.domain_affine_base.specs.Meaning.{affine}
 use Rattle.domain_affine_base.specs.declared.word.Word.{Word}
 use Rattle.support_modular_rows.specs.Submodule.{Submodule}
 use Rattle.base_product.specs.Meaning.{paired}
+use Rattle.base_cuts.specs.Cuts.{Cuts, uncut}
+use Rattle.base_cuts.specs.Intervals.{interval_cuts}
+use Rattle.base_cuts.specs.Sets.{set_cuts}
+use Rattle.base_cuts.specs.Strides.{stride_cuts}
 use Rattle.semantics_values.specs.declared.entry.KeyAt.{KeyAt}
 use Rattle.semantics_values.specs.States.{State}
 use Rattle.abstract_value_laws.specs.Abs.{Parts}
 use Rattle.fixpoint_theory.specs.Elements.{Elements}
 use Rattle.fixpoint_theory.specs.Pairs.{paired as paired_elements}
+use Rattle.fixpoint_cases.specs.Pieces.{Piece, pair_piece, whole_piece}
 use Rattle.domain_laws.specs.Domain.{Meaning}
 use Rattle.domain_laws.specs.States.{StateType}
 use Rattle.domain_laws.specs.Calls.{cell_calls}
 use Rattle.domain_laws.specs.Cells.{cells}
+use Rattle.domain_cell_pieces.specs.Pieces.{cell_piece}
 use Rattle.domain_affine_laws.specs.Calls.{affine_calls, affine_elements, cell_count}
 use Rattle.domain_product_laws.specs.Domain.{pair_meaning}
 use Rattle.text_words.specs.Readings.{Readings, bits_readings, defuse_readings, interval_readings, set_readings, strides_readings}
@@ -44,6 +50,8 @@ pub record DomainOf (E W N C : Type 0) : Type 1 where
   -- its elements, and the calls on them
   pub elements : Elements E State
   pub meaning : Meaning E W N C
+  -- what is left of elements where a cell lies between two numbers
+  pub pieces : Piece (ℕ × KeyAt) E
   -- the texts of elements, what is read of lines, what is read of a text as a word of 32 bits, and the texts of words of so many bits
   pub IsText : ElementText E
   pub Reads : ElementReading E
@@ -59,6 +67,7 @@ pair_of first second = record {
   cap = max first.cap second.cap;
   elements = paired_elements first.elements second.elements;
   meaning = pair_meaning first.base second.base (max first.cap second.cap) first.meaning second.meaning;
+  pieces = pair_piece first.pieces second.pieces;
   IsText = PairText first.IsText second.IsText;
   Reads = PairRead first.Reads second.Reads;
   word_in = pair_word first.word_in second.word_in;
@@ -68,12 +77,13 @@ pair_of first second = record {
 
 module _ (t : StateType) where
   -- cells of a base that has a name
-  abbrev pub cells_of : {W N C : Type 0} → Algebra W N C → C → ℕ → List ℕ → Texts W N → Readings W N → DomainOf (Parts W N) W N C
-  cells_of base c cap name texts readings = record {
+  abbrev pub cells_of : {W N C : Type 0} → Algebra W N C → Cuts W C → C → ℕ → List ℕ → Texts W N → Readings W N → DomainOf (Parts W N) W N C
+  cells_of base cuts c cap name texts readings = record {
     base = base;
     cap = cap;
     elements = cells base c cap t.fields;
     meaning = cell_calls base c cap t;
+    pieces = cell_piece base cuts c cap t.fields;
     IsText = CellsText name texts;
     Reads = CellsRead readings cap name;
     word_in = cells_word readings;
@@ -83,21 +93,21 @@ module _ (t : StateType) where
 
   -- sets of at most K numbers
   abbrev pub sets : ℕ → DomainOf (Parts (Option (List ℕ)) (Unit {0})) (Option (List ℕ)) (Unit {0}) (Unit {0})
-  sets K = cells_of (kset K) tt 256 (if K == 1 then codes "const" else codes "kset") set_texts (set_readings K)
+  sets K = cells_of (kset K) (set_cuts K) tt 256 (if K == 1 then codes "const" else codes "kset") set_texts (set_readings K)
 
   abbrev pub intervals : DomainOf (Parts Range (Unit {0})) Range (Unit {0}) (Unit {0})
-  intervals = cells_of interval tt 256 (codes "interval") interval_texts interval_readings
+  intervals = cells_of interval interval_cuts tt 256 (codes "interval") interval_texts interval_readings
 
   abbrev pub known_bits : DomainOf (Parts Known (Unit {0})) Known (Unit {0}) (Unit {0})
-  known_bits = cells_of bits tt 256 (codes "bits") bits_texts bits_readings
+  known_bits = cells_of bits uncut tt 256 (codes "bits") bits_texts bits_readings
 
   -- small sets and strided intervals, which are widened with no stops
   abbrev pub strided_sets : DomainOf (Parts strided.Word (Unit {0})) strided.Word (Unit {0}) (List ℕ)
-  strided_sets = cells_of strides [] 256 (codes "strides") strides_texts strides_readings
+  strided_sets = cells_of strides stride_cuts [] 256 (codes "strides") strides_texts strides_readings
 
   -- definitions and uses
   abbrev pub definitions : DomainOf (Parts (Option (List ℕ)) (List Stamp)) (Option (List ℕ)) (List Stamp) (Unit {0})
-  definitions = cells_of defuse tt 256 (codes "defuse") defuse_texts defuse_readings
+  definitions = cells_of defuse (set_cuts 1) tt 256 (codes "defuse") defuse_texts defuse_readings
 
   -- affine relations
   abbrev pub relations : DomainOf Submodule Word (Unit {0}) (List (ℕ × KeyAt))
@@ -106,6 +116,7 @@ module _ (t : StateType) where
     cap = 256;
     elements = affine_elements t;
     meaning = affine_calls t;
+    pieces = whole_piece;
     IsText = AffineText;
     Reads = AffineRead (cell_count t);
     word_in = affine_word (cell_count t);

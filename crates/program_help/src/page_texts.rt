@@ -38,14 +38,14 @@ pub const EMULATE: &str =
 /// The page of `analyse`.
 pub const ANALYSE: &str =
     "  analyse SPEC CODE ENTRY         a table of what holds at each address in every run
-      options: --at --order --base --limit --widen --open
+      options: --at --order --base --limit --widen --cases --open
       ./tsl analyse @ppc examples/programs/crc32_ppc.code examples/programs/crc32_ppc.entry --at 00001000 > crc32.table
 ";
 
 /// The page of `check`.
 pub const CHECK: &str =
     "  check SPEC CODE ENTRY TABLE     whether a table, from wherever, is true of every run because it is closed
-      options: --at --order --base --limit --open
+      options: --at --order --base --limit --cases --open
       ./tsl check @ppc examples/programs/crc32_ppc.code examples/programs/crc32_ppc.entry crc32.table --at 00001000
 ";
 
@@ -58,7 +58,7 @@ pub const CONVERT: &str = "  convert SPEC CODE TABLE         a table of either f
 /// The page of `slice`.
 pub const SLICE: &str = "  slice SPEC CODE ENTRY TABLE ADDRESS CELL
                                   from where a value comes that an instruction reads, by a table of a base with defuse
-      options: --at --order --base --limit --open
+      options: --at --order --base --limit --cases --open
       ./tsl analyse @ppc examples/programs/crc32_ppc.code examples/programs/crc32_ppc.entry --at 00001000 --base kset+defuse > crc32.uses
       ./tsl slice @ppc examples/programs/crc32_ppc.code examples/programs/crc32_ppc.entry crc32.uses 00001044 'spr[LR]' \\
           --at 00001000 --base kset+defuse
@@ -67,7 +67,7 @@ pub const SLICE: &str = "  slice SPEC CODE ENTRY TABLE ADDRESS CELL
 /// The page of `claims`.
 pub const CLAIMS: &str = "  claims SPEC CODE ENTRY TABLE CLAIMS
                                   yes for each claim of a file that a table shows of every run, open for any other
-      options: --at --order --base --limit --open
+      options: --at --order --base --limit --cases --open
       echo '00001044 spr[LR] in fffffffc..fffffffc' > crc32.claims
       ./tsl claims @ppc examples/programs/crc32_ppc.code examples/programs/crc32_ppc.entry crc32.table crc32.claims --at 00001000
 ";

@@ -1,5 +1,5 @@
 -- What the analysis of a problem prints is accepted, however many changes of an element joined.
-use Rattle.std.proofs.Common.{◌≡◌, ◌∙◌, ℕ, List, IsTrue, inl, refl, subst, sym}
+use Rattle.std.proofs.Common.{◌≡◌, ◌∙◌, ℕ, List, IsTrue, inl, subst, sym}
 use Rattle.std.specs.List.{list_all}
 use Rattle.std.specs.Prelude.{Ok}
 use Rattle.text_lines.specs.Lines.{is_inside}
@@ -8,13 +8,13 @@ use Rattle.support_command_line.specs.Bases.{base_text}
 use Rattle.code_image.specs.Image.{Image}
 use Rattle.domain_laws.specs.States.{state_type}
 use Rattle.fixpoint_theory.specs.Analysis.{AnalysisLaws}
-use Rattle.fixpoint_theory.specs.Table.{IsClosed, Listings, TableFits}
+use Rattle.fixpoint_theory.specs.Table.{IsClosed, TableFits}
 use Rattle.fixpoint_theory.specs.Verdicts.{verdict_of}
 use Rattle.fixpoint_theory.specs.declared.verdict.Verdict.{Verdict}
 use Rattle.fixpoint_theory.specs.declared.verdict.Verdict.TheVariants as v
 use Rattle.fixpoint_theory.proofs.Tables.{full_traces_close}
 use Rattle.fixpoint_theory.proofs.Verdicts.{accepted_are_closed}
-use Rattle.fixpoint_open_tables.specs.Endings.{Endings, IsClosedButOpen, endings_of}
+use Rattle.fixpoint_open_tables.specs.Endings.{IsClosedButOpen, endings_of}
 use Rattle.fixpoint_open_tables.specs.Instance.{left_open_laws}
 use Rattle.fixpoint_open_tables.specs.LeftOpen.{left_open}
 use Rattle.fixpoint_open_tables.specs.Verdicts.{IsVerdict}
@@ -22,13 +22,16 @@ use Rattle.fixpoint_open_tables.proofs.Soundness.{open_tables_are_sound}
 use Rattle.analysis_transfer_laws.specs.Analysis.{machine_of}
 use Rattle.analysis_transfer_laws.specs.OpenRuns.{IsTrueUntilOpen}
 use Rattle.analysis_transfer_laws.specs.Problem.{IsWellFormedProblem, Problem}
-use Rattle.analysis_transfer_laws.proofs.OpenRuns.{open_is_true}
-use Rattle.analysis_transfer_laws.proofs.Sound.{transfers_are_sound}
+use Rattle.analysis_table_laws.specs.InvariantLaws.{has_word}
+use Rattle.analysis_table_laws.proofs.Cases.{choices_keep}
+use Rattle.fixpoint_cases.specs.Narrowing.{first_narrowing}
+use Rattle.analysis_cuts.specs.Analysis.{choices_at, split_of}
+use Rattle.analysis_cuts.specs.Instance.{are_alike, are_split}
 use Rattle.text_table_reader.specs.Tables.{IsOpenTableIn}
 use Rattle.text_round_trips.specs.OpenAnalyses.{HasCodeWords}
-use Rattle.text_round_trips.proofs.OpenAnalyses.{texts_of_open_traces_are_accepted}
-use Rattle.program_common.specs.Outcome.{Outcome, text}
-use Rattle.program_domains.specs.Analyses.{IsTable, analysis}
+use Rattle.text_round_trips.proofs.OpenAnalyses.{accepted_by, cases_are_written}
+use Rattle.program_common.specs.Outcome.{text}
+use Rattle.program_domains.specs.Analyses.{IsTable}
 use Rattle.program_domains.specs.Checks.{Judges, accepted_line, judged, outcome_of}
 use Rattle.program_domains.specs.Domains.{DomainOf}
 use Rattle.program_domains.specs.Named.{Analysed, AnalysedOpen, Checked, CheckedOpen, domain_of}
@@ -39,7 +42,7 @@ use Rattle.program_domains.proofs.Bases.{known, known_is_lawful}
 use Rattle.program_domains.proofs.Lawful.{IsLawful}
 use Rattle.program_domains.proofs.OpenReadings.{open_checks_are_one}
 use Rattle.program_domains.proofs.Readings.{checks_are_one}
-use Rattle.program_domains.proofs.Ready.{calls, closed_is_true, is_analysed, keeps_the_laws}
+use Rattle.program_domains.proofs.Ready.{calls, closed_is_true, is_analysed, is_sound, keeps_the_laws, open_is_true}
 use Rattle.program_laws.specs.AgreementLaws.{AnalysesAreAccepted, IsCodeOf, OpenAnalysesAreAccepted, with_joins}
 use Rattle.program_laws.specs.Printable.{Asks, IsPrintableIn}
 use Rattle.program_laws.proofs.Agreement.{back, parts}
@@ -98,18 +101,21 @@ module _ {E W N C : Type 0} (domain : DomainOf E W N C) (notes_are : Asks N) (el
 
     open_true : IsTrueUntilOpen domain.base domain.elements p h.table h.ends
     open_true =
-        let analysed = is_analysed domain p lawful posed in
-        let c = calls domain p lawful posed in
         let closed : IsClosedButOpen (A domain p joins) h.table h.ends = record { closed = open_closed; endings = ends_are } in
-        open_is_true domain.base lawful.laws domain.cap domain.elements domain.meaning p c analysed h.table h.ends closed
-        (open_tables_are_sound (A domain p joins) (machine_of p) laws (transfers_are_sound domain.base lawful.laws domain.cap domain.elements domain.meaning p c analysed) h.table h.ends open_fits closed)
+        open_is_true domain p lawful posed h.table h.ends closed (open_tables_are_sound (A domain p joins) (machine_of p) laws (is_sound domain p lawful posed) h.table h.ends open_fits closed)
 
     open_back : IsOpenTableIn domain.Reads domain.word_in p.spec name image bytes h.table h.ends
     open_back =
         let q = with_joins p joins in
         let q_posed = posed_too p joins posed in
-        (texts_of_open_traces_are_accepted domain.base lawful.laws domain.cap domain.elements domain.meaning notes_are elements_are told.notes told.keeps domain.Reads domain.word_in domain.IsText domain.word_text
-        q (calls domain q lawful q_posed) image name h.trace h.table h.ends bytes (is_analysed domain q lawful q_posed) (parts domain notes_are elements_are p.spec lawful told image of.code name inside)
+        let q_calls = calls domain q lawful q_posed in
+        let split = split_of q domain.elements domain.pieces in
+        let written = cases_are_written domain.base lawful.laws domain.cap domain.elements domain.meaning notes_are elements_are told.notes told.keeps q q_calls (is_analysed domain q lawful q_posed)
+        split q.cases (are_split domain.elements lawful.keeps.elements domain.pieces lawful.cut q) (are_alike domain.elements lawful.keeps.elements domain.pieces lawful.cut q)
+        (choices_keep domain.pieces (elements_are (has_word q)) (told.pieces (has_word q)) (λ a x. first_narrowing domain.elements domain.pieces (choices_at q a) x)) in
+        let transfer = (B domain p joins).transfer in
+        (accepted_by domain.base domain.cap domain.elements domain.meaning elements_are q q_calls transfer written domain.Reads domain.word_in domain.IsText domain.word_text
+        image name h.trace h.table h.ends bytes (parts domain notes_are elements_are p.spec lawful told image of.code name inside)
         (record { addresses_are = of.addresses_are; words_are = of.words_are }) words inside h.legal h.complete h.fits h.is_table h.endings (inl h.text)).0
 
     pub open_judges : JudgesOpen domain p image name bytes (Ok (text accepted_line))

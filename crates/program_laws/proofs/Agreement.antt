@@ -1,5 +1,5 @@
 -- What the analysis of a problem prints tells its table; what was written anew stays.
-use Rattle.std.proofs.Common.{◌≡◌, ℕ, Bool, true, false, List, Option, IsTrue, inl, inr, refl, sym, ap, subst}
+use Rattle.std.proofs.Common.{◌≡◌, ℕ, Bool, true, false, List, IsTrue, inl, inr, refl, sym, ap, subst}
 use Rattle.std.specs.List.{list_all}
 use Rattle.std.specs.Prelude.{Ok, is_some}
 use Rattle.text_lines.specs.Lines.{is_inside}
@@ -18,8 +18,10 @@ use Rattle.analysis_transfer_laws.specs.Problem.{IsWellFormedProblem, Problem}
 use Rattle.analysis_transfer.specs.Analysis.{calls_of}
 use Rattle.analysis_table_laws.specs.InvariantLaws.{has_word}
 use Rattle.analysis_table_laws.specs.Tables.{IsPrintableTable}
-use Rattle.analysis_table_laws.proofs.Tables.{tables_are_printable}
-use Rattle.text_faults.specs.declared.table_error.TableError.{TableError}
+use Rattle.analysis_table_laws.proofs.Cases.{choices_keep}
+use Rattle.fixpoint_cases.specs.Narrowing.{first_narrowing}
+use Rattle.analysis_cuts.specs.Analysis.{choices_at, split_of}
+use Rattle.analysis_cuts.specs.Instance.{are_alike, are_split}
 use Rattle.text_table_reader.specs.Ends.{is_word_of}
 use Rattle.text_table_reader.specs.Tables.{IsOpenTableIn, IsTableIn}
 use Rattle.text_table_reader.specs.Readings.{AreAlike}
@@ -29,18 +31,19 @@ use Rattle.text_tables.specs.Open.{IsOpenTableText}
 use Rattle.text_round_trips.specs.TableLaws.{HasParts}
 use Rattle.text_round_trips.specs.Writable.{IsWritable}
 use Rattle.text_round_trips.proofs.Fitting.{fitting_tables_are_of_code}
+use Rattle.text_round_trips.proofs.OpenAnalyses.{cases_are_printable}
 use Rattle.text_round_trips.proofs.Tables.{converted_texts_are_read, tables_read_are_writable, texts_are_read, texts_are_told}
-use Rattle.program_common.specs.Outcome.{Outcome, table_refused, text}
+use Rattle.program_common.specs.Outcome.{Outcome, text}
 use Rattle.program_domains.specs.Analyses.{IsTable, analysis}
 use Rattle.program_domains.specs.Conversions as conversions
 use Rattle.program_domains.specs.Conversions.{Rewrites, rewritten}
 use Rattle.program_domains.specs.Domains.{DomainOf}
-use Rattle.program_domains.specs.Named.{Analysed, Converted, domain_of, has_relations}
+use Rattle.program_domains.specs.Named.{domain_of, has_relations}
 use Rattle.program_domains.proofs.Bases.{IsKnown, all_known, known, known_is_lawful}
-use Rattle.program_domains.proofs.Lawful.{IsExact, IsLawful}
+use Rattle.program_domains.proofs.Lawful.{IsLawful}
 use Rattle.program_domains.proofs.Ready.{is_analysed, keeps_the_laws}
 use Rattle.program_domains.proofs.Texts.{same_are_alike}
-use Rattle.program_laws.specs.AgreementLaws.{AnalysesAreTold, AnalysesTellOne, ConversionsStay, IsCodeFor, IsCodeOf, IsRewritten, TablesAreTold, TellOne, TextsAreReadBack}
+use Rattle.program_laws.specs.AgreementLaws.{AnalysesAreTold, AnalysesTellOne, ConversionsStay, IsCodeFor, IsCodeOf, TablesAreTold, TextsAreReadBack}
 use Rattle.program_laws.specs.Printable.{Asks, IsPrintableIn}
 use Rattle.program_laws.proofs.Bases.{all_told, names_inside}
 use Rattle.program_laws.proofs.OpenTexts.{one_open_text}
@@ -103,8 +106,9 @@ module _ {E W N C : Type 0} (domain : DomainOf E W N C) (notes_are : Asks N) (el
   module _ (bytes : List ℕ) (h : IsTable domain p image name bytes) where
     pub printable : IsPrintableTable p.spec (elements_are (has_word p)) h.table
     printable =
-        tables_are_printable domain.base lawful.laws domain.cap domain.elements domain.meaning notes_are elements_are told.notes told.keeps p (calls_of domain.base domain.cap domain.meaning p) h.trace h.table
-        (is_analysed domain p lawful posed) h.fits h.is_table
+        cases_are_printable domain.base lawful.laws domain.cap domain.elements domain.meaning notes_are elements_are told.notes told.keeps p (calls_of domain.base domain.cap domain.meaning p)
+        (is_analysed domain p lawful posed) (split_of p domain.elements domain.pieces) p.cases (are_split domain.elements lawful.keeps.elements domain.pieces lawful.cut p) (are_alike domain.elements lawful.keeps.elements domain.pieces lawful.cut p)
+        (choices_keep domain.pieces (elements_are (has_word p)) (told.pieces (has_word p)) (λ a x. first_narrowing domain.elements domain.pieces (choices_at p a) x)) h.trace h.table h.fits h.is_table
 
     same_words : has_word p ≡ is_word_of image
     same_words = ap {B = ℕ → Bool} (λ word_at a. is_some (word_at a)) of.words_are

@@ -1,13 +1,16 @@
 -- The domain of each base is told by its texts.
-use Rattle.std.proofs.Common.{◌≡◌, ℕ, Bool, true, List, [], refl}
+use Rattle.std.proofs.Common.{◌≡◌, true, [], refl}
 use Rattle.std.specs.List.{list_all}
-use Rattle.std.specs.Prelude.{codes, if◌then◌else◌, ◌==◌}
-use Rattle.base_trait.specs.declared.uses.Stamp.{Stamp}
+use Rattle.std.specs.Prelude.{codes}
 use Rattle.base_kset.specs.Meaning.{kset}
 use Rattle.base_interval.specs.Meaning.{interval}
 use Rattle.base_bits.specs.Meaning.{bits}
 use Rattle.base_strides.specs.Meaning.{strides}
 use Rattle.base_defuse.specs.Meaning.{defuse}
+use Rattle.base_cuts.specs.Cuts.{uncut}
+use Rattle.base_cuts.specs.Intervals.{interval_cuts}
+use Rattle.base_cuts.specs.Sets.{set_cuts}
+use Rattle.base_cuts.specs.Strides.{stride_cuts}
 use Rattle.support_command_line.specs.declared.bases.BaseName.{BaseName}
 use Rattle.support_command_line.specs.declared.bases.BaseName.TheVariants as b
 use Rattle.support_command_line.specs.Bases.{base_text}
@@ -25,7 +28,7 @@ use Rattle.analysis_table_laws.specs.Values.{PartsHaveNotes}
 use Rattle.analysis_table_laws.proofs.Notes.{nothing_keeps, stamps_keep}
 use Rattle.text_round_trips.specs.Words.{AreSolid}
 use Rattle.text_round_trips.proofs.Words.{relations_words_tell}
-use Rattle.program_domains.specs.Domains.{DomainOf, definitions, intervals, known_bits, relations, sets, strided_sets}
+use Rattle.program_domains.specs.Domains.{definitions, intervals, known_bits, relations, sets, strided_sets}
 use Rattle.program_domains.specs.Named.{domain_of}
 use Rattle.program_laws.specs.Printable.{Asks, IsPrintableIn}
 use Rattle.program_laws.proofs.Told.{IsTold, cells_are_told, pairs_are_told, relations_are_told}
@@ -70,22 +73,22 @@ module _ (spec : Spec) (has : has_states spec ≡ true) (fields : HasFields spec
   t = state_type spec
 
   of_constants : IsTold (sets t 1) NothingFits (λ code. PartsHaveNotes (NothingFits code)) spec
-  of_constants = cells_are_told spec has fields (kset 1) tt (codes "const") set_texts (set_readings 1) NothingFits (sets_tell 1) nothing_keeps refl
+  of_constants = cells_are_told spec has fields (kset 1) (set_cuts 1) tt (codes "const") set_texts (set_readings 1) NothingFits (sets_tell 1) nothing_keeps refl
 
   of_sets : IsTold (sets t 16) NothingFits (λ code. PartsHaveNotes (NothingFits code)) spec
-  of_sets = cells_are_told spec has fields (kset 16) tt (codes "kset") set_texts (set_readings 16) NothingFits (sets_tell 16) nothing_keeps refl
+  of_sets = cells_are_told spec has fields (kset 16) (set_cuts 16) tt (codes "kset") set_texts (set_readings 16) NothingFits (sets_tell 16) nothing_keeps refl
 
   of_intervals : IsTold (intervals t) NothingFits (λ code. PartsHaveNotes (NothingFits code)) spec
-  of_intervals = cells_are_told spec has fields interval tt (codes "interval") interval_texts interval_readings NothingFits intervals_tell nothing_keeps refl
+  of_intervals = cells_are_told spec has fields interval interval_cuts tt (codes "interval") interval_texts interval_readings NothingFits intervals_tell nothing_keeps refl
 
   of_bits : IsTold (known_bits t) NothingFits (λ code. PartsHaveNotes (NothingFits code)) spec
-  of_bits = cells_are_told spec has fields bits tt (codes "bits") bits_texts bits_readings NothingFits bits_tell nothing_keeps refl
+  of_bits = cells_are_told spec has fields bits uncut tt (codes "bits") bits_texts bits_readings NothingFits bits_tell nothing_keeps refl
 
   of_strided : IsTold (strided_sets t) NothingFits (λ code. PartsHaveNotes (NothingFits code)) spec
-  of_strided = cells_are_told spec has fields strides [] (codes "strides") strides_texts strides_readings NothingFits strides_tell nothing_keeps refl
+  of_strided = cells_are_told spec has fields strides stride_cuts [] (codes "strides") strides_texts strides_readings NothingFits strides_tell nothing_keeps refl
 
   of_definitions : IsTold (definitions t) StampsFit (λ code. PartsHaveNotes (StampsFit code)) spec
-  of_definitions = cells_are_told spec has fields defuse tt (codes "defuse") defuse_texts defuse_readings StampsFit defuse_tell stamps_keep refl
+  of_definitions = cells_are_told spec has fields defuse (set_cuts 1) tt (codes "defuse") defuse_texts defuse_readings StampsFit defuse_tell stamps_keep refl
 
   of_relations : IsTold (relations t) TellsNothing (λ code. HasNone) spec
   of_relations = relations_are_told spec has fields

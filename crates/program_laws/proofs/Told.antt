@@ -8,13 +8,15 @@ use Rattle.state_text.specs.Laws.{HasFields}
 use Rattle.text_words.specs.Readings.{Readings, TextsTell}
 use Rattle.text_words.specs.Texts.{Texts}
 use Rattle.text_lines.specs.Lines.{is_inside}
-use Rattle.analysis_table_laws.specs.Domains.{ElementsKeep, HasNone}
+use Rattle.analysis_table_laws.specs.Domains.{ElementsKeep, HasNone, PiecesKeep}
 use Rattle.analysis_table_laws.specs.Notes.{BothNotes, NotesKeep, TellsNothing}
 use Rattle.analysis_table_laws.specs.Values.{PartsHaveNotes}
 use Rattle.analysis_table_laws.proofs.Affine.{relations_keep}
 use Rattle.analysis_table_laws.proofs.Cells.{cells_keep}
 use Rattle.analysis_table_laws.proofs.Notes.{nothing_keeps, pairs_keep}
 use Rattle.analysis_table_laws.proofs.Pairs.{domains_keep}
+use Rattle.analysis_table_laws.proofs.Pieces.{cell_pieces_keep, pair_pieces_keep, whole_pieces_keep}
+use Rattle.base_cuts.specs.Cuts.{Cuts}
 use Rattle.text_round_trips.specs.Laws.{BeginWithPart}
 use Rattle.text_round_trips.specs.RoundTrips.{RoundTrips}
 use Rattle.text_round_trips.specs.Words.{AreSolid, WordsTell}
@@ -33,16 +35,18 @@ pub record IsTold {E W N C : Type 0} (domain : DomainOf E W N C) (notes_are : As
   pub begin : BeginWithPart domain.IsText spec
   pub notes : (code : ℕ → Bool) → NotesKeep domain.base.notes code (notes_are code)
   pub keeps : (code : ℕ → Bool) → ElementsKeep domain.elements domain.meaning (notes_are code) (elements_are code)
+  pub pieces : (code : ℕ → Bool) → PiecesKeep domain.pieces (elements_are code)
 
 module _ (spec : Spec) (has : has_states spec ≡ true) (fields : HasFields spec) where
-  pub cells_are_told : {W N C : Type 0} (base : Algebra W N C) (c : C) (name : List ℕ) (texts : Texts W N) (readings : Readings W N) (F : Asks N) → TextsTell base F texts readings
-      → ((code : ℕ → Bool) → NotesKeep base.notes code (F code)) → list_all is_inside name ≡ true → IsTold (cells_of (state_type spec) base c 256 name texts readings) F (λ code. PartsHaveNotes (F code)) spec
-  cells_are_told base c name texts readings F tell notes inside = record {
+  pub cells_are_told : {W N C : Type 0} (base : Algebra W N C) (cuts : Cuts W C) (c : C) (name : List ℕ) (texts : Texts W N) (readings : Readings W N) (F : Asks N) → TextsTell base F texts readings
+      → ((code : ℕ → Bool) → NotesKeep base.notes code (F code)) → list_all is_inside name ≡ true → IsTold (cells_of (state_type spec) base cuts c 256 name texts readings) F (λ code. PartsHaveNotes (F code)) spec
+  cells_are_told base cuts c name texts readings F tell notes inside = record {
     trips = cells_round_trip base texts readings tell c 256 name spec inside has fields;
     words = (cells_words_tell base texts readings tell c).0;
     begin = cells_begin texts name spec;
     notes = notes;
     keeps = λ code. cells_keep base c 256 code (F code) (notes code) (state_type spec);
+    pieces = λ code. cell_pieces_keep base cuts c 256 code (F code) (notes code) (state_type spec).fields;
   }
 
   pub relations_are_told : IsTold (relations (state_type spec)) TellsNothing (λ code. HasNone) spec
@@ -52,6 +56,7 @@ module _ (spec : Spec) (has : has_states spec ≡ true) (fields : HasFields spec
     begin = relations_begin spec;
     notes = nothing_keeps;
     keeps = λ code. relations_keep (state_type spec) code;
+    pieces = λ code. whole_pieces_keep HasNone;
   }
 
 module _ {E F V W M N C D : Type 0} (first : DomainOf E V M C) (second : DomainOf F W N D) (spec : Spec) (P : Asks M) (Q : Asks N) (J : Asks E) (K : Asks F) where
@@ -63,4 +68,5 @@ module _ {E F V W M N C D : Type 0} (first : DomainOf E V M C) (second : DomainO
     notes = λ code. pairs_keep first.base.notes second.base.notes code (P code) (Q code) (left.notes code) (right.notes code);
     keeps = λ code. domains_keep first.base second.base (max first.cap second.cap) code first.elements second.elements first.meaning second.meaning
         (P code) (Q code) (J code) (K code) (left.notes code) (right.notes code) (left.keeps code) (right.keeps code);
+    pieces = λ code. pair_pieces_keep (J code) (K code) first.pieces second.pieces (left.pieces code) (right.pieces code);
   }

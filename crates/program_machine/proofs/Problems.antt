@@ -63,11 +63,11 @@ module _ (reads : Reading) (name : SpecName) (spec : Spec) where
   entry_read entry_name entry (goes_on {given = bytes} read is) = text_entry spec bytes entry is
 
   -- the problem of what was read
-  pub well_posed : (code : Code) (entry_name : List ℕ) (image : Image) (entry : Entry) (m : Numbers) (limit joins : ℕ) → length code.parts ≤ 16 → MachineOf reads name (Ok spec) → CodeOf reads code (Ok image)
-      → EntryOf reads spec entry_name (Ok entry) → spec.machine ≡ Some m → IsWellFormedProblem (problem_of spec m image entry limit joins)
-  well_posed code entry_name image entry m limit joins few specified is_image is_entry is_machine =
+  pub well_posed : (code : Code) (entry_name : List ℕ) (image : Image) (entry : Entry) (m : Numbers) (limit joins cases : ℕ) → length code.parts ≤ 16 → MachineOf reads name (Ok spec) → CodeOf reads code (Ok image)
+      → EntryOf reads spec entry_name (Ok entry) → spec.machine ≡ Some m → IsWellFormedProblem (problem_of spec m image entry limit joins cases)
+  well_posed code entry_name image entry m limit joins cases few specified is_image is_entry is_machine =
       let given = entry_read entry_name entry is_entry in
-      read_problems_are_well_posed addresses_are_those_of_words spec m image given.0 entry limit joins (machine_accepted specified) is_machine (code_image reads code image few is_image) given.1
+      read_problems_are_well_posed addresses_are_those_of_words spec m image given.0 entry limit joins cases (machine_accepted specified) is_machine (code_image reads code image few is_image) given.1
 
 -- ---- what was read together
 
@@ -107,10 +107,10 @@ module _ (reads : Reading) (name : SpecName) (code : Code) where
     pub posed_has_machine : (posed : AnalysisInputs) → PosedOf reads name code entry (Ok posed) → IsSome posed.spec.machine
     posed_has_machine posed is = machine_there reads name posed.spec (posed_parts posed is).coded.machine
 
-    pub posed_is_well_posed : (posed : AnalysisInputs) (m : Numbers) (limit joins : ℕ) → length code.parts ≤ 16 → PosedOf reads name code entry (Ok posed) → posed.spec.machine ≡ Some m → IsWellFormedProblem (problem_of posed.spec m posed.image posed.entry limit joins)
-    posed_is_well_posed posed m limit joins few is is_machine =
+    pub posed_is_well_posed : (posed : AnalysisInputs) (m : Numbers) (limit joins cases : ℕ) → length code.parts ≤ 16 → PosedOf reads name code entry (Ok posed) → posed.spec.machine ≡ Some m → IsWellFormedProblem (problem_of posed.spec m posed.image posed.entry limit joins cases)
+    posed_is_well_posed posed m limit joins cases few is is_machine =
         let parts = posed_parts posed is in
-        well_posed reads name posed.spec code entry posed.image posed.entry m limit joins few parts.coded.machine parts.coded.image parts.enters is_machine
+        well_posed reads name posed.spec code entry posed.image posed.entry m limit joins cases few parts.coded.machine parts.coded.image parts.enters is_machine
 
     -- its code words are those of the problem
     pub posed_has_words : (posed : AnalysisInputs) → length code.parts ≤ 16 → PosedOf reads name code entry (Ok posed) → (a : ℕ) → IsTrue (is_some (code_at posed.image a)) → IsTrue (is_code (addresses posed.image.segments) a)

@@ -4,18 +4,17 @@ ghost use Rattle.std.specs.Prelude.{IsTrue};
 ghost use Rattle.support_command_line.specs.Bases.{base_text};
 ghost use Rattle.spec_ir.specs.Views.{specification};
 ghost use Rattle.state_text.specs.Reading.{entry_of};
-ghost use Rattle.analysis_transfer.specs.Analysis.{problem};
+ghost use Rattle.analysis_transfer.specs.Analysis.{IsReady, problem};
 ghost use Rattle.program_common.specs.Outcomes.{Gives, answer_of};
 ghost use Rattle.program_domains.specs.Tasks as asked;
 ghost use Rattle.program_domain_tasks.specs.Own.{OwnWork};
 ghost use Rattle.program_domain_tasks.specs.Read.{IsRead, problem_at};
 ghost use Rattle.program_open_tasks.specs.Open.{OwnComesOpen};
 
-use analysis_images::analyse_open;
+use analysis_cuts::analyse_open;
 use analysis_problems::laws::read_problems_are_well_posed;
 use analysis_transfer::ImageAnalysis;
 use fixpoint_open_tables::OpenReport;
-use fixpoint_theory::Analyser;
 use fixpoint_worklist::Report;
 use program_common::{Answer, Halt};
 use program_domain_tasks::{AnalysisStart, Subject, open_table_answer, prepare};
@@ -32,9 +31,9 @@ fn open_outcome<'a, 'b, D: NamedDomain, L: Ledger>(
     base: BaseName,
     steps: &mut Steps<L>,
 ) -> Result<Answer, Halt<'b>>
-    requires ready { ⟦<ImageAnalysis<'a, D> as Analyser>⟧.IsReady it.now }
-    ensures gives { Gives (OwnComesOpen (record { base = D.B.algebra; cap = D.B.CAP; elements = D.elements it.now.domain.now; meaning = D.meaning it.now.domain.now; view = D.view; IsText = D.IsText; Reads = D.Reads it.now.domain.now; word_in = D.word_in it.now.domain.now; word_text = D.word_text }) (problem it.now) it.now.image.now (base_text base)) answer_of result }
-    ensures work { OwnWork (record { base = D.B.algebra; cap = D.B.CAP; elements = D.elements it.now.domain.now; meaning = D.meaning it.now.domain.now; view = D.view; IsText = D.IsText; Reads = D.Reads it.now.domain.now; word_in = D.word_in it.now.domain.now; word_text = D.word_text }) it.now.image.now (base_text base) (asked.analyse_open (problem it.now)) steps.old steps.new }
+    requires ready { IsReady it.now D.B.algebra (D.is_for it.now.domain.now) }
+    ensures gives { Gives (OwnComesOpen (record { base = D.B.algebra; cap = D.B.CAP; elements = D.elements it.now.domain.now; meaning = D.meaning it.now.domain.now; pieces = D.pieces it.now.domain.now; view = D.view; IsText = D.IsText; Reads = D.Reads it.now.domain.now; word_in = D.word_in it.now.domain.now; word_text = D.word_text }) (problem it.now) it.now.image.now (base_text base)) answer_of result }
+    ensures work { OwnWork (record { base = D.B.algebra; cap = D.B.CAP; elements = D.elements it.now.domain.now; meaning = D.meaning it.now.domain.now; pieces = D.pieces it.now.domain.now; view = D.view; IsText = D.IsText; Reads = D.Reads it.now.domain.now; word_in = D.word_in it.now.domain.now; word_text = D.word_text }) it.now.image.now (base_text base) (asked.analyse_open (problem it.now)) steps.old steps.new }
 {
     let OpenReport {
         report: Report {
@@ -58,8 +57,8 @@ pub fn analyse_open_in_domain<'a, 'b, D: NamedDomain, L: Ledger>(
     requires joins { IsTrue D.B.algebra.joins }
     requires made { IsTrue (D.is_for domain.now (specification it.now.spec.now)) }
     requires read { IsRead (specification it.now.spec.now) start.now.machine (entry_of start.now.entry.now) }
-    ensures gives { Gives (OwnComesOpen (record { base = D.B.algebra; cap = D.B.CAP; elements = D.elements domain.now; meaning = D.meaning domain.now; view = D.view; IsText = D.IsText; Reads = D.Reads domain.now; word_in = D.word_in domain.now; word_text = D.word_text }) (problem_at (specification it.now.spec.now) it.now.image.now start.now) it.now.image.now (base_text base)) answer_of result }
-    ensures work { OwnWork (record { base = D.B.algebra; cap = D.B.CAP; elements = D.elements domain.now; meaning = D.meaning domain.now; view = D.view; IsText = D.IsText; Reads = D.Reads domain.now; word_in = D.word_in domain.now; word_text = D.word_text }) it.now.image.now (base_text base) (asked.analyse_open (problem_at (specification it.now.spec.now) it.now.image.now start.now)) steps.old steps.new }
+    ensures gives { Gives (OwnComesOpen (record { base = D.B.algebra; cap = D.B.CAP; elements = D.elements domain.now; meaning = D.meaning domain.now; pieces = D.pieces domain.now; view = D.view; IsText = D.IsText; Reads = D.Reads domain.now; word_in = D.word_in domain.now; word_text = D.word_text }) (problem_at (specification it.now.spec.now) it.now.image.now start.now) it.now.image.now (base_text base)) answer_of result }
+    ensures work { OwnWork (record { base = D.B.algebra; cap = D.B.CAP; elements = D.elements domain.now; meaning = D.meaning domain.now; pieces = D.pieces domain.now; view = D.view; IsText = D.IsText; Reads = D.Reads domain.now; word_in = D.word_in domain.now; word_text = D.word_text }) it.now.image.now (base_text base) (asked.analyse_open (problem_at (specification it.now.spec.now) it.now.image.now start.now)) steps.old steps.new }
 {
     read_problems_are_well_posed();
     it.image.is_kept();
@@ -75,6 +74,7 @@ pub fn analyse_open_in_domain<'a, 'b, D: NamedDomain, L: Ledger>(
         entry: start.entry,
         limit: start.limit,
         joins: start.joins,
+        cases: start.cases,
     };
     open_outcome::<D, L>(alloc, &analysis, base, steps)
 }

@@ -8,17 +8,18 @@ ghost use Rattle.fixpoint_theory.specs.Table.{TableFits};
 ghost use Rattle.fixpoint_theory.specs.Views.{listings};
 ghost use Rattle.fixpoint_open_tables.specs.Endings.{ends_in};
 ghost use Rattle.state_text.specs.Reading.{entry_of};
-ghost use Rattle.analysis_transfer.specs.Analysis.{problem};
+ghost use Rattle.analysis_transfer.specs.Analysis.{IsReady, problem};
+ghost use Rattle.analysis_cuts.specs.Analysis.{cut_analysis};
 ghost use Rattle.text_table_reader.specs.Blocks.{BlocksFit};
 ghost use Rattle.text_table_reader.specs.Ends.{is_word_of};
 ghost use Rattle.program_domain_tasks.specs.Read.{IsRead, problem_at};
 ghost use Rattle.program_open_tasks.specs.OpenTables.{IsOwnOpenVerdict};
 
-use analysis_images::check_open;
+use analysis_cuts::check_open;
 use analysis_problems::laws::read_problems_are_well_posed;
 use analysis_transfer::ImageAnalysis;
 use base_trait::Base;
-use fixpoint_theory::{Analyser, Verdict};
+use fixpoint_theory::Verdict;
 use program_domain_tasks::{AnalysisStart, Subject, prepare};
 use program_domains::NamedDomain;
 use std::alloc::{AllocError as NoMemory, Global};
@@ -33,9 +34,9 @@ fn open_verdict_on<'a, D: NamedDomain, L: Ledger>(
     found: &OpenTable<D::Element, <D::B as Base>::Word>,
     steps: &mut Steps<L>,
 ) -> Result<Verdict<<D::B as Base>::Word>, NoMemory>
-    requires ready { ⟦<ImageAnalysis<'a, D> as Analyser>⟧.IsReady it.now }
-    requires fits { TableFits (⟦<ImageAnalysis<'a, D> as Analyser>⟧.analysis it.now) (listings D.view found.now.table) }
-    ensures verdict { IfOk result (λ v. IsOwnOpenVerdict (record { base = D.B.algebra; cap = D.B.CAP; elements = D.elements it.now.domain.now; meaning = D.meaning it.now.domain.now; view = D.view; IsText = D.IsText; Reads = D.Reads it.now.domain.now; word_in = D.word_in it.now.domain.now; word_text = D.word_text }) (problem it.now) found.now.table (ends_in found.now.endings) v) }
+    requires ready { IsReady it.now D.B.algebra (D.is_for it.now.domain.now) }
+    requires fits { TableFits (cut_analysis D.B.algebra D.B.CAP (D.elements it.now.domain.now) (D.meaning it.now.domain.now) (D.pieces it.now.domain.now) (problem it.now)) (listings D.view found.now.table) }
+    ensures verdict { IfOk result (λ v. IsOwnOpenVerdict (record { base = D.B.algebra; cap = D.B.CAP; elements = D.elements it.now.domain.now; meaning = D.meaning it.now.domain.now; pieces = D.pieces it.now.domain.now; view = D.view; IsText = D.IsText; Reads = D.Reads it.now.domain.now; word_in = D.word_in it.now.domain.now; word_text = D.word_text }) (problem it.now) found.now.table (ends_in found.now.endings) v) }
     ensures work { steps.new ≤ steps.old + (btree_map_len found.now.table.blocks + btree_map_len found.now.table.blocks) }
 {
     check_open(alloc, it, &found.table, &found.endings, steps)
@@ -54,7 +55,7 @@ pub(crate) fn open_verdict_in<'a, D: NamedDomain, L: Ledger>(
     requires made { IsTrue (D.is_for domain.now (specification it.now.spec.now)) }
     requires read { IsRead (specification it.now.spec.now) start.now.machine (entry_of start.now.entry.now) }
     requires fits { BlocksFit (is_word_of it.now.image.now) (λ x. (D.elements domain.now).fits (D.view x)) (listings (λ x. x) found.now.table) }
-    ensures verdict { IfOk result (λ v. IsOwnOpenVerdict (record { base = D.B.algebra; cap = D.B.CAP; elements = D.elements domain.now; meaning = D.meaning domain.now; view = D.view; IsText = D.IsText; Reads = D.Reads domain.now; word_in = D.word_in domain.now; word_text = D.word_text }) (problem_at (specification it.now.spec.now) it.now.image.now start.now) found.now.table (ends_in found.now.endings) v) }
+    ensures verdict { IfOk result (λ v. IsOwnOpenVerdict (record { base = D.B.algebra; cap = D.B.CAP; elements = D.elements domain.now; meaning = D.meaning domain.now; pieces = D.pieces domain.now; view = D.view; IsText = D.IsText; Reads = D.Reads domain.now; word_in = D.word_in domain.now; word_text = D.word_text }) (problem_at (specification it.now.spec.now) it.now.image.now start.now) found.now.table (ends_in found.now.endings) v) }
     ensures ordered { IsOrdered nat_cmp found.now.table.blocks }
     ensures work { steps.new ≤ steps.old + (btree_map_len found.now.table.blocks + btree_map_len found.now.table.blocks) }
 {
@@ -74,6 +75,7 @@ pub(crate) fn open_verdict_in<'a, D: NamedDomain, L: Ledger>(
         entry: start.entry,
         limit: start.limit,
         joins: start.joins,
+        cases: start.cases,
     };
     open_verdict_on::<D, L>(alloc, &analysis, found, steps)
 }

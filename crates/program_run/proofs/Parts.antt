@@ -19,7 +19,7 @@ use Rattle.support_command_line.specs.Code.{Code, CodePart, code_parts, is_comma
 use Rattle.support_command_line.specs.CommandLine.{GivenWords, given_in}
 use Rattle.support_command_line.specs.Commands.{command_named}
 use Rattle.support_command_line.specs.Numbers.{address_in}
-use Rattle.support_command_line.specs.OptionValues.{address_of, base_of, calls_of, joins_of, limit_of, order_of, steps_of}
+use Rattle.support_command_line.specs.OptionValues.{address_of, base_of, calls_of, cases_of, joins_of, limit_of, order_of, steps_of}
 use Rattle.support_command_line.specs.Requests.{AnalyseRequest, CheckRequest, ClaimsRequest, ConvertRequest, EmulateRequest, ListRequest, Request, SliceRequest, call, emulate, analyse, check, convert, list, slice, claims, stress}
 use Rattle.support_command_line.specs.SpecNames.{spec_in}
 use Rattle.support_command_line.specs.Views as view
@@ -98,19 +98,20 @@ few_in_emulate given (spec ∷ []) request is = absurd (cc)
 few_in_emulate given (spec ∷ word ∷ []) request is = absurd (cc)
 few_in_emulate given (spec ∷ word ∷ entry ∷ more ∷ rest) request is = absurd (cc)
 
-abbrev analysis_with : GivenWords → List ℕ → List ℕ → Code → BaseName → ℕ → ℕ → AnalyseRequest
-analysis_with given spec entry code base limit joins = record { spec = spec_in spec; code = code; entry = entry; base = base; limit = limit; joins = joins; «open» = given.open }
+abbrev analysis_with : GivenWords → List ℕ → List ℕ → Code → BaseName → ℕ → ℕ → ℕ → AnalyseRequest
+analysis_with given spec entry code base limit joins cases = record { spec = spec_in spec; code = code; entry = entry; base = base; limit = limit; joins = joins; cases = cases; «open» = given.open }
 
 few_in_analysis : (given : GivenWords) (spec word entry : List ℕ) (request : AnalyseRequest) → analysis_of given spec word entry ≡ Some request → length request.code.parts ≤ 16
 unfolding analysis_of
 few_in_analysis given spec word entry request is =
     let made = analysis_with given spec entry in
-    let code = bound (code_of given word) (λ code. option_and_then (λ base. option_and_then (λ limit. option_and_then (λ joins. Some (made code base limit joins)) (joins_of given)) (limit_of given)) (base_of given)) request is in
-    let base = bound (base_of given) (λ base. option_and_then (λ limit. option_and_then (λ joins. Some (made code.0 base limit joins)) (joins_of given)) (limit_of given)) request code.2 in
-    let limit = bound (limit_of given) (λ limit. option_and_then (λ joins. Some (made code.0 base.0 limit joins)) (joins_of given)) request base.2 in
-    let joins = bound (joins_of given) (λ joins. Some (made code.0 base.0 limit.0 joins)) request limit.2 in
-    let whole : Some (made code.0 base.0 limit.0 joins.0) ≡ Some request = joins.2 in
-    let same : made code.0 base.0 limit.0 joins.0 ≡ request = cc in
+    let code = bound (code_of given word) (λ code. option_and_then (λ base. option_and_then (λ limit. option_and_then (λ joins. option_and_then (λ cases. Some (made code base limit joins cases)) (cases_of given)) (joins_of given)) (limit_of given)) (base_of given)) request is in
+    let base = bound (base_of given) (λ base. option_and_then (λ limit. option_and_then (λ joins. option_and_then (λ cases. Some (made code.0 base limit joins cases)) (cases_of given)) (joins_of given)) (limit_of given)) request code.2 in
+    let limit = bound (limit_of given) (λ limit. option_and_then (λ joins. option_and_then (λ cases. Some (made code.0 base.0 limit joins cases)) (cases_of given)) (joins_of given)) request base.2 in
+    let joins = bound (joins_of given) (λ joins. option_and_then (λ cases. Some (made code.0 base.0 limit.0 joins cases)) (cases_of given)) request limit.2 in
+    let cases = bound (cases_of given) (λ cases. Some (made code.0 base.0 limit.0 joins.0 cases)) request joins.2 in
+    let whole : Some (made code.0 base.0 limit.0 joins.0 cases.0) ≡ Some request = cases.2 in
+    let same : made code.0 base.0 limit.0 joins.0 cases.0 ≡ request = cc in
     subst (λ (r : AnalyseRequest). length r.code.parts ≤ 16) same (few_in_code given word code.0 code.1)
 
 few_in_analyse : (given : GivenWords) (words : List (List ℕ)) (request : AnalyseRequest) → analyse_of given words ≡ Some request → length request.code.parts ≤ 16

@@ -8,7 +8,7 @@ use Rattle.support_command_line.specs.Code.{Code}
 use Rattle.support_command_line.specs.CommandLine.{GivenWords}
 use Rattle.support_command_line.specs.Commands.{command_named}
 use Rattle.support_command_line.specs.Numbers.{address_in, decimal_in}
-use Rattle.support_command_line.specs.OptionValues.{base_of, calls_of, joins_of, limit_of, steps_of}
+use Rattle.support_command_line.specs.OptionValues.{cases_of, base_of, calls_of, joins_of, limit_of, steps_of}
 use Rattle.support_command_line.specs.Requests.{CheckRequest, SliceRequest, convert, emulate, list, stress}
 use Rattle.support_command_line.specs.SpecNames.{SpecName, spec_in}
 use Rattle.support_command_line.specs.Views.{borrowed}
@@ -78,12 +78,12 @@ module _ (given : GivenWords) (words own : List (Bor (List ℕ))) (d : Bor (List
       at (x ∷ y ∷ []) least most a b = rw (a, b, e) refl
       at (x ∷ y ∷ z ∷ words) least most a b = absurd (omega arith)
 
-pub analysis_is : (given : GivenWords) (words : List (Bor (List ℕ))) (d : Bor (List ℕ)) (spec : SpecName) (code : Code) (base : BaseName) (limit joins : ℕ) → 3 ≤ length words → length words < 4
-    → spec ≡ spec_in (get_or words 0 d).now → code_of given (get_or words 1 d).now ≡ Some code → base_of given ≡ Some base → limit_of given ≡ Some limit → joins_of given ≡ Some joins
-    → analyse_of given (borrowed words) ≡ Some (record { spec = spec; code = code; entry = (get_or words 2 d).now; base = base; limit = limit; joins = joins; «open» = given.open })
+pub analysis_is : (given : GivenWords) (words : List (Bor (List ℕ))) (d : Bor (List ℕ)) (spec : SpecName) (code : Code) (base : BaseName) (limit joins cases : ℕ) → 3 ≤ length words → length words < 4
+    → spec ≡ spec_in (get_or words 0 d).now → code_of given (get_or words 1 d).now ≡ Some code → base_of given ≡ Some base → limit_of given ≡ Some limit → joins_of given ≡ Some joins → cases_of given ≡ Some cases
+    → analyse_of given (borrowed words) ≡ Some (record { spec = spec; code = code; entry = (get_or words 2 d).now; base = base; limit = limit; joins = joins; cases = cases; «open» = given.open })
 unfolding analyse_of analysis_of
-analysis_is given [] d spec code base limit joins least most a b e f g = absurd (omega arith)
-analysis_is given (x ∷ []) d spec code base limit joins least most a b e f g = absurd (omega arith)
-analysis_is given (x ∷ y ∷ []) d spec code base limit joins least most a b e f g = absurd (omega arith)
-analysis_is given (x ∷ y ∷ z ∷ []) d spec code base limit joins least most a b e f g = rw (a, b, e, f, g) refl
-analysis_is given (x ∷ y ∷ z ∷ w ∷ words) d spec code base limit joins least most a b e f g = absurd (omega arith)
+analysis_is given [] d spec code base limit joins cases least most a b e f g h = absurd (omega arith)
+analysis_is given (x ∷ []) d spec code base limit joins cases least most a b e f g h = absurd (omega arith)
+analysis_is given (x ∷ y ∷ []) d spec code base limit joins cases least most a b e f g h = absurd (omega arith)
+analysis_is given (x ∷ y ∷ z ∷ []) d spec code base limit joins cases least most a b e f g h = rw (a, b, e, f, g, h) refl
+analysis_is given (x ∷ y ∷ z ∷ w ∷ words) d spec code base limit joins cases least most a b e f g h = absurd (omega arith)

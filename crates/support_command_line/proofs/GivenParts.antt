@@ -10,8 +10,8 @@ use Rattle.clap.specs.declared.parser.matches.ArgMatches.{ArgMatches}
 use Rattle.support_command_line.specs.CommandLine.{GivenWords, command_line, given_by, given_in}
 
 -- two that agree in each part are the same
-pub same_given : (a b : GivenWords) → a.command ≡ b.command → a.words ≡ b.words → a.at ≡ b.at → a.order ≡ b.order → a.steps ≡ b.steps → a.calls ≡ b.calls → a.limit ≡ b.limit → a.base ≡ b.base → a.widen ≡ b.widen → a.open ≡ b.open → a ≡ b
-same_given a b command words at order steps calls limit base widen opens = rw (command, words, at, order, steps, calls, limit, base, widen, opens) refl
+pub same_given : (a b : GivenWords) → a.command ≡ b.command → a.words ≡ b.words → a.at ≡ b.at → a.order ≡ b.order → a.steps ≡ b.steps → a.calls ≡ b.calls → a.limit ≡ b.limit → a.base ≡ b.base → a.widen ≡ b.widen → a.cases ≡ b.cases → a.open ≡ b.open → a ≡ b
+same_given a b command words at order steps calls limit base widen cases opens = rw (command, words, at, order, steps, calls, limit, base, widen, cases, opens) refl
 
 -- the command line is one of those of which `clap` says the matches and the faults
 pub line_is_simple : (line : App) → line ≡ command_line → is_simple_and_free line ≡ true

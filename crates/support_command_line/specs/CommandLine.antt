@@ -46,6 +46,7 @@ pub record GivenWords : Type 0 where
   pub limit : Option (List ℕ)
   pub base : Option (List ℕ)
   pub widen : Option (List ℕ)
+  pub cases : Option (List ℕ)
   pub «open» : Bool
 
 -- a flag is given
@@ -63,6 +64,7 @@ given_by rows = record {
   limit = first_of (option_text o.Limit) rows;
   base = first_of (option_text o.Base) rows;
   widen = first_of (option_text o.Widen) rows;
+  cases = first_of (option_text o.Cases) rows;
   «open» = flag_of (option_text o.Open) rows;
 }
 
@@ -75,6 +77,7 @@ is_given given o.Calls = is_some given.calls
 is_given given o.Limit = is_some given.limit
 is_given given o.Base = is_some given.base
 is_given given o.Widen = is_some given.widen
+is_given given o.Cases = is_some given.cases
 is_given given o.Open = given.open
 
 -- what the words give, where the command takes them

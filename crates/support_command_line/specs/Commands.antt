@@ -28,6 +28,7 @@ is_of_analysis o.At = true
 is_of_analysis o.Order = true
 is_of_analysis o.Base = true
 is_of_analysis o.Limit = true
+is_of_analysis o.Cases = true
 is_of_analysis o.Open = true
 is_of_analysis _ = false
 

@@ -16,3 +16,7 @@ default_limit = 64
 -- how many changes of an element join before later ones widen
 abbrev pub default_joins : ℕ
 default_joins = 3
+
+-- how often over an element is split before its instruction is evaluated
+abbrev pub default_cases : ℕ
+default_cases = 0

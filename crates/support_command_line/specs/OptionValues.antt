@@ -6,7 +6,7 @@ use Rattle.support_command_line.specs.declared.orders.Order as orders
 use Rattle.support_command_line.specs.declared.orders.Order.TheVariants.{Big}
 use Rattle.support_command_line.specs.Bases.{base_named}
 use Rattle.support_command_line.specs.CommandLine.{GivenWords}
-use Rattle.support_command_line.specs.Defaults.{default_calls, default_joins, default_limit, default_steps}
+use Rattle.support_command_line.specs.Defaults.{default_calls, default_cases, default_joins, default_limit, default_steps}
 use Rattle.support_command_line.specs.Numbers.{address_in, decimal_in}
 use Rattle.support_command_line.specs.Orders.{order_named}
 
@@ -41,6 +41,10 @@ widened_from text = decimal_in 2 1 64 text
 -- how many changes of an element join before later ones widen
 unfoldable pub joins_of : GivenWords → Option ℕ
 joins_of given = value_or default_joins (λ text. option_map (λ first. first - 1) (widened_from text)) given.widen
+
+-- how often over an element is split
+unfoldable pub cases_of : GivenWords → Option ℕ
+cases_of given = value_or default_cases (decimal_in 1 0 8) given.cases
 
 unfoldable pub base_of : GivenWords → Option BaseName
 base_of given = value_or KSetInterval base_named given.base

@@ -12,6 +12,7 @@ option_text o.Calls = codes "calls"
 option_text o.Limit = codes "limit"
 option_text o.Base = codes "base"
 option_text o.Widen = codes "widen"
+option_text o.Cases = codes "cases"
 option_text o.Open = codes "open"
 
 -- It takes a value; any other is a flag.
@@ -20,4 +21,4 @@ has_value o.Open = false
 has_value _ = true
 
 abbrev pub all_options : List OptionName
-all_options = o.At ∷ o.Order ∷ o.Steps ∷ o.Calls ∷ o.Limit ∷ o.Base ∷ o.Widen ∷ o.Open ∷ []
+all_options = o.At ∷ o.Order ∷ o.Steps ∷ o.Calls ∷ o.Limit ∷ o.Base ∷ o.Widen ∷ o.Cases ∷ o.Open ∷ []

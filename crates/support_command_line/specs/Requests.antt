@@ -19,8 +19,8 @@ pub record EmulateRequest : Type 0 where
   pub steps : ℕ
   pub calls : ℕ
 
--- An analysis over a base, where a counter has at most so many values, and so many changes of an element join before later ones
--- widen. Left open, an address of which the analysis can not say what comes next ends no analysis; a table that is read may leave
+-- An analysis over a base, where a counter has at most so many values, so many changes of an element join before later ones
+-- widen, and an element is split so often over. Left open, an address of which the analysis can not say what comes next ends no analysis; a table that is read may leave
 -- such addresses open.
 pub record AnalyseRequest : Type 0 where
   pub spec : SpecName
@@ -29,6 +29,7 @@ pub record AnalyseRequest : Type 0 where
   pub base : BaseName
   pub limit : ℕ
   pub joins : ℕ
+  pub cases : ℕ
   pub «open» : Bool
 
 -- a table, against what it should be a table of

@@ -46,6 +46,7 @@ given_of given = record {
   limit = borrowed_text given.limit;
   base = borrowed_text given.base;
   widen = borrowed_text given.widen;
+  cases = borrowed_text given.cases;
   «open» = given.open;
 }
 
@@ -67,7 +68,7 @@ abbrev pub emulate_of : code-emulate.EmulateRequest → EmulateRequest
 emulate_of request = record { spec = spec_of request.spec; code = code_of request.code; entry = request.entry.now; steps = request.steps; calls = request.calls }
 
 abbrev pub analyse_of : code-analyse.AnalyseRequest → AnalyseRequest
-analyse_of request = record { spec = spec_of request.spec; code = code_of request.code; entry = request.entry.now; base = request.base; limit = request.limit; joins = request.joins; «open» = request.open }
+analyse_of request = record { spec = spec_of request.spec; code = code_of request.code; entry = request.entry.now; base = request.base; limit = request.limit; joins = request.joins; cases = request.cases; «open» = request.open }
 
 abbrev pub check_of : code-check.CheckRequest → CheckRequest
 check_of request = record { analysis = analyse_of request.analysis; table = request.table.now }

@@ -10,7 +10,7 @@ use Rattle.support_command_line.specs.Commands.{command_named, takes}
 use Rattle.support_command_line.specs.Giving.{◌>>=◌}
 use Rattle.support_command_line.specs.Numbers.{address_in, decimal_in}
 use Rattle.support_command_line.specs.Options.{all_options}
-use Rattle.support_command_line.specs.OptionValues.{address_of, base_of, calls_of, joins_of, limit_of, order_of, steps_of}
+use Rattle.support_command_line.specs.OptionValues.{address_of, base_of, calls_of, cases_of, joins_of, limit_of, order_of, steps_of}
 use Rattle.support_command_line.specs.Requests.{AnalyseRequest, CallRequest, CheckRequest, ClaimsRequest, ConvertRequest, EmulateRequest, ListRequest, Request, SliceRequest, StressRequest, call, emulate, analyse, check, convert, list, slice, claims, stress}
 use Rattle.support_command_line.specs.SpecNames.{spec_in, spec_inputs}
 
@@ -45,7 +45,8 @@ analysis_of given spec word entry = do
   base ← base_of given
   limit ← limit_of given
   joins ← joins_of given
-  Some (record { spec = spec_in spec; code = code; entry = entry; base = base; limit = limit; joins = joins; «open» = given.open })
+  cases ← cases_of given
+  Some (record { spec = spec_in spec; code = code; entry = entry; base = base; limit = limit; joins = joins; cases = cases; «open» = given.open })
 
 unfoldable pub analyse_of : GivenWords → List (List ℕ) → Option AnalyseRequest
 analyse_of given (spec ∷ word ∷ entry ∷ []) = analysis_of given spec word entry

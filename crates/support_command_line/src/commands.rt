@@ -88,6 +88,11 @@ fn is_of_analysis(option: OptionName) -> bool
 {
     matches!(
         option,
-        OptionName::At | OptionName::Order | OptionName::Base | OptionName::Limit | OptionName::Open
+        OptionName::At
+            | OptionName::Order
+            | OptionName::Base
+            | OptionName::Limit
+            | OptionName::Cases
+            | OptionName::Open
     )
 }

@@ -12,3 +12,7 @@ pub const DEFAULT_LIMIT: u32 = 64;
 /// How many changes of an element join before later ones widen (`--widen`, less 1). A greater one keeps more of loops that end soon, and the
 /// bound on transfers grows with it.
 pub const DEFAULT_JOINS: u32 = 3;
+
+/// How often over an element is split before its instruction is evaluated (`--cases`). A greater number keeps the cases of more comparisons of an instruction apart, and
+/// costs an evaluation for each case.
+pub const DEFAULT_CASES: u32 = 0;

@@ -25,6 +25,7 @@ pub struct GivenWords<'a> {
     pub limit: Option<&'a str>,
     pub base: Option<&'a str>,
     pub widen: Option<&'a str>,
+    pub cases: Option<&'a str>,
     pub open: bool,
 }
 
@@ -41,6 +42,7 @@ impl<'a> GivenWords<'a> {
             OptionName::Limit => self.limit.is_some(),
             OptionName::Base => self.base.is_some(),
             OptionName::Widen => self.widen.is_some(),
+            OptionName::Cases => self.cases.is_some(),
             OptionName::Open => self.open,
         }
     }
@@ -145,6 +147,7 @@ fn given_by<'a>(alloc: Global, matches: &ArgMatches<'a>) -> Result<GivenWords<'a
         limit: option_value(matches, OptionName::Limit),
         base: option_value(matches, OptionName::Base),
         widen: option_value(matches, OptionName::Widen),
+        cases: option_value(matches, OptionName::Cases),
         open: flag(matches, OptionName::Open),
     })
 }

@@ -9,8 +9,8 @@
 //! |---|---|---|
 //! | `call` | SPEC FUN, and any number of numbers | `--calls` |
 //! | `emulate` | SPEC CODE ENTRY | `--at`, `--order`, `--steps`, `--calls` |
-//! | `analyse` | SPEC CODE ENTRY | `--at`, `--order`, `--base`, `--limit`, `--widen`, `--open` |
-//! | `check` | SPEC CODE ENTRY TABLE | `--at`, `--order`, `--base`, `--limit`, `--open` |
+//! | `analyse` | SPEC CODE ENTRY | `--at`, `--order`, `--base`, `--limit`, `--widen`, `--cases`, `--open` |
+//! | `check` | SPEC CODE ENTRY TABLE | `--at`, `--order`, `--base`, `--limit`, `--cases`, `--open` |
 //! | `convert` | SPEC CODE TABLE | `--at`, `--order`, `--base` |
 //! | `list` | SPEC CODE | `--at`, `--order` |
 //! | `slice` | SPEC CODE ENTRY TABLE ADDRESS CELL, over a base with stamps | those of `check` |
@@ -43,7 +43,7 @@ mod words_error;
 pub use bases::BaseName;
 pub use code_word::{Code, CodePart};
 use commands::CommandName;
-pub use defaults::{DEFAULT_CALLS, DEFAULT_JOINS, DEFAULT_LIMIT};
+pub use defaults::{DEFAULT_CALLS, DEFAULT_CASES, DEFAULT_JOINS, DEFAULT_LIMIT};
 use given_words::{GivenWords, read_given};
 use options::OptionName;
 pub use orders::Order;

@@ -1,11 +1,11 @@
 //! The values of the options, each with its form and its default.
 
 ghost use Rattle.std.specs.Prelude.{◌≡◌};
-ghost use Rattle.support_command_line.specs.OptionValues.{address_of, base_of, calls_of, joins_of, limit_of, order_of, steps_of};
+ghost use Rattle.support_command_line.specs.OptionValues.{address_of, base_of, calls_of, cases_of, joins_of, limit_of, order_of, steps_of};
 ghost use Rattle.support_command_line.specs.Views.{given_of};
 
 use crate::bases::BaseName;
-use crate::defaults::{DEFAULT_CALLS, DEFAULT_JOINS, DEFAULT_LIMIT, DEFAULT_STEPS};
+use crate::defaults::{DEFAULT_CALLS, DEFAULT_CASES, DEFAULT_JOINS, DEFAULT_LIMIT, DEFAULT_STEPS};
 use crate::given_words::GivenWords;
 use crate::numbers::{DecimalForm, address, decimal};
 use crate::orders::Order;
@@ -87,6 +87,21 @@ pub fn joins(given: &GivenWords) -> Option<u32>
     match given.widen {
         Some(text) => Some(decimal(text, form)? - 1),
         None => Some(DEFAULT_JOINS),
+    }
+}
+
+/// How often over an element is split before its instruction is evaluated.
+pub fn cases(given: &GivenWords) -> Option<u32>
+    ensures { result ≡ cases_of (given_of given.now) }
+{
+    let form = DecimalForm {
+        most_digits: 1,
+        least: 0,
+        greatest: 8,
+    };
+    match given.cases {
+        Some(text) => decimal(text, form),
+        None => Some(DEFAULT_CASES),
     }
 }
 

@@ -13,12 +13,13 @@ pub enum OptionName {
     Limit,
     Base,
     Widen,
+    Cases,
     Open,
 }
 
 impl OptionName {
     /// All options.
-    pub const ALL: [OptionName; 8] = [
+    pub const ALL: [OptionName; 9] = [
         OptionName::At,
         OptionName::Order,
         OptionName::Steps,
@@ -26,6 +27,7 @@ impl OptionName {
         OptionName::Limit,
         OptionName::Base,
         OptionName::Widen,
+        OptionName::Cases,
         OptionName::Open,
     ];
 
@@ -41,6 +43,7 @@ impl OptionName {
             OptionName::Limit => "limit",
             OptionName::Base => "base",
             OptionName::Widen => "widen",
+            OptionName::Cases => "cases",
             OptionName::Open => "open",
         }
     }

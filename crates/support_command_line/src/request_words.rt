@@ -12,7 +12,7 @@ use crate::code_word::{Code, code_parts};
 use crate::commands::CommandName;
 use crate::given_words::GivenWords;
 use crate::numbers::{DecimalForm, address, decimal};
-use crate::option_values::{base, base_address, calls, joins, limit, order, steps};
+use crate::option_values::{base, base_address, calls, cases, joins, limit, order, steps};
 use crate::requests::{
     AnalyseRequest, CallRequest, CheckRequest, ClaimsRequest, ConvertRequest, EmulateRequest,
     ListRequest, Request, SliceRequest, StressRequest,
@@ -136,6 +136,9 @@ fn analysis<'a>(
     let Some(joins) = joins(given) else {
         return Err(WordsError::BadWords);
     };
+    let Some(cases) = cases(given) else {
+        return Err(WordsError::BadWords);
+    };
     let code = code(alloc, given, word)?;
     Ok(AnalyseRequest {
         spec: SpecName::of(spec),
@@ -144,6 +147,7 @@ fn analysis<'a>(
         base,
         limit,
         joins,
+        cases,
         open: given.open,
     })
 }

@@ -38,6 +38,8 @@ pub struct AnalyseRequest<'a> {
     pub limit: u32,
     /// How many changes of an element join before later ones widen.
     pub joins: u32,
+    /// How often over an element is split before its instruction is evaluated.
+    pub cases: u32,
     /// Whether an address of which the analysis can not say what comes next ends no analysis; of a table, whether it may leave
     /// such addresses open.
     pub open: bool,

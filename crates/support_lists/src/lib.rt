@@ -18,6 +18,11 @@ pub fn pushed<T: Drop, A: Allocator + Drop>(
 ) -> Result<Vec<T, A>, AllocError>
     ensures { IfOk result (λ r. IsOkAnd item (λ x. r.items ≡ list.items ++ x ∷ [])) }
 {
-    list.push(item?)?;
-    Ok(list)
+    match item {
+        Ok(item) => match list.push(item) {
+            Ok(()) => Ok(list),
+            Err(_) => Err(AllocError),
+        },
+        Err(error) => Err(error),
+    }
 }

@@ -28,8 +28,10 @@ pub fn pushed<T: Drop>(list: Vec<T>, item: T) -> Result<Vec<T>, AllocError>
     ensures { IfOk result (λ longer. longer.items ≡ list.items ++ item ∷ []) }
 {
     let mut longer = list;
-    longer.push(item)?;
-    Ok(longer)
+    match longer.push(item) {
+        Ok(()) => Ok(longer),
+        Err(_) => Err(AllocError),
+    }
 }
 
 /// The greatest level at which a token may stand.

@@ -153,6 +153,7 @@ pub fn analysed<D: Domain, R: Reporter<D>>(
         entry: &subject.entry,
         limit,
         joins: 3,
+        cases: 0,
     };
     begun(alloc, reporter, &it)
 }

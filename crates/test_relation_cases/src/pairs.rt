@@ -8,7 +8,7 @@ ghost use Rattle.domain_product_states.specs.Views.{seen};
 
 use crate::domains::ShownDomain;
 use crate::least::{joined, least};
-use base_trait::Base;
+use base_cuts::CutBase;
 use domain_product_states::{PairedStates, PairedValues, of_parts, taken_apart};
 use domain_trait::Domain;
 use spec_ir::Spec;
@@ -17,7 +17,7 @@ use test_analysis_cases::Unread;
 use text_elements::{NamedBase, WriteElement};
 
 /// The first part of one element beside the second part of another.
-fn beside<A: Base, B: Base>(
+fn beside<A: CutBase, B: CutBase>(
     alloc: Global,
     domain: &PairedStates<A, B>,
     x: &PairedValues<A, B>,
@@ -34,7 +34,7 @@ fn beside<A: Base, B: Base>(
 }
 
 /// The element of which the text before a ` & ` says the first part, and the text behind it the second.
-fn of_both<A: Base, B: Base>(
+fn of_both<A: CutBase, B: CutBase>(
     alloc: Global,
     spec: &Spec,
     domain: &PairedStates<A, B>,
@@ -54,7 +54,7 @@ fn of_both<A: Base, B: Base>(
 }
 
 /// The join of the elements of texts with a ` // ` between.
-fn of_texts<A: Base, B: Base>(
+fn of_texts<A: CutBase, B: CutBase>(
     alloc: Global,
     spec: &Spec,
     domain: &PairedStates<A, B>,

@@ -9,7 +9,7 @@ use Rattle.base_trait.specs.declared.uses.Stamp.TheVariants.{At}
 use Rattle.base_trait.proofs.Lists.{ascends_told}
 use Rattle.fixpoint_theory.specs.Analysis.{AnalysisLaws}
 use Rattle.fixpoint_theory.specs.Elements.{ElementLaws}
-use Rattle.fixpoint_theory.specs.Outcome.{AreOfStamps, HasTargets, IfPost, IfUses, Outcome, SameOutcome, moves, too_many, undecodable}
+use Rattle.fixpoint_theory.specs.Outcome.{AreOfStamps, AreSameArrivals, HasTargets, IfPost, IfUses, Outcome, SameOutcome, moves, sends, too_many, undecodable}
 use Rattle.test_worklist.specs.declared.machine.Interval.{Interval}
 use Rattle.test_worklist.specs.declared.machine.Instr.{Instr}
 use Rattle.test_worklist.specs.declared.machine.Instr.TheVariants.{Set, Add, Goto, Fork, Wild, Spin, Bad}
@@ -105,11 +105,16 @@ has_targets at (Some Wild) x = tt
 has_targets at (Some Spin) x = refl
 has_targets at (Some Bad) x = tt
 
+same_arrivals : (xs : List (ℕ × Interval)) → AreSameArrivals intervals xs xs
+same_arrivals [] = tt
+same_arrivals (x ∷ xs) = (refl, refl, same_arrivals xs)
+
 pub same_as_itself : (o : Outcome Interval Interval) → SameOutcome intervals o o
 same_as_itself (undecodable w) = refl
 same_as_itself (too_many x us) = (refl, refl)
 same_as_itself (moves ts None us) = (refl, tt, refl)
 same_as_itself (moves ts (Some x) us) = (refl, refl, refl)
+same_as_itself (sends arrivals us) = (same_arrivals arrivals, refl)
 
 pub analysis_laws : (code : List Word) (start : ℕ) (entry : Interval) → IsProgram code entry → AnalysisLaws (analysis_of code start entry)
 analysis_laws code start entry is = record {

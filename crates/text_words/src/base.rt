@@ -8,17 +8,18 @@ use crate::notes::push_stamps;
 use crate::words::{push_affine, push_known, push_number, push_range, push_set, push_strided};
 use base_bits::{Bits, Known};
 use base_concrete::Concrete;
+use base_cuts::CutBase;
 use base_defuse::{DefUse, Stamps};
 use base_interval::{Interval, Range};
 use base_kset::{KSet, Set};
 use base_product::{Pair, Paired};
 use base_strides::{StridedSet, Strides};
-use base_trait::{Base, Stamp};
+use base_trait::Stamp;
 use domain_affine_base::{Affine, Word};
 use std::alloc::AllocError as NoMemory;
 
 /// A base whose words and notes have texts. After an error nothing is said of what was appended.
-pub trait BaseText: Base {
+pub trait BaseText: CutBase {
     /// The texts.
     ghost texts: { Texts Self.Word Self.Note };
 

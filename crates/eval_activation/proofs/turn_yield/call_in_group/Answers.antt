@@ -1,5 +1,4 @@
-use Rattle.std.proofs.Common.{◌≡◌, ◌∙◌, ◌+◌, ◌-◌, suc, cond, true, ◌++◌, ◌∷◌, [], Some, None, map, option_map, sym, ap, subst, rules, arith}
-use Rattle.std.proofs.lemmas.List.{map-append}
+use Rattle.std.proofs.Common.{◌≡◌, ◌∙◌, cond, true, Some, None, map, sym, ap, subst, rules}
 use Rattle.semantics_values.specs.Types.{environment_of}
 use Rattle.abstract_value_laws.specs.Abs.{parts}
 use Rattle.abstract_value_laws.specs.Types.{have_types}
@@ -12,16 +11,6 @@ use Rattle.eval_memo.specs.Settings.{spec_of}
 use Rattle.eval_activation.specs.Views.{all_abs, group_args}
 use Rattle.eval_memo.proofs.Arguments.{parts_fit}
 use Rattle.eval_activation.proofs.turn_yield.call_in_group.Goals as goal
-use Rattle.spec_match_compiler.proofs.Loops.{pushed}
-
-pub loop-i-preserved : goal.loop-i-preserved
-loop-i-preserved g c =
-    let f = c.args.fun in
-    let i = c.loop-i._i in
-    let x = all_abs c.args.args in
-    let more : f - i ≡ suc (f - (i + 1)) = let e = c.loop-i-test.true in omega arith in
-    let out : c.push.new.self.items ≡ c.loop-i.next.items ++ None ∷ [] = search rules in
-    rw more at c.loop-i.invariant ∙ sym (pushed (option_map all_abs) c.loop-i.next.items None (only (f - (i + 1)) x)) ∙ ap (λ z. map (option_map all_abs) z ++ only (f - (i + 1)) x) (sym out)
 
 pub returns-clause-value : goal.returns-clause-value
 returns-clause-value g c =
@@ -29,10 +18,7 @@ returns-clause-value g c =
     let f = c.args.fun in
     let x = all_abs c.args.args in
     let typed : have_types (environment_of spec) (parts (map abs c.args.args.items)) (params_of spec f) ≡ true = search rules in
-    let none : f - c.loop-i._i ≡ 0 = omega arith in
-    let whole = rw none at c.loop-i.invariant in
-    let out : c.push-2.new.self.items ≡ c.loop-i.next.items ++ Some c.args.args ∷ [] = search rules in
-    let group : group_args c.push-2.new.self ≡ only f x = rw (out, map-append) (sym whole) in
+    let group : group_args c.in_ok-next.next ≡ only f x = c.in_ok-next.ensures in
     ap (λ z. Some (record { out = None; next = Some z })) group ∙ sym (ap (λ b. cond b (Some (asks f (map abs c.args.args.items))) None) typed)
 
 pub returns-clause-fits : goal.returns-clause-fits
@@ -44,10 +30,7 @@ returns-clause-fits g c =
     let f = c.args.fun in
     let x = all_abs c.args.args in
     let typed : have_types (environment_of spec) (parts (map abs c.args.args.items)) (params_of spec f) ≡ true = search rules in
-    let none : f - c.loop-i._i ≡ 0 = omega arith in
-    let whole = rw none at c.loop-i.invariant in
-    let out : c.push-2.new.self.items ≡ c.loop-i.next.items ++ Some c.args.args ∷ [] = search rules in
-    let group : group_args c.push-2.new.self ≡ only f x = rw (out, map-append) (sym whole) in
+    let group : group_args c.in_ok-next.next ≡ only f x = c.in_ok-next.ensures in
     record {
       out = tt;
       next = subst (AreGroupArgs b cap s c.args.group) (sym group)

@@ -6,5 +6,5 @@ use Rattle.eval_group_turns.proofs.groups.copy_groups.Goals as goal
 
 pub loop-xs-preserved : goal.loop-xs-preserved
 loop-xs-preserved g c =
-    seen_more (option_map all_abs) c.loop-xs.out.items c.push.new.self.items c.in_ok-copy_arguments.field-0 c.args.args.now c.loop-xs.xs-index c.xs-item.result c.loop-xs-test.true c.loop-xs.invariant c.in_ok-push.ensures.items
+    seen_more (option_map all_abs) c.loop-xs.out.items c.put.new.list.items c.in_ok-copy_arguments.field-0 c.args.args.now c.loop-xs.xs-index c.xs-item.result c.loop-xs-test.true c.loop-xs.invariant c.in_ok-put.ensures.items
     (c.in_ok-copy_arguments.ensures ∙ ap (option_map all_abs) c.xs-item.is)

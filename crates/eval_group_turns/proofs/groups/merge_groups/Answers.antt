@@ -28,8 +28,8 @@ loop-i-preserved g c =
     let within : i < max (length c.args.xs.now) (length c.args.ys.now) = search rules in
     let before : i < max (length xs) (length ys) = simp length-map within in
     let same : option_map all_abs z ≡ join_some j (held xs i) (held ys i) = c.in_ok-merge_held.ensures ∙ ap (λ o. join_some j o (option_map (λ zs. all_abs zs.now) c.arguments_of-in-loop-i.result)) c.arguments_of.ensures ∙ ap (λ o. join_some j (held xs i) o) c.arguments_of-in-loop-i.ensures in
-    one_more (merge_each j xs ys) (each_abs c.loop-i.out.items) (each_abs c.push.new.self.items) (merge_each j (drop i xs) (drop i ys)) (merge_each j (drop (i + 1) xs) (drop (i + 1) ys)) (option_map all_abs z)
-    (each_here j xs ys i (option_map all_abs z) before same) (ap each_abs c.in_ok-push.ensures.items ∙ seen_push (option_map all_abs) c.loop-i.out.items z) c.loop-i.invariant
+    one_more (merge_each j xs ys) (each_abs c.loop-i.out.items) (each_abs c.put.new.list.items) (merge_each j (drop i xs) (drop i ys)) (merge_each j (drop (i + 1) xs) (drop (i + 1) ys)) (option_map all_abs z)
+    (each_here j xs ys i (option_map all_abs z) before same) (ap each_abs c.in_ok-put.ensures.items ∙ seen_push (option_map all_abs) c.loop-i.out.items z) c.loop-i.invariant
 
 pub returns : goal.returns
 returns g c =

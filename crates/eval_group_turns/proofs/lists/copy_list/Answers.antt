@@ -5,5 +5,5 @@ use Rattle.eval_group_turns.proofs.lists.copy_list.Goals as goal
 
 pub loop-x-preserved : goal.loop-x-preserved
 loop-x-preserved g c =
-    seen_more (λ v. abs v) c.loop-x.out.items c.push.new.self.items c.in_ok-copy.field-0 c.args.xs.now c.loop-x.x-index c.x-item.result c.loop-x-test.true c.loop-x.invariant c.in_ok-push.ensures.items
+    seen_more (λ v. abs v) c.loop-x.out.items c.put.new.list.items c.in_ok-copy.field-0 c.args.xs.now c.loop-x.x-index c.x-item.result c.loop-x-test.true c.loop-x.invariant c.in_ok-put.ensures.items
     (c.in_ok-copy.ensures ∙ ap (λ v. abs v) c.x-item.is)

@@ -20,7 +20,7 @@ loop-i-preserved g c =
     let X = map abs c.args.xs.now in
     let Y = map abs c.args.ys.now in
     let z = c.in_ok-merged_with.field-0 in
-    one_more (merge_all f X Y) (map abs c.loop-i.out.items) (map abs c.push.new.self.items) (merge_all f (drop c.loop-i.i X) (drop c.loop-i.i Y)) (merge_all f (drop (c.loop-i.i + 1) X) (drop (c.loop-i.i + 1) Y)) (abs z)
+    one_more (merge_all f X Y) (map abs c.loop-i.out.items) (map abs c.put.new.list.items) (merge_all f (drop c.loop-i.i X) (drop c.loop-i.i Y)) (merge_all f (drop (c.loop-i.i + 1) X) (drop (c.loop-i.i + 1) Y)) (abs z)
     (merge_here f X Y c.loop-i.i (abs c.index-xs-i.result) (abs z) (drop_seen abs c.args.xs.now c.loop-i.i c.index-xs-i.result c.loop-i-test.true c.index-xs-i.is)
     (c.in_ok-merged_with.ensures ∙ ap (step.merged_with f (abs c.index-xs-i.result)) c.other_at.ensures))
-    (ap (map abs) c.in_ok-push.ensures.items ∙ seen_push abs c.loop-i.out.items z) c.loop-i.invariant
+    (ap (map abs) c.in_ok-put.ensures.items ∙ seen_push abs c.loop-i.out.items z) c.loop-i.invariant

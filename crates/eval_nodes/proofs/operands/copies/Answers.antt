@@ -15,7 +15,7 @@ loop-i-preserved g c =
     let out = c.loop-i.out.items in
     let found : at (get_or c.args.slots.now c.loop-i.i 0) ≡ Some (abs c.in-Some.v.now) = search rules in
     let same : abs c.in_ok-copy.field-0 ≡ abs c.in-Some.v.now = c.in_ok-copy.ensures in
-    let pushed : c.push.new.self.items ≡ out ++ c.in_ok-copy.field-0 ∷ [] = c.in_ok-push.ensures.items in
+    let pushed : c.put.new.list.items ≡ out ++ c.in_ok-copy.field-0 ∷ [] = c.in_ok-put.ensures.items in
     let seen = ap (map abs) pushed ∙ seen_push (λ v. abs v) out c.in_ok-copy.field-0 ∙ ap (λ z. map abs out ++ z ∷ []) same in
     record {
       whole = ap (λ o. option_map (λ ys. o ++ ys) (all_of at (drop (c.loop-i.i + 1) c.args.slots.now))) seen ∙ all_next at c.args.slots.now c.loop-i.i 0 (abs c.in-Some.v.now) (map abs out) _ c.loop-i-test.true found c.loop-i.invariant.whole;

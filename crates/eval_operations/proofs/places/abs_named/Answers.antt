@@ -24,7 +24,7 @@ loop-bind-preserved g c =
     let out = c.loop-bind.named.items in
     let found : choices.abs_at (bound bind).1 x ≡ Some (abs c.in-Some.v.now) = search rules in
     let same : abs c.in_ok-copy-in-Some.field-0 ≡ abs c.in-Some.v.now = c.in_ok-copy-in-Some.ensures in
-    let pushed : c.push.new.self.items ≡ out ++ c.in_ok-copy-in-Some.field-0 ∷ [] = c.in_ok-push-in-Some.ensures.items in
+    let pushed : c.put.new.list.items ≡ out ++ c.in_ok-copy-in-Some.field-0 ∷ [] = c.in_ok-put-in-Some.ensures.items in
     let seen = ap (map abs) pushed ∙ seen_push (λ v. abs v) out c.in_ok-copy-in-Some.field-0 ∙ ap (λ z. map abs out ++ z ∷ []) same in
     record {
       whole = named_next bound x c.args.binds.now c.loop-bind.bind-index bind c.loop-bind-test.true c.bind-item.is (abs c.in-Some.v.now) (map abs out) _ found c.loop-bind.invariant.whole

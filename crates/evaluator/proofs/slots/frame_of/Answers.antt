@@ -12,6 +12,6 @@ loop-arg-preserved g c =
     let done = c.loop-arg.frame.items in
     let within : i < length xs = search rules in
     let here : drop i xs ≡ x ∷ drop (i + 1) xs = drop_here xs i x c.arg-item.is within in
-    let out : c.push.new.self.items ≡ done ++ z ∷ [] = search rules in
+    let out : c.put.new.list.items ≡ done ++ z ∷ [] = search rules in
     let same : abs z ≡ abs x = search rules in
     ap (λ o. map abs o ++ map abs (drop (i + 1) xs)) out ∙ pushed abs done z (map abs (drop (i + 1) xs)) ∙ ap (λ v. map abs done ++ v ∷ map abs (drop (i + 1) xs)) same ∙ sym (ap (λ d. map abs done ++ map abs d) here) ∙ c.loop-arg.invariant

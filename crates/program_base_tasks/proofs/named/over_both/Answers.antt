@@ -18,9 +18,9 @@ returns-clause-gives g c =
     let A = g.A.Base.algebra in
     let B = g.B.Base.algebra in
     gives_comes (λ d. IsMadeFor A B g.A.NamedBase.shared g.B.NamedBase.shared (context_of d.states) (states_of d.states) spec)
-    (λ d. own_by (λ x. seen x) (both_cells A B g.A.Base.CAP g.B.Base.CAP g.A.NamedBase.named g.B.NamedBase.named g.A.BaseText.texts g.B.BaseText.texts g.A.CellBase.readings g.B.CellBase.readings (context_of d.states) (states_of d.states)))
-    (λ d. told_by (λ x. seen x) (both_cells A B g.A.Base.CAP g.B.Base.CAP g.A.NamedBase.named g.B.NamedBase.named g.A.BaseText.texts g.B.BaseText.texts g.A.CellBase.readings g.B.CellBase.readings (context_of d.states) (states_of d.states))) _
-    (λ d made. both_tie A B g.A.Base.CAP g.B.Base.CAP g.A.NamedBase.named g.B.NamedBase.named g.A.BaseText.texts g.B.BaseText.texts g.A.CellBase.readings g.B.CellBase.readings (λ x. seen x) (context_of d.states) (states_of d.states) g.A.NamedBase.shared g.B.NamedBase.shared spec made)
+    (λ d. own_by (λ x. seen x) (both_cells A B g.A.CutBase.cuts g.B.CutBase.cuts g.A.Base.CAP g.B.Base.CAP g.A.NamedBase.named g.B.NamedBase.named g.A.BaseText.texts g.B.BaseText.texts g.A.CellBase.readings g.B.CellBase.readings (context_of d.states) (states_of d.states)))
+    (λ d. told_by (λ x. seen x) (both_cells A B g.A.CutBase.cuts g.B.CutBase.cuts g.A.Base.CAP g.B.Base.CAP g.A.NamedBase.named g.B.NamedBase.named g.A.BaseText.texts g.B.BaseText.texts g.A.CellBase.readings g.B.CellBase.readings (context_of d.states) (states_of d.states))) _
+    (λ d made. both_tie A B g.A.CutBase.cuts g.B.CutBase.cuts g.A.Base.CAP g.B.Base.CAP g.A.NamedBase.named g.B.NamedBase.named g.A.BaseText.texts g.B.BaseText.texts g.A.CellBase.readings g.B.CellBase.readings (λ x. seen x) (context_of d.states) (states_of d.states) g.A.NamedBase.shared g.B.NamedBase.shared spec made)
     s.image.now (base_text c.args.base) (task_of spec s.image.now s.task) answer_of c.in_domain.result c.in_domain.ensures.gives
 
 pub returns-clause-work : goal.returns-clause-work
@@ -30,7 +30,7 @@ returns-clause-work g c =
     let A = g.A.Base.algebra in
     let B = g.B.Base.algebra in
     work_comes (λ d. IsMadeFor A B g.A.NamedBase.shared g.B.NamedBase.shared (context_of d.states) (states_of d.states) spec)
-    (λ d. own_by (λ x. seen x) (both_cells A B g.A.Base.CAP g.B.Base.CAP g.A.NamedBase.named g.B.NamedBase.named g.A.BaseText.texts g.B.BaseText.texts g.A.CellBase.readings g.B.CellBase.readings (context_of d.states) (states_of d.states)))
-    (λ d. told_by (λ x. seen x) (both_cells A B g.A.Base.CAP g.B.Base.CAP g.A.NamedBase.named g.B.NamedBase.named g.A.BaseText.texts g.B.BaseText.texts g.A.CellBase.readings g.B.CellBase.readings (context_of d.states) (states_of d.states))) _
-    (λ d made. both_tie A B g.A.Base.CAP g.B.Base.CAP g.A.NamedBase.named g.B.NamedBase.named g.A.BaseText.texts g.B.BaseText.texts g.A.CellBase.readings g.B.CellBase.readings (λ x. seen x) (context_of d.states) (states_of d.states) g.A.NamedBase.shared g.B.NamedBase.shared spec made)
+    (λ d. own_by (λ x. seen x) (both_cells A B g.A.CutBase.cuts g.B.CutBase.cuts g.A.Base.CAP g.B.Base.CAP g.A.NamedBase.named g.B.NamedBase.named g.A.BaseText.texts g.B.BaseText.texts g.A.CellBase.readings g.B.CellBase.readings (context_of d.states) (states_of d.states)))
+    (λ d. told_by (λ x. seen x) (both_cells A B g.A.CutBase.cuts g.B.CutBase.cuts g.A.Base.CAP g.B.Base.CAP g.A.NamedBase.named g.B.NamedBase.named g.A.BaseText.texts g.B.BaseText.texts g.A.CellBase.readings g.B.CellBase.readings (context_of d.states) (states_of d.states))) _
+    (λ d made. both_tie A B g.A.CutBase.cuts g.B.CutBase.cuts g.A.Base.CAP g.B.Base.CAP g.A.NamedBase.named g.B.NamedBase.named g.A.BaseText.texts g.B.BaseText.texts g.A.CellBase.readings g.B.CellBase.readings (λ x. seen x) (context_of d.states) (states_of d.states) g.A.NamedBase.shared g.B.NamedBase.shared spec made)
     s.image.now (base_text c.args.base) (task_of spec s.image.now s.task) answer_of c.in_domain.result c.in_domain.ensures.gives c.args.steps.now c.in_domain.new.steps c.in_domain.ensures.work

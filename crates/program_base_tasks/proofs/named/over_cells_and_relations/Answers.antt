@@ -21,9 +21,9 @@ returns-clause-gives g c =
     let s = c.args.it.now in
     let spec = specification s.spec.now in
     gives_comes (λ d. IsTrue (cell.is_for g.A.Base.algebra (states_of d.first) spec && (relation.is_for d.second spec && may_pair g.A.Base.algebra affine)) × ((context_of d.first ≡ g.A.NamedBase.shared) × Unit {0}))
-    (λ d. own_pair (own_cells (λ x. parts (map abs x.items)) g.A.Base.algebra g.A.Base.CAP g.A.NamedBase.named g.A.BaseText.texts g.A.CellBase.readings (context_of d.first) (states_of d.first)) (own_relations d.second))
-    (λ d. pairs_tell (cells_told (λ x. parts (map abs x.items)) g.A.Base.algebra g.A.Base.CAP g.A.NamedBase.named g.A.BaseText.texts g.A.CellBase.readings (context_of d.first)) (affine_tell d.second)) _
-    (λ d made. let both = both_for (cell.is_for g.A.Base.algebra (states_of d.first) spec) (relation.is_for d.second spec) g.A.Base.algebra affine made.0 in pair_tie _ _ _ _ _ _ (cells_tie (λ x. parts (map abs x.items)) g.A.Base.algebra g.A.Base.CAP g.A.NamedBase.named g.A.BaseText.texts g.A.CellBase.readings (context_of d.first) g.A.NamedBase.shared (states_of d.first) spec made.1.0 both.0) (relations_tie d.second spec both.1))
+    (λ d. own_pair (own_cells (λ x. parts (map abs x.items)) g.A.Base.algebra g.A.CutBase.cuts g.A.Base.CAP g.A.NamedBase.named g.A.BaseText.texts g.A.CellBase.readings (context_of d.first) (states_of d.first)) (own_relations d.second))
+    (λ d. pairs_tell (cells_told (λ x. parts (map abs x.items)) g.A.Base.algebra g.A.CutBase.cuts g.A.Base.CAP g.A.NamedBase.named g.A.BaseText.texts g.A.CellBase.readings (context_of d.first)) (affine_tell d.second)) _
+    (λ d made. let both = both_for (cell.is_for g.A.Base.algebra (states_of d.first) spec) (relation.is_for d.second spec) g.A.Base.algebra affine made.0 in pair_tie _ _ _ _ _ _ (cells_tie (λ x. parts (map abs x.items)) g.A.Base.algebra g.A.CutBase.cuts g.A.Base.CAP g.A.NamedBase.named g.A.BaseText.texts g.A.CellBase.readings (context_of d.first) g.A.NamedBase.shared (states_of d.first) spec made.1.0 both.0) (relations_tie d.second spec both.1))
     s.image.now (base_text c.args.base) (task_of spec s.image.now s.task) answer_of c.in_domain.result c.in_domain.ensures.gives
 
 pub returns-clause-work : goal.returns-clause-work
@@ -31,7 +31,7 @@ returns-clause-work g c =
     let s = c.args.it.now in
     let spec = specification s.spec.now in
     work_comes (λ d. IsTrue (cell.is_for g.A.Base.algebra (states_of d.first) spec && (relation.is_for d.second spec && may_pair g.A.Base.algebra affine)) × ((context_of d.first ≡ g.A.NamedBase.shared) × Unit {0}))
-    (λ d. own_pair (own_cells (λ x. parts (map abs x.items)) g.A.Base.algebra g.A.Base.CAP g.A.NamedBase.named g.A.BaseText.texts g.A.CellBase.readings (context_of d.first) (states_of d.first)) (own_relations d.second))
-    (λ d. pairs_tell (cells_told (λ x. parts (map abs x.items)) g.A.Base.algebra g.A.Base.CAP g.A.NamedBase.named g.A.BaseText.texts g.A.CellBase.readings (context_of d.first)) (affine_tell d.second)) _
-    (λ d made. let both = both_for (cell.is_for g.A.Base.algebra (states_of d.first) spec) (relation.is_for d.second spec) g.A.Base.algebra affine made.0 in pair_tie _ _ _ _ _ _ (cells_tie (λ x. parts (map abs x.items)) g.A.Base.algebra g.A.Base.CAP g.A.NamedBase.named g.A.BaseText.texts g.A.CellBase.readings (context_of d.first) g.A.NamedBase.shared (states_of d.first) spec made.1.0 both.0) (relations_tie d.second spec both.1))
+    (λ d. own_pair (own_cells (λ x. parts (map abs x.items)) g.A.Base.algebra g.A.CutBase.cuts g.A.Base.CAP g.A.NamedBase.named g.A.BaseText.texts g.A.CellBase.readings (context_of d.first) (states_of d.first)) (own_relations d.second))
+    (λ d. pairs_tell (cells_told (λ x. parts (map abs x.items)) g.A.Base.algebra g.A.CutBase.cuts g.A.Base.CAP g.A.NamedBase.named g.A.BaseText.texts g.A.CellBase.readings (context_of d.first)) (affine_tell d.second)) _
+    (λ d made. let both = both_for (cell.is_for g.A.Base.algebra (states_of d.first) spec) (relation.is_for d.second spec) g.A.Base.algebra affine made.0 in pair_tie _ _ _ _ _ _ (cells_tie (λ x. parts (map abs x.items)) g.A.Base.algebra g.A.CutBase.cuts g.A.Base.CAP g.A.NamedBase.named g.A.BaseText.texts g.A.CellBase.readings (context_of d.first) g.A.NamedBase.shared (states_of d.first) spec made.1.0 both.0) (relations_tie d.second spec both.1))
     s.image.now (base_text c.args.base) (task_of spec s.image.now s.task) answer_of c.in_domain.result c.in_domain.ensures.gives c.args.steps.now c.in_domain.new.steps c.in_domain.ensures.work

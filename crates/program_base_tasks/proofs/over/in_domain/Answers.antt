@@ -23,7 +23,7 @@ returns-clause-gives g c =
     let s = c.args.it.now in
     let spec = specification s.spec.now in
     gives_some c.in_ok-domain.domain (λ d. IsTrue (g.D.Domain.is_for d spec) × g.D.NamedDomain.HasContext d)
-    (λ d. OwnComes (record { base = g.D.B.Base.algebra; cap = g.D.B.Base.CAP; elements = g.D.Domain.elements d; meaning = g.D.Domain.meaning d; view = g.D.Domain.view; IsText = g.D.WriteElement.IsText; Reads = g.D.ReadElement.Reads d; word_in = g.D.ReadElement.word_in d; word_text = g.D.WriteElement.word_text }) (g.D.ClaimElement.telling d) s.image.now (base_text c.args.base) (task_of spec s.image.now s.task))
+    (λ d. OwnComes (record { base = g.D.B.Base.algebra; cap = g.D.B.Base.CAP; elements = g.D.Domain.elements d; meaning = g.D.Domain.meaning d; pieces = g.D.Domain.pieces d; view = g.D.Domain.view; IsText = g.D.WriteElement.IsText; Reads = g.D.ReadElement.Reads d; word_in = g.D.ReadElement.word_in d; word_text = g.D.WriteElement.word_text }) (g.D.ClaimElement.telling d) s.image.now (base_text c.args.base) (task_of spec s.image.now s.task))
     answer_of c.do_task.result (c.in_ok-domain.ensures.made, c.in_ok-domain.ensures.context) c.do_task.ensures.gives
 
 pub returns-clause-work : goal.returns-clause-work

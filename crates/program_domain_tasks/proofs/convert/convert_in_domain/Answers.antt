@@ -16,11 +16,11 @@ returns-in_err-table g c =
     let s = c.args.it.now in
     let spec = specification s.spec.now in
     let base = base_text c.args.base in
-    gives_unread (OwnRewrites (record { base = g.D.B.Base.algebra; cap = g.D.B.Base.CAP; elements = g.D.Domain.elements c.args.domain.now; meaning = g.D.Domain.meaning c.args.domain.now; view = g.D.Domain.view; IsText = g.D.WriteElement.IsText; Reads = g.D.ReadElement.Reads c.args.domain.now; word_in = g.D.ReadElement.word_in c.args.domain.now; word_text = g.D.WriteElement.word_text }) spec s.image.now base c.args.bytes.now)
+    gives_unread (OwnRewrites (record { base = g.D.B.Base.algebra; cap = g.D.B.Base.CAP; elements = g.D.Domain.elements c.args.domain.now; meaning = g.D.Domain.meaning c.args.domain.now; pieces = g.D.Domain.pieces c.args.domain.now; view = g.D.Domain.view; IsText = g.D.WriteElement.IsText; Reads = g.D.ReadElement.Reads c.args.domain.now; word_in = g.D.ReadElement.word_in c.args.domain.now; word_text = g.D.WriteElement.word_text }) spec s.image.now base c.args.bytes.now)
     (IsErrorIn (g.D.ReadElement.Reads c.args.domain.now) (g.D.ReadElement.word_in c.args.domain.now) spec base s.image.now c.args.bytes.now) (λ error is. unread is) answer_of c.in_err-table.field-0.0 c.in_err-table.ensures.error c.from_residual.result c.from_residual.ensures.1
 
 pub returns : goal.returns
 returns g c =
     let s = c.args.it.now in
-    own_rewritten (record { base = g.D.B.Base.algebra; cap = g.D.B.Base.CAP; elements = g.D.Domain.elements c.args.domain.now; meaning = g.D.Domain.meaning c.args.domain.now; view = g.D.Domain.view; IsText = g.D.WriteElement.IsText; Reads = g.D.ReadElement.Reads c.args.domain.now; word_in = g.D.ReadElement.word_in c.args.domain.now; word_text = g.D.WriteElement.word_text }) s.image.now (base_text c.args.base) c.args.bytes.now
+    own_rewritten (record { base = g.D.B.Base.algebra; cap = g.D.B.Base.CAP; elements = g.D.Domain.elements c.args.domain.now; meaning = g.D.Domain.meaning c.args.domain.now; pieces = g.D.Domain.pieces c.args.domain.now; view = g.D.Domain.view; IsText = g.D.WriteElement.IsText; Reads = g.D.ReadElement.Reads c.args.domain.now; word_in = g.D.ReadElement.word_in c.args.domain.now; word_text = g.D.WriteElement.word_text }) s.image.now (base_text c.args.base) c.args.bytes.now
     (specification s.spec.now) c.in_ok-table.field-0.table (ends_in c.in_ok-table.field-0.endings) (answer_of c.in_ok-open_table_answer.field-0) c.in_ok-table.ensures.table c.in_ok-open_table_answer.ensures

@@ -1,6 +1,6 @@
 use Rattle.std.proofs.Common.{◌≡◌, arith}
 use Rattle.analysis_transfer.specs.Analysis.{problem}
-use Rattle.analysis_transfer.specs.Instance.{keeps_the_laws}
+use Rattle.analysis_cuts.proofs.Truth.{image_keeps_the_laws}
 use Rattle.program_common.specs.Outcomes.{answer_of}
 use Rattle.program_domain_tasks.proofs.Measuring.{few_blocks, measured_within, own_measure, own_measure_stop}
 use Rattle.program_domain_tasks.proofs.measure.measure.Goals as goal
@@ -8,27 +8,31 @@ use Rattle.program_domain_tasks.proofs.measure.measure.Goals as goal
 pub returns-in_ok-summary_of_report-in-Ok-clause-gives : goal.returns-in_ok-summary_of_report-in-Ok-clause-gives
 returns-in_ok-summary_of_report-in-Ok-clause-gives g c =
     let it = c.args.it.now in
-    own_measure (record { base = g.D.B.Base.algebra; cap = g.D.B.Base.CAP; elements = g.D.Domain.elements it.domain.now; meaning = g.D.Domain.meaning it.domain.now; view = g.D.Domain.view; IsText = g.D.WriteElement.IsText; Reads = g.D.ReadElement.Reads it.domain.now; word_in = g.D.ReadElement.word_in it.domain.now; word_text = g.D.WriteElement.word_text })
+    own_measure (record { base = g.D.B.Base.algebra; cap = g.D.B.Base.CAP; elements = g.D.Domain.elements it.domain.now; meaning = g.D.Domain.meaning it.domain.now; pieces = g.D.Domain.pieces it.domain.now; view = g.D.Domain.view; IsText = g.D.WriteElement.IsText; Reads = g.D.ReadElement.Reads it.domain.now; word_in = g.D.ReadElement.word_in it.domain.now; word_text = g.D.WriteElement.word_text })
     (problem it) c.in-Ok.report (answer_of c.in_ok-summary_of_report-in-Ok.field-0)
-    (keeps_the_laws g.D.B.Base.algebra g.met.D.B.Base.laws g.D.B.Base.CAP (g.D.Domain.elements it.domain.now) (g.D.Domain.meaning it.domain.now) (g.D.Domain.is_for it.domain.now) it (g.met.D.Domain.laws it.domain.now (problem it).spec c.requires.ready.made) c.requires.ready)
+    (image_keeps_the_laws g.D.B.Base.algebra g.met.D.B.Base.laws g.D.B.Base.CAP (g.D.Domain.elements it.domain.now) (g.D.Domain.meaning it.domain.now) (g.D.Domain.pieces it.domain.now) (g.D.Domain.is_for it.domain.now) it
+    (g.met.D.Domain.laws it.domain.now (problem it).spec c.requires.ready.made) (g.met.D.Domain.cut_laws it.domain.now (problem it).spec c.requires.ready.made) c.requires.ready)
     c.in-Ok.ensures.value c.in-Ok.ensures.fits c.in-Ok.ensures.runs c.in_ok-summary_of_report-in-Ok.ensures.text
 
 pub returns-in-Err-clause-gives : goal.returns-in-Err-clause-gives
 returns-in-Err-clause-gives g c =
     let it = c.args.it.now in
-    own_measure_stop (record { base = g.D.B.Base.algebra; cap = g.D.B.Base.CAP; elements = g.D.Domain.elements it.domain.now; meaning = g.D.Domain.meaning it.domain.now; view = g.D.Domain.view; IsText = g.D.WriteElement.IsText; Reads = g.D.ReadElement.Reads it.domain.now; word_in = g.D.ReadElement.word_in it.domain.now; word_text = g.D.WriteElement.word_text })
+    own_measure_stop (record { base = g.D.B.Base.algebra; cap = g.D.B.Base.CAP; elements = g.D.Domain.elements it.domain.now; meaning = g.D.Domain.meaning it.domain.now; pieces = g.D.Domain.pieces it.domain.now; view = g.D.Domain.view; IsText = g.D.WriteElement.IsText; Reads = g.D.ReadElement.Reads it.domain.now; word_in = g.D.ReadElement.word_in it.domain.now; word_text = g.D.WriteElement.word_text })
     (problem it) it.image.now c.in-Err.error c.refusal_of_stop.result
-    (keeps_the_laws g.D.B.Base.algebra g.met.D.B.Base.laws g.D.B.Base.CAP (g.D.Domain.elements it.domain.now) (g.D.Domain.meaning it.domain.now) (g.D.Domain.is_for it.domain.now) it (g.met.D.Domain.laws it.domain.now (problem it).spec c.requires.ready.made) c.requires.ready)
+    (image_keeps_the_laws g.D.B.Base.algebra g.met.D.B.Base.laws g.D.B.Base.CAP (g.D.Domain.elements it.domain.now) (g.D.Domain.meaning it.domain.now) (g.D.Domain.pieces it.domain.now) (g.D.Domain.is_for it.domain.now) it
+    (g.met.D.Domain.laws it.domain.now (problem it).spec c.requires.ready.made) (g.met.D.Domain.cut_laws it.domain.now (problem it).spec c.requires.ready.made) c.requires.ready)
     c.in-Err.ensures.value c.refusal_of_stop.ensures
 
 pub returns-in_err-summary_of_report-in-Ok-clause-work : goal.returns-in_err-summary_of_report-in-Ok-clause-work
 returns-in_err-summary_of_report-in-Ok-clause-work g c =
     let it = c.args.it.now in
-    let few = few_blocks (record { base = g.D.B.Base.algebra; cap = g.D.B.Base.CAP; elements = g.D.Domain.elements it.domain.now; meaning = g.D.Domain.meaning it.domain.now; view = g.D.Domain.view; IsText = g.D.WriteElement.IsText; Reads = g.D.ReadElement.Reads it.domain.now; word_in = g.D.ReadElement.word_in it.domain.now; word_text = g.D.WriteElement.word_text }) (problem it) c.in-Ok.report.table (keeps_the_laws g.D.B.Base.algebra g.met.D.B.Base.laws g.D.B.Base.CAP (g.D.Domain.elements it.domain.now) (g.D.Domain.meaning it.domain.now) (g.D.Domain.is_for it.domain.now) it (g.met.D.Domain.laws it.domain.now (problem it).spec c.requires.ready.made) c.requires.ready) c.summary_of_report.ensures.ordered c.in-Ok.ensures.fits in
+    let few = few_blocks (record { base = g.D.B.Base.algebra; cap = g.D.B.Base.CAP; elements = g.D.Domain.elements it.domain.now; meaning = g.D.Domain.meaning it.domain.now; pieces = g.D.Domain.pieces it.domain.now; view = g.D.Domain.view; IsText = g.D.WriteElement.IsText; Reads = g.D.ReadElement.Reads it.domain.now; word_in = g.D.ReadElement.word_in it.domain.now; word_text = g.D.WriteElement.word_text }) (problem it) c.in-Ok.report.table (image_keeps_the_laws g.D.B.Base.algebra g.met.D.B.Base.laws g.D.B.Base.CAP (g.D.Domain.elements it.domain.now) (g.D.Domain.meaning it.domain.now) (g.D.Domain.pieces it.domain.now) (g.D.Domain.is_for it.domain.now) it
+    (g.met.D.Domain.laws it.domain.now (problem it).spec c.requires.ready.made) (g.met.D.Domain.cut_laws it.domain.now (problem it).spec c.requires.ready.made) c.requires.ready) c.summary_of_report.ensures.ordered c.in-Ok.ensures.fits in
     measured_within c.args.steps.now c.analyse.new.steps c.summary_of_report.new.steps _ _ _ c.in-Ok.ensures.most c.summary_of_report.ensures.work few
 
 pub returns-in_ok-summary_of_report-in-Ok-clause-work : goal.returns-in_ok-summary_of_report-in-Ok-clause-work
 returns-in_ok-summary_of_report-in-Ok-clause-work g c =
     let it = c.args.it.now in
-    let few = few_blocks (record { base = g.D.B.Base.algebra; cap = g.D.B.Base.CAP; elements = g.D.Domain.elements it.domain.now; meaning = g.D.Domain.meaning it.domain.now; view = g.D.Domain.view; IsText = g.D.WriteElement.IsText; Reads = g.D.ReadElement.Reads it.domain.now; word_in = g.D.ReadElement.word_in it.domain.now; word_text = g.D.WriteElement.word_text }) (problem it) c.in-Ok.report.table (keeps_the_laws g.D.B.Base.algebra g.met.D.B.Base.laws g.D.B.Base.CAP (g.D.Domain.elements it.domain.now) (g.D.Domain.meaning it.domain.now) (g.D.Domain.is_for it.domain.now) it (g.met.D.Domain.laws it.domain.now (problem it).spec c.requires.ready.made) c.requires.ready) c.summary_of_report.ensures.ordered c.in-Ok.ensures.fits in
+    let few = few_blocks (record { base = g.D.B.Base.algebra; cap = g.D.B.Base.CAP; elements = g.D.Domain.elements it.domain.now; meaning = g.D.Domain.meaning it.domain.now; pieces = g.D.Domain.pieces it.domain.now; view = g.D.Domain.view; IsText = g.D.WriteElement.IsText; Reads = g.D.ReadElement.Reads it.domain.now; word_in = g.D.ReadElement.word_in it.domain.now; word_text = g.D.WriteElement.word_text }) (problem it) c.in-Ok.report.table (image_keeps_the_laws g.D.B.Base.algebra g.met.D.B.Base.laws g.D.B.Base.CAP (g.D.Domain.elements it.domain.now) (g.D.Domain.meaning it.domain.now) (g.D.Domain.pieces it.domain.now) (g.D.Domain.is_for it.domain.now) it
+    (g.met.D.Domain.laws it.domain.now (problem it).spec c.requires.ready.made) (g.met.D.Domain.cut_laws it.domain.now (problem it).spec c.requires.ready.made) c.requires.ready) c.summary_of_report.ensures.ordered c.in-Ok.ensures.fits in
     measured_within c.args.steps.now c.analyse.new.steps c.summary_of_report.new.steps _ _ _ c.in-Ok.ensures.most c.summary_of_report.ensures.work few

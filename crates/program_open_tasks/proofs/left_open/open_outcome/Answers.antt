@@ -1,6 +1,6 @@
 use Rattle.support_command_line.specs.Bases.{base_text}
 use Rattle.analysis_transfer.specs.Analysis.{problem}
-use Rattle.analysis_transfer.specs.Instance.{keeps_the_laws}
+use Rattle.analysis_cuts.proofs.Truth.{image_keeps_the_laws}
 use Rattle.program_common.specs.Outcomes.{answer_of}
 use Rattle.program_open_tasks.proofs.OwningOpen.{own_open_table}
 use Rattle.program_open_tasks.proofs.left_open.open_outcome.Goals as goal
@@ -8,7 +8,8 @@ use Rattle.program_open_tasks.proofs.left_open.open_outcome.Goals as goal
 pub returns-clause-gives : goal.returns-clause-gives
 returns-clause-gives g c =
     let it = c.args.it.now in
-    own_open_table (record { base = g.D.B.Base.algebra; cap = g.D.B.Base.CAP; elements = g.D.Domain.elements it.domain.now; meaning = g.D.Domain.meaning it.domain.now; view = g.D.Domain.view; IsText = g.D.WriteElement.IsText; Reads = g.D.ReadElement.Reads it.domain.now; word_in = g.D.ReadElement.word_in it.domain.now; word_text = g.D.WriteElement.word_text })
+    own_open_table (record { base = g.D.B.Base.algebra; cap = g.D.B.Base.CAP; elements = g.D.Domain.elements it.domain.now; meaning = g.D.Domain.meaning it.domain.now; pieces = g.D.Domain.pieces it.domain.now; view = g.D.Domain.view; IsText = g.D.WriteElement.IsText; Reads = g.D.ReadElement.Reads it.domain.now; word_in = g.D.ReadElement.word_in it.domain.now; word_text = g.D.WriteElement.word_text })
     (problem it) it.image.now (base_text c.args.base) c.in_ok-table.field-0 (answer_of c.in_ok-open_table_answer.field-0)
-    (keeps_the_laws g.D.B.Base.algebra g.met.D.B.Base.laws g.D.B.Base.CAP (g.D.Domain.elements it.domain.now) (g.D.Domain.meaning it.domain.now) (g.D.Domain.is_for it.domain.now) it (g.met.D.Domain.laws it.domain.now (problem it).spec c.requires.ready.made) c.requires.ready)
+    (image_keeps_the_laws g.D.B.Base.algebra g.met.D.B.Base.laws g.D.B.Base.CAP (g.D.Domain.elements it.domain.now) (g.D.Domain.meaning it.domain.now) (g.D.Domain.pieces it.domain.now) (g.D.Domain.is_for it.domain.now) it
+    (g.met.D.Domain.laws it.domain.now (problem it).spec c.requires.ready.made) (g.met.D.Domain.cut_laws it.domain.now (problem it).spec c.requires.ready.made) c.requires.ready)
     c.in_ok-table.ensures.value c.in_ok-table.ensures.closed c.in_ok-table.ensures.fits c.in_ok-table.ensures.runs c.in_ok-open_table_answer.ensures

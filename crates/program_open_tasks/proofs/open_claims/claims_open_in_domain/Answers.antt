@@ -28,7 +28,7 @@ returns-in_err-found-clause-gives g c =
     let s = c.args.it.now in
     let spec = specification s.spec.now in
     let base = base_text c.args.base in
-    gives_unread (OwnClaimsOpen (record { base = g.D.B.Base.algebra; cap = g.D.B.Base.CAP; elements = g.D.Domain.elements c.args.domain.now; meaning = g.D.Domain.meaning c.args.domain.now; view = g.D.Domain.view; IsText = g.D.WriteElement.IsText; Reads = g.D.ReadElement.Reads c.args.domain.now; word_in = g.D.ReadElement.word_in c.args.domain.now; word_text = g.D.WriteElement.word_text }) (problem_at spec s.image.now c.args.start.now) (g.D.ClaimElement.telling c.args.domain.now) s.image.now base c.args.bytes.now c.args.list.now)
+    gives_unread (OwnClaimsOpen (record { base = g.D.B.Base.algebra; cap = g.D.B.Base.CAP; elements = g.D.Domain.elements c.args.domain.now; meaning = g.D.Domain.meaning c.args.domain.now; pieces = g.D.Domain.pieces c.args.domain.now; view = g.D.Domain.view; IsText = g.D.WriteElement.IsText; Reads = g.D.ReadElement.Reads c.args.domain.now; word_in = g.D.ReadElement.word_in c.args.domain.now; word_text = g.D.WriteElement.word_text }) (problem_at spec s.image.now c.args.start.now) (g.D.ClaimElement.telling c.args.domain.now) s.image.now base c.args.bytes.now c.args.list.now)
     (IsErrorIn (g.D.ReadElement.Reads c.args.domain.now) (g.D.ReadElement.word_in c.args.domain.now) spec base s.image.now c.args.bytes.now) (λ error is. unread_table is) answer_of c.in_err-found.field-0.0 c.in_err-found.ensures.error c.from_residual.result c.from_residual.ensures.1
 
 pub returns-in_err-claims-clause-gives : goal.returns-in_err-claims-clause-gives
@@ -36,7 +36,7 @@ returns-in_err-claims-clause-gives g c =
     let s = c.args.it.now in
     let spec = specification s.spec.now in
     let base = base_text c.args.base in
-    gives_unclaimed (OwnClaimsOpen (record { base = g.D.B.Base.algebra; cap = g.D.B.Base.CAP; elements = g.D.Domain.elements c.args.domain.now; meaning = g.D.Domain.meaning c.args.domain.now; view = g.D.Domain.view; IsText = g.D.WriteElement.IsText; Reads = g.D.ReadElement.Reads c.args.domain.now; word_in = g.D.ReadElement.word_in c.args.domain.now; word_text = g.D.WriteElement.word_text }) (problem_at spec s.image.now c.args.start.now) (g.D.ClaimElement.telling c.args.domain.now) s.image.now base c.args.bytes.now c.args.list.now)
+    gives_unclaimed (OwnClaimsOpen (record { base = g.D.B.Base.algebra; cap = g.D.B.Base.CAP; elements = g.D.Domain.elements c.args.domain.now; meaning = g.D.Domain.meaning c.args.domain.now; pieces = g.D.Domain.pieces c.args.domain.now; view = g.D.Domain.view; IsText = g.D.WriteElement.IsText; Reads = g.D.ReadElement.Reads c.args.domain.now; word_in = g.D.ReadElement.word_in c.args.domain.now; word_text = g.D.WriteElement.word_text }) (problem_at spec s.image.now c.args.start.now) (g.D.ClaimElement.telling c.args.domain.now) s.image.now base c.args.bytes.now c.args.list.now)
     (read (g.D.ClaimElement.telling c.args.domain.now) (has_word s.image.now) spec c.args.list.now) (λ error e. unread_claims c.in_ok-found.found.table (ends_in c.in_ok-found.found.endings) c.in_ok-found.ensures.table e) answer_of c.in_err-claims.field-0.0 c.in_err-claims.ensures.answer c.from_residual-in_err-claims.result c.from_residual-in_err-claims.ensures.1
 
 pub answer_bytes-requires-clause-fits : goal.answer_bytes-requires-clause-fits
@@ -52,14 +52,14 @@ answer_bytes-requires-clause-claims g c =
 pub returns-in_err-require_closed-clause-gives : goal.returns-in_err-require_closed-clause-gives
 returns-in_err-require_closed-clause-gives g c =
     let s = c.args.it.now in
-    open_claimed_refusal (record { base = g.D.B.Base.algebra; cap = g.D.B.Base.CAP; elements = g.D.Domain.elements c.args.domain.now; meaning = g.D.Domain.meaning c.args.domain.now; view = g.D.Domain.view; IsText = g.D.WriteElement.IsText; Reads = g.D.ReadElement.Reads c.args.domain.now; word_in = g.D.ReadElement.word_in c.args.domain.now; word_text = g.D.WriteElement.word_text })
+    open_claimed_refusal (record { base = g.D.B.Base.algebra; cap = g.D.B.Base.CAP; elements = g.D.Domain.elements c.args.domain.now; meaning = g.D.Domain.meaning c.args.domain.now; pieces = g.D.Domain.pieces c.args.domain.now; view = g.D.Domain.view; IsText = g.D.WriteElement.IsText; Reads = g.D.ReadElement.Reads c.args.domain.now; word_in = g.D.ReadElement.word_in c.args.domain.now; word_text = g.D.WriteElement.word_text })
     (problem_at (specification s.spec.now) s.image.now c.args.start.now) s.image.now (base_text c.args.base) c.args.bytes.now c.in_ok-found.found.table (ends_in c.in_ok-found.found.endings) c.in_ok-verdict.verdict c.in_ok-found.ensures.table c.in_ok-verdict.ensures.verdict
     (g.D.ClaimElement.telling c.args.domain.now) c.args.list.now (claims_of c.in_ok-claims.claims) c.in_ok-claims.ensures.answer answer_of c.in_err-require_closed.field-0.0 c.in_err-require_closed.ensures c.from_residual-in_err-require_closed.result c.from_residual-in_err-require_closed.ensures.1
 
 pub returns-clause-gives : goal.returns-clause-gives
 returns-clause-gives g c =
     let s = c.args.it.now in
-    open_claimed_answer (record { base = g.D.B.Base.algebra; cap = g.D.B.Base.CAP; elements = g.D.Domain.elements c.args.domain.now; meaning = g.D.Domain.meaning c.args.domain.now; view = g.D.Domain.view; IsText = g.D.WriteElement.IsText; Reads = g.D.ReadElement.Reads c.args.domain.now; word_in = g.D.ReadElement.word_in c.args.domain.now; word_text = g.D.WriteElement.word_text })
+    open_claimed_answer (record { base = g.D.B.Base.algebra; cap = g.D.B.Base.CAP; elements = g.D.Domain.elements c.args.domain.now; meaning = g.D.Domain.meaning c.args.domain.now; pieces = g.D.Domain.pieces c.args.domain.now; view = g.D.Domain.view; IsText = g.D.WriteElement.IsText; Reads = g.D.ReadElement.Reads c.args.domain.now; word_in = g.D.ReadElement.word_in c.args.domain.now; word_text = g.D.WriteElement.word_text })
     (problem_at (specification s.spec.now) s.image.now c.args.start.now) s.image.now (base_text c.args.base) c.args.bytes.now c.in_ok-found.found.table (ends_in c.in_ok-found.found.endings) c.in_ok-verdict.verdict c.in_ok-found.ensures.table c.in_ok-verdict.ensures.verdict
     (g.D.ClaimElement.telling c.args.domain.now) c.args.list.now (claims_of c.in_ok-claims.claims) c.in_ok-claims.ensures.answer (answer_of c.in_ok-mark_until_open.field-0) c.in_ok-require_closed.ensures
     (marked_text (ends_in c.in_ok-found.found.endings) (λ lines. lines ≡ answers (g.D.ClaimElement.telling c.args.domain.now) (listings (λ x. x) c.in_ok-found.found.table) (claims_of c.in_ok-claims.claims)) c.in_ok-text.text.items (answer_of c.in_ok-mark_until_open.field-0)
@@ -74,29 +74,29 @@ returns-in_err-claims-clause-work g c = inl (omega (arith))
 pub returns-in_err-verdict-clause-work : goal.returns-in_err-verdict-clause-work
 returns-in_err-verdict-clause-work g c =
     let s = c.args.it.now in
-    own_open_works (record { base = g.D.B.Base.algebra; cap = g.D.B.Base.CAP; elements = g.D.Domain.elements c.args.domain.now; meaning = g.D.Domain.meaning c.args.domain.now; view = g.D.Domain.view; IsText = g.D.WriteElement.IsText; Reads = g.D.ReadElement.Reads c.args.domain.now; word_in = g.D.ReadElement.word_in c.args.domain.now; word_text = g.D.WriteElement.word_text })
+    own_open_works (record { base = g.D.B.Base.algebra; cap = g.D.B.Base.CAP; elements = g.D.Domain.elements c.args.domain.now; meaning = g.D.Domain.meaning c.args.domain.now; pieces = g.D.Domain.pieces c.args.domain.now; view = g.D.Domain.view; IsText = g.D.WriteElement.IsText; Reads = g.D.ReadElement.Reads c.args.domain.now; word_in = g.D.ReadElement.word_in c.args.domain.now; word_text = g.D.WriteElement.word_text })
     (specification s.spec.now) s.image.now (base_text c.args.base) c.args.bytes.now c.in_ok-found.found.table (ends_in c.in_ok-found.found.endings) c.in_ok-found.ensures.table c.in_err-verdict.ensures.ordered c.args.steps.now c.open_verdict_in.new.steps c.in_err-verdict.ensures.work
 
 pub returns-in_err-require_closed-clause-work : goal.returns-in_err-require_closed-clause-work
 returns-in_err-require_closed-clause-work g c =
     let s = c.args.it.now in
-    own_open_works (record { base = g.D.B.Base.algebra; cap = g.D.B.Base.CAP; elements = g.D.Domain.elements c.args.domain.now; meaning = g.D.Domain.meaning c.args.domain.now; view = g.D.Domain.view; IsText = g.D.WriteElement.IsText; Reads = g.D.ReadElement.Reads c.args.domain.now; word_in = g.D.ReadElement.word_in c.args.domain.now; word_text = g.D.WriteElement.word_text })
+    own_open_works (record { base = g.D.B.Base.algebra; cap = g.D.B.Base.CAP; elements = g.D.Domain.elements c.args.domain.now; meaning = g.D.Domain.meaning c.args.domain.now; pieces = g.D.Domain.pieces c.args.domain.now; view = g.D.Domain.view; IsText = g.D.WriteElement.IsText; Reads = g.D.ReadElement.Reads c.args.domain.now; word_in = g.D.ReadElement.word_in c.args.domain.now; word_text = g.D.WriteElement.word_text })
     (specification s.spec.now) s.image.now (base_text c.args.base) c.args.bytes.now c.in_ok-found.found.table (ends_in c.in_ok-found.found.endings) c.in_ok-found.ensures.table c.in_ok-verdict.ensures.ordered c.args.steps.now c.open_verdict_in.new.steps c.in_ok-verdict.ensures.work
 
 pub returns-in_err-text-clause-work : goal.returns-in_err-text-clause-work
 returns-in_err-text-clause-work g c =
     let s = c.args.it.now in
-    own_open_works (record { base = g.D.B.Base.algebra; cap = g.D.B.Base.CAP; elements = g.D.Domain.elements c.args.domain.now; meaning = g.D.Domain.meaning c.args.domain.now; view = g.D.Domain.view; IsText = g.D.WriteElement.IsText; Reads = g.D.ReadElement.Reads c.args.domain.now; word_in = g.D.ReadElement.word_in c.args.domain.now; word_text = g.D.WriteElement.word_text })
+    own_open_works (record { base = g.D.B.Base.algebra; cap = g.D.B.Base.CAP; elements = g.D.Domain.elements c.args.domain.now; meaning = g.D.Domain.meaning c.args.domain.now; pieces = g.D.Domain.pieces c.args.domain.now; view = g.D.Domain.view; IsText = g.D.WriteElement.IsText; Reads = g.D.ReadElement.Reads c.args.domain.now; word_in = g.D.ReadElement.word_in c.args.domain.now; word_text = g.D.WriteElement.word_text })
     (specification s.spec.now) s.image.now (base_text c.args.base) c.args.bytes.now c.in_ok-found.found.table (ends_in c.in_ok-found.found.endings) c.in_ok-found.ensures.table c.in_ok-verdict.ensures.ordered c.args.steps.now c.open_verdict_in.new.steps c.in_ok-verdict.ensures.work
 
 pub returns-in_err-mark_until_open-clause-work : goal.returns-in_err-mark_until_open-clause-work
 returns-in_err-mark_until_open-clause-work g c =
     let s = c.args.it.now in
-    own_open_works (record { base = g.D.B.Base.algebra; cap = g.D.B.Base.CAP; elements = g.D.Domain.elements c.args.domain.now; meaning = g.D.Domain.meaning c.args.domain.now; view = g.D.Domain.view; IsText = g.D.WriteElement.IsText; Reads = g.D.ReadElement.Reads c.args.domain.now; word_in = g.D.ReadElement.word_in c.args.domain.now; word_text = g.D.WriteElement.word_text })
+    own_open_works (record { base = g.D.B.Base.algebra; cap = g.D.B.Base.CAP; elements = g.D.Domain.elements c.args.domain.now; meaning = g.D.Domain.meaning c.args.domain.now; pieces = g.D.Domain.pieces c.args.domain.now; view = g.D.Domain.view; IsText = g.D.WriteElement.IsText; Reads = g.D.ReadElement.Reads c.args.domain.now; word_in = g.D.ReadElement.word_in c.args.domain.now; word_text = g.D.WriteElement.word_text })
     (specification s.spec.now) s.image.now (base_text c.args.base) c.args.bytes.now c.in_ok-found.found.table (ends_in c.in_ok-found.found.endings) c.in_ok-found.ensures.table c.in_ok-verdict.ensures.ordered c.args.steps.now c.open_verdict_in.new.steps c.in_ok-verdict.ensures.work
 
 pub returns-clause-work : goal.returns-clause-work
 returns-clause-work g c =
     let s = c.args.it.now in
-    own_open_works (record { base = g.D.B.Base.algebra; cap = g.D.B.Base.CAP; elements = g.D.Domain.elements c.args.domain.now; meaning = g.D.Domain.meaning c.args.domain.now; view = g.D.Domain.view; IsText = g.D.WriteElement.IsText; Reads = g.D.ReadElement.Reads c.args.domain.now; word_in = g.D.ReadElement.word_in c.args.domain.now; word_text = g.D.WriteElement.word_text })
+    own_open_works (record { base = g.D.B.Base.algebra; cap = g.D.B.Base.CAP; elements = g.D.Domain.elements c.args.domain.now; meaning = g.D.Domain.meaning c.args.domain.now; pieces = g.D.Domain.pieces c.args.domain.now; view = g.D.Domain.view; IsText = g.D.WriteElement.IsText; Reads = g.D.ReadElement.Reads c.args.domain.now; word_in = g.D.ReadElement.word_in c.args.domain.now; word_text = g.D.WriteElement.word_text })
     (specification s.spec.now) s.image.now (base_text c.args.base) c.args.bytes.now c.in_ok-found.found.table (ends_in c.in_ok-found.found.endings) c.in_ok-found.ensures.table c.in_ok-verdict.ensures.ordered c.args.steps.now c.open_verdict_in.new.steps c.in_ok-verdict.ensures.work

@@ -14,7 +14,7 @@ open_verdict_on-requires g c =
     let s = c.args.it.now in
     let start = c.args.start.now in
     let is = c.requires.read in
-    let posed = c.read_problems_are_well_posed.ensures (specification s.spec.now) start.machine s.image.now is.given.0 (entry_of start.entry.now) start.limit start.joins is.accepted is.is_machine c.is_kept.ensures is.given.1 in
+    let posed = c.read_problems_are_well_posed.ensures (specification s.spec.now) start.machine s.image.now is.given.0 (entry_of start.entry.now) start.limit start.joins start.cases is.accepted is.is_machine c.is_kept.ensures is.given.1 in
     record {
       ready = record {
         joins = c.requires.joins;

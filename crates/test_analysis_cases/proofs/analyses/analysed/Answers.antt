@@ -10,7 +10,7 @@ begun-requires g c =
     record {
       joins = c.requires.joins;
       made = c.requires.made;
-      posed = c.read_problems_are_well_posed.ensures (specification s.spec) s.machine s.image is.read.0 (entry_of s.entry) c.args.limit 3 is.accepted is.machine c.is_kept.ensures is.read.1;
+      posed = c.read_problems_are_well_posed.ensures (specification s.spec) s.machine s.image is.read.0 (entry_of s.entry) c.args.limit 3 0 is.accepted is.machine c.is_kept.ensures is.read.1;
       code_is = c.in_ok-cir.ensures;
       decoder_is = c.in_ok-decoder.ensures;
       fields_are = c.deref.ensures.value ∙ c.in_ok-fields.ensures;

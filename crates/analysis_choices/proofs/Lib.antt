@@ -1,0 +1,4 @@
+pub mod Arms
+pub mod Deciding
+pub mod Orders
+pub mod Turning

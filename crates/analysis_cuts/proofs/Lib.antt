@@ -1,0 +1,4 @@
+pub mod Choosing
+pub mod FirstChoices
+pub mod Stretching
+pub mod Truth

@@ -1,0 +1,11 @@
+pub mod Cuts
+pub mod IntervalLaws
+pub mod Intervals
+pub mod Laws
+pub mod PairLaws
+pub mod Pairs
+pub mod SetLaws
+pub mod Sets
+pub mod StrideLaws
+pub mod Strides
+pub mod UncutLaws

@@ -1,0 +1,11 @@
+pub mod Adding
+pub mod ByCases
+pub mod Covering
+pub mod Describing
+pub mod Lists
+pub mod Pieces
+pub mod Putting
+pub mod SameCases
+pub mod SameLists
+pub mod SamePieces
+pub mod Sending

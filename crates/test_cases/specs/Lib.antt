@@ -1,0 +1,4 @@
+pub mod Machine
+pub mod MachineLaws
+pub mod MachineSound
+pub mod Splitting
