@@ -34,11 +34,12 @@ fn told(alloc: Global, source: &str, words: &str) -> Result<String, AllocError> 
     };
     let decoder = Decoder::new(alloc, &spec)?;
     let mut out = String::new(alloc);
-    let mut mark = "";
     for word in words.split(' ') {
+        if !out.is_empty() {
+            out.push('\n')?;
+        }
         let line = line_of(alloc, &spec, machine, &decoder, word)?;
-        write!(out, "{mark}{}", line.as_str())?;
-        mark = "\n";
+        out.push_str(&line)?;
     }
     Ok(out)
 }
