@@ -290,12 +290,12 @@ POWER_PC = ["| gpr[*] 00000000..00000000", "| cr[*] 0..0", "| xer[*] 0..0", "| s
 
 
 def relations():
-    """Over affine relations, which are never cut, by hand."""
+    """Over affine relations, which are never cut, by hand. Both ways of the branch go to one address, since two numbers join to any."""
     rows = ["| row 00000000 00000000 00000001 00000000 00000000", "| row 00000001 00000000 00000000 00000000 00000000"]
     for cases in (1, 8):
-        print(f"\ncase an_analysis_with_relations_by_{cases}\nwords analyse s c e --at 00001000 --base affine --cases {cases}\ninput s\nuse MINI\ninput c\nhex {jump(1, 0x2000):08x}{put(3, 1):08x}")
+        print(f"\ncase an_analysis_with_relations_by_{cases}\nwords analyse s c e --at 00001000 --base affine --cases {cases}\ninput s\nuse MINI\ninput c\nhex {jump(1, 0x1004):08x}{put(3, 1):08x}")
         print("input e\n| pc 1000\n| r[1] any\nstatus 0\n| tsl-table 2\n| base affine\n| order big\n| code 00001000 8")
-        print("\n".join(["| at 00001000", "| part affine", *rows, "| next 00001004", "| exit 00002000", "| at 00001004", "| part affine", *rows, "| exit 00001008"]))
+        print("\n".join(["| at 00001000", "| part affine", *rows, "| next 00001004", "| at 00001004", "| part affine", *rows, "| exit 00001008"]))
 
 
 def power_pc():
